@@ -1,4 +1,4 @@
--- The lectures of a course that stand alone in a curriculum, by marks on slots.
+-- The lectures of a course that are isolated in a curriculum, by marks on slots.
 use Rattle.std.proofs.Common.{◌≡◌, ℕ, ◌-◌, ◌+◌, ◌<◌, Bool, List, not, ◌&&◌, ◌||◌, ltb, sym, ◌∙◌, ap, ap₂}
 use Rattle.std.specs.List.{filter_map, list_any}
 use Rattle.ctt_text.specs.Problem.{Problem, members, period_of, slot_count}

@@ -21,18 +21,18 @@ module _ (i : Problem) (c : ℕ) where
   abbrev pub behind : ℕ → Bool
   behind d = nat_lt c d && clash i c d
 
-  -- behind the course, those that clash are those that are marked
+  -- after the course, those that clash are those that are marked
   pub passes_same : (marks : ℕ → Bool) → ((d : ℕ) → marks d ≡ (nat_lt d (course_count i) && clash i c d)) → (from : ℕ) → c < from → (d : ℕ) → from ≤ d → d < course_count i → marks d ≡ behind d
   passes_same marks are from lt d le within =
       are d ∙ ap (λ b. b && clash i c d) (lt-ltb d (course_count i) within ∙ sym (lt-ltb c d (omega (arith, lt, le))))
 
-  -- nothing is told up to the course itself
+  -- nothing is reported up to the course itself
   pub none_before : (t : List Placed) (n : ℕ) → n ≤ c + 1 → for_each (where_passes behind (conflicts_between i t c)) n ≡ []
   none_before t n le =
       for_each_skip (where_passes behind (conflicts_between i t c)) 0 n (omega arith)
       (λ k from lt. ap (λ b. cond (b && clash i c k) (conflicts_between i t c k) []) (le-ltb c k (omega (arith, lt, le))))
 
-  -- what is told of another course, by the marks on the slots
+  -- the findings for another course, by the marks on the slots
   pub between_is : (t : List Placed) (d : ℕ) (marks : ℕ → Bool) → ((s : ℕ) → marks s ≡ busy (course_row c t) s) → filter_map (conflict_finding i c marks) (course_row d t) ≡ conflicts_between i t c d
   between_is t d marks are =
       filter_map_same (conflict_finding i c marks) (conflict_finding i c (busy (course_row c t))) (course_row d t)
@@ -43,7 +43,7 @@ module _ (i : Problem) (c : ℕ) where
       Each-map (λ (l : Placed). (l.course == d) ≡ true) (λ (l : Placed). clash i c l.course ≡ true)
       (λ l same. ap (clash i c) (eqb-true l.course d same) ∙ (and_parts (nat_lt c d) (clash i c d) passes).1) (course_row d t) (Each-filter_passes (λ (l : Placed). l.course == d) t)
 
--- an element passes both tests: of those that pass the first, one passes the second
+-- some element passes both tests exactly if one of those that pass the first passes the second
 any_of : {X : Type 0} (p q : X → Bool) (d : X) (xs : List X) (n : ℕ) → n ≤ length xs → list_any (λ x. p x && q x) (take n xs) ≡ list_any (λ k. q (get_or xs k d)) (below (λ k. p (get_or xs k d)) n)
 any_of p q d xs zero h = refl
 any_of p q d xs (suc n) h =
@@ -65,7 +65,7 @@ mates_of i c d =
     ap (list_any (λ q. has c q && has d q)) (sym (take_all (curriculum_count i) i.curricula (omega arith)))
     ∙ any_of (λ q. has c q) (λ q. has d q) [] i.curricula (curriculum_count i) (omega arith)
 
--- where some element passes, one is found
+-- if some element passes, one is found
 pub none_found : {X : Type 0} (p : X → Bool) (xs : List X) → find p xs ≡ None → list_any p xs ≡ true → ⊥
 none_found p [] e any = absurd (search arith)
 none_found p (x ∷ xs) e any = elim (cases_Bool (p x)) [
@@ -73,7 +73,7 @@ none_found p (x ∷ xs) e any = elim (cases_Bool (p x)) [
   | inr no' ↦ none_found p xs (rw no' at e) (rw no' at any)
 ]
 
--- the first that passes, where those before it do not
+-- the first element that passes, if those before it do not
 module _ (p : ℕ → Bool) (xs : List ℕ) (k : ℕ) (so_far : find p (drop k xs) ≡ find p xs) where
   module _ (x : ℕ) (within : k < length xs) (at : x ≡ get_or xs k x) where
     begins : find p xs ≡ cond (p x) (Some x) (find p (drop (k + 1) xs))

@@ -1,4 +1,4 @@
--- A listener that fails on the way.
+-- A listener that fails after a prefix of the findings.
 use Rattle.std.proofs.Common.{◌≡◌, ℕ, zero, suc, ◌+◌, ◌<◌, ◌≤◌, Bool, ◌&&◌, nat_lt, nat_le, List, [], ◌∷◌, ◌++◌, take, drop, length, get_or, Option, Some, None, Result, Ok, Err, IfErr, refl, ◌∙◌, sym, ap, subst, arith, inl, inr, append-nil}
 use Rattle.std.specs.List.{cons_option, filter_map}
 use Rattle.std.specs.Option.{option_to_list}
@@ -12,7 +12,7 @@ use Rattle.ctt_findings.specs.declared.finding.Finding.{Finding}
 use Rattle.ctt_findings.specs.declared.untold.Untold.{Untold}
 use Rattle.ctt_findings.proofs.HearLemmas.{hears_append, next_passes, skipped_to}
 
--- what is found of one element, among the rest
+-- the finding of one element, followed by the others
 option_front : (o : Option Finding) (ys : List Finding) → cons_option o ys ≡ option_to_list o ++ ys
 option_front None ys = refl
 option_front (Some x) ys = refl
@@ -24,7 +24,7 @@ item_parts f t k x within at =
     ∙ ap (λ ys. filter_map f (take k t) ++ filter_map f ys) (drop_more t k x within ∙ ap (λ y. y ∷ drop (k + 1) t) (sym at))
     ∙ ap (λ ys. filter_map f (take k t) ++ ys) (option_front (f x) (filter_map f (drop (k + 1) t)))
 
--- what is found for one number, among the rest
+-- the findings for one number, between those before and those after it
 abbrev pub NumberParts : (ℕ → List Finding) → ℕ → ℕ → Type 0
 NumberParts f k n = (rest : List Finding) × (for_each f n ≡ for_each f k ++ (f k ++ rest))
 
@@ -38,7 +38,7 @@ number_parts f k (suc n) lt = elim (cases_eq k n) [
 ]
 
 module _ {L : Type 0} (R : L → Finding → L → Type 0) (F : Untold → L → L → Type 0) where
-  -- behind what was heard, and before more
+  -- after the findings that were heard, and before others
   pub front_in : (a : L) (xs : List Finding) (b : L) (ys zs : List Finding) (c : L) (fault : Untold) → Hears R a xs b → HearsFront R F b ys c fault → HearsFront R F a (xs ++ (ys ++ zs)) c fault
   front_in a xs b ys zs c fault h k = record {
     front = xs ++ k.front;
@@ -53,7 +53,7 @@ module _ {L : Type 0} (R : L → Finding → L → Type 0) (F : Untold → L →
   err_in (Ok t) a xs b ys zs fs c e h k = tt
   err_in (Err fault) a xs b ys zs fs c e h k = subst (λ (all : List Finding). HearsFront R F a all c fault) (sym e) (front_in a xs b ys zs c fault h k)
 
-  -- in the first of two lists, and in the second
+  -- a fault in the first of two lists, or in the second
   pub err_first : {T : Type 0} (r : Result T Untold) (a : L) (xs ys : List Finding) (c : L) → IfErr r (HearsFront R F a xs c) → IfErr r (HearsFront R F a (xs ++ ys) c)
   err_first r a xs ys c k = err_in r a [] a xs ys (xs ++ ys) c refl refl k
 
@@ -61,20 +61,20 @@ module _ {L : Type 0} (R : L → Finding → L → Type 0) (F : Untold → L →
   err_second r a xs b ys c h k = err_in r a xs b ys [] (xs ++ ys) c (ap (λ zs. xs ++ zs) (sym (append-nil ys))) h k
 
   module _ {T : Type 0} (r : Result T Untold) (a b c : L) where
-    -- at one element
+    -- a fault at one element
     pub err_item : {X : Type 0} (f : X → Option Finding) (t : List X) (k : ℕ) (x : X) (this : Option Finding) → k < length t → x ≡ get_or t k x → this ≡ f x
         → Hears R a (filter_map f (take k t)) b → IfErr r (HearsFront R F b (option_to_list this) c) → IfErr r (HearsFront R F a (filter_map f t) c)
     err_item f t k x this within at is h e =
         err_in r a (filter_map f (take k t)) b (option_to_list this) (filter_map f (drop (k + 1) t)) (filter_map f t) c
         (item_parts f t k x within at ∙ ap (λ o. filter_map f (take k t) ++ (option_to_list o ++ filter_map f (drop (k + 1) t))) (sym is)) h e
 
-    -- at one number
+    -- a fault at one number
     pub err_number : (f : ℕ → List Finding) (n k : ℕ) (this : List Finding) → k < n → this ≡ f k → Hears R a (for_each f k) b → IfErr r (HearsFront R F b this c) → IfErr r (HearsFront R F a (for_each f n) c)
     err_number f n k this lt is h e =
         let parts = number_parts f k n lt in
         err_in r a (for_each f k) b this parts.0 (for_each f n) c (parts.1 ∙ ap (λ ys. for_each f k ++ (ys ++ parts.0)) (sym is)) h e
 
-    -- at one marked number
+    -- a fault at one marked number
     pub err_next : (p q : ℕ → Bool) (f : ℕ → List Finding) (from end : ℕ) → ((n : ℕ) → from ≤ n → n < end → p n ≡ q n) → (k : ℕ) (this : List Finding) → this ≡ f k → IsLeast (λ n. nat_lt n end && (nat_le from n && p n)) (Some k)
         → Hears R a (for_each (where_passes q f) from) b → IfErr r (HearsFront R F b this c) → IfErr r (HearsFront R F a (for_each (where_passes q f) end) c)
     err_next p q f from end same k this is least h e =

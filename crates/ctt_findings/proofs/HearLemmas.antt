@@ -11,12 +11,12 @@ use Rattle.ctt_findings.specs.Findings.{for_each, where_passes}
 use Rattle.ctt_findings.specs.Hearing.{Hears}
 use Rattle.ctt_findings.specs.declared.finding.Finding.{Finding}
 
--- of two lists in turn
+-- two lists are heard one after the other
 pub hears_append : {L : Type 0} (R : L → Finding → L → Type 0) (a : L) (xs : List Finding) (b : L) (ys : List Finding) (c : L) → Hears R a xs b → Hears R b ys c → Hears R a (xs ++ ys) c
 hears_append R a [] b ys c h k = subst (λ m. Hears R m ys c) h k
 hears_append R a (x ∷ xs) b ys c h k = (h.0, h.1, hears_append R h.0 xs b ys c h.2 k)
 
--- of the second, if all goes well
+-- the second list is heard, if there is no fault
 pub heard_in : {L T E : Type 0} (R : L → Finding → L → Type 0) (a : L) (xs : List Finding) (b : L) (ys : List Finding) (c : L) (r : Result T E) → Hears R a xs b → OnOk r (Hears R b ys c) → OnOk r (Hears R a (xs ++ ys) c)
 heard_in R a xs b ys c (Ok t) h k = hears_append R a xs b ys c h k
 heard_in R a xs b ys c (Err e) h k = k
@@ -25,13 +25,13 @@ cons_is : (o : Option Finding) → cons_option o [] ≡ option_to_list o
 cons_is None = refl
 cons_is (Some x) = refl
 
--- lists that are the same on what fits
+-- functions that agree on each element find the same
 pub filter_map_same : {X : Type 0} (f g : X → Option Finding) (xs : List X) → Each (λ x. f x ≡ g x) xs → filter_map f xs ≡ filter_map g xs
 filter_map_same f g [] h = refl
 filter_map_same f g (x ∷ xs) h = ap (λ o. cons_option o (filter_map f xs)) h.0 ∙ ap (cons_option (g x)) (filter_map_same f g xs h.1)
 
 module _ {L : Type 0} (R : L → Finding → L → Type 0) (a b c : L) where
-  -- what is found of one element more
+  -- the findings with one more element
   pub hears_item : {X : Type 0} (f : X → Option Finding) (t : List X) (k : ℕ) (x : X) (this : Option Finding) → k < length t → x ≡ get_or t k x → this ≡ f x
       → Hears R a (filter_map f (take k t)) b → Hears R b (option_to_list this) c → Hears R a (filter_map f (take (k + 1) t)) c
   hears_item f t k x this within at is before now =
@@ -40,13 +40,13 @@ module _ {L : Type 0} (R : L → Finding → L → Type 0) (a b c : L) where
       ∙ ap (λ o. filter_map f (take k t) ++ cons_option o []) (sym is) ∙ ap (λ ys. filter_map f (take k t) ++ ys) (cons_is this) in
       subst (λ fs. Hears R a fs c) (sym next) (hears_append R a (filter_map f (take k t)) b (option_to_list this) c before now)
 
-  -- what is found for one number more
+  -- the findings with one more number
   pub hears_number : (f : ℕ → List Finding) (n : ℕ) (this : List Finding) → this ≡ f n → Hears R a (for_each f n) b → Hears R b this c → Hears R a (for_each f (n + 1)) c
   hears_number f n this is before now =
       let next : for_each f (n + 1) ≡ for_each f n ++ this = rw add-one (ap (λ ys. for_each f n ++ ys) (sym is)) in
       subst (λ fs. Hears R a fs c) (sym next) (hears_append R a (for_each f n) b this c before now)
 
--- nothing is found from n on, and below m
+-- the findings below m are those below n, if there is none from n on
 pub for_each_skip : (f : ℕ → List Finding) (n m : ℕ) → n ≤ m → ((k : ℕ) → n ≤ k → k < m → f k ≡ []) → for_each f m ≡ for_each f n
 for_each_skip f n zero le none = let same : zero ≡ n = omega (arith, le) in ap (for_each f) same
 for_each_skip f n (suc m) le none = elim (cases_lt m n) [
@@ -60,7 +60,7 @@ found_between p from end k e = (grind (arith, nat_tests), grind (arith, nat_test
 none_between : (p : ℕ → Bool) (from end k : ℕ) → (nat_lt k end && (nat_le from k && p k)) ≡ false → from ≤ k → k < end → p k ≡ false
 none_between p from end k e le lt = grind (arith, nat_tests)
 
--- from one marked number to the next, where the marks are those that pass
+-- from one marked number to the next, if the marked numbers are those that pass
 module _ (p q : ℕ → Bool) (f : ℕ → List Finding) (from end : ℕ) (same : (n : ℕ) → from ≤ n → n < end → p n ≡ q n) where
   -- a number that was found passes
   pub next_passes : (k : ℕ) → IsLeast (λ n. nat_lt n end && (nat_le from n && p n)) (Some k) → (from ≤ k) × (k < end) × (q k ≡ true)

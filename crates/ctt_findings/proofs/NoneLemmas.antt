@@ -1,4 +1,4 @@
--- Where no conflict is counted, none is found.
+-- If no conflict is counted, none is found.
 use Rattle.std.proofs.Common.{◌≡◌, ℕ, zero, suc, ◌+◌, Bool, true, false, cond, ◌&&◌, nat_lt, List, [], ◌∷◌, ◌++◌, Option, None, refl, ◌∙◌, arith}
 use Rattle.std.specs.List.{filter_map}
 use Rattle.std.specs.Option.{option_to_list}
@@ -15,7 +15,7 @@ use Rattle.ctt_findings.specs.declared.finding.Finding.TheVariants.{Conflict}
 use Rattle.ctt_findings.proofs.PairLemmas.{conflicts_counted}
 use Rattle.ctt_findings.proofs.PointLemmas.{found_worth, worth, worth_option}
 
--- findings that are none where they are worth nothing
+-- if the findings are worth no points, there is none
 abbrev AreNoneAtZero : List Finding → Type 0
 AreNoneAtZero xs = worth xs ≡ 0 → xs ≡ []
 

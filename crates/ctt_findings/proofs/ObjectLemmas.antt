@@ -1,4 +1,4 @@
--- The objects of findings have no float, and their texts are those of an array.
+-- The objects of findings contain no float, and their texts are those of an array.
 use Rattle.std.proofs.Common.{◌≡◌, ℕ, Bool, true, false, ◌||◌, List, [], ◌∷◌, ◌++◌, refl, sym, ap, ap₂, ◌∙◌, append_assoc, Ordering, Less, Equal, Greater, true≢false}
 use Rattle.std.specs.Ordering.{match_ordering}
 use Rattle.serde_json.specs.Data.{Data, Members, member, no_members, put}

@@ -19,7 +19,7 @@ use Rattle.ctt_findings.specs.Findings.{cause, conflict_finding, conflicts_betwe
 use Rattle.ctt_findings.specs.declared.finding.Finding.TheVariants.{Conflict}
 use Rattle.ctt_findings.proofs.PointLemmas.{worth, found_worth, worth_map, worth_each, worth_passing, passing_rows}
 
--- sums in the other order
+-- the order of two sums can be exchanged
 sum_turn : {X : Type 0} (f : ℕ → X → ℕ) (n : ℕ) (xs : List X) → sum_below (λ c. sum_by (f c) xs) n ≡ sum_by (λ x. sum_below (λ c. f c x) n) xs
 sum_turn f n [] = sum_below_zero (λ c. 0) n (λ c lt. refl)
 sum_turn f n (x ∷ xs) =
@@ -28,7 +28,7 @@ sum_turn f n (x ∷ xs) =
     ∙ ap (λ k. sum_below (λ c. f c x) n + k) (sum_turn f n xs)
     ∙ sym (sum_by-cons (λ y. sum_below (λ c. f c y) n) x xs)
 
--- at most one lecture of a row stands in a slot
+-- at most one lecture of a row is in a slot
 none_later : (s : ℕ) (x : Placed) (xs : List Placed) → (x.slot == s) ≡ true → Each (λ (y : Placed). x.slot < y.slot) xs → count_by (λ y. y.slot == s) xs ≡ 0
 none_later s x [] e h = refl
 none_later s x (y ∷ ys) e h =
@@ -43,11 +43,11 @@ one_there s (x ∷ xs) h = sum_by-cons (λ (z : Placed). cond (z.slot == s) 1 0)
     one true e more = omega (arith, none_later s x xs e h.0)
     one false e more = omega (arith, more)
 
--- in a slot with this lecture, of a course with a lesser number that clashes
+-- x is in conflict with y, and its course has the lower number
 abbrev meets : Problem → Placed → Placed → Bool
 meets i y x = nat_lt x.course y.course && conflicts i x y
 
--- of a list in order, what stands before an element and what stands behind it
+-- an element of a list, and its relation to the elements before and after it
 middle : {X : Type 0} (P : X → Type 0) (xs : List X) (y : X) (ys : List X) → Each P (xs ++ y ∷ ys) → P y
 middle P [] y ys h = h.0
 middle P (x ∷ xs) y ys h = middle P xs y ys h.1
@@ -80,7 +80,7 @@ module _ (i : Problem) (y : Placed) where
       not_it : (a b c d : ℕ) (e : Bool) → (nat_lt b a || (b == a && nat_lt c d)) ≡ true → (nat_lt a b && e) ≡ false
       not_it a b c d e k = grind (arith, nat_tests)
 
--- each pair once, at its later lecture
+-- each pair is counted once, at its later lecture
 pairs_from : (i : Problem) (front t : List Placed) → Ascending (front ++ t) → sum_by (λ y. count_by (meets i y) (front ++ t)) t ≡ tally (new_conflicts i) front t
 pairs_from i front [] h = refl
 pairs_from i front (y ∷ ys) h =
@@ -115,7 +115,7 @@ module _ (i : Problem) (t : List Placed) (h : IsTimetable i t) where
       ∙ sum_below_same (λ d. cond (clashes_behind c d) (worth (conflicts_between i t c d)) 0) (λ d. cond (clashes_behind c d) (sum_by (shared c) (course_row d t)) 0) (course_count i) (λ d. ap (λ n. cond (clashes_behind c d) n 0) (between c d))
       ∙ passing_rows (clashes_behind c) (shared c) (course_count i) t (courses_fit i t h)
 
-  -- the lectures that meet one, course by course
+  -- the lectures of lower courses that conflict with one, course by course
   met : (y : Placed) → sum_below (λ c. cond (clashes_behind c y.course) (shared c y) 0) (course_count i) ≡ count_by (meets i y) t
   met y =
       sum_below_same (λ c. cond (clashes_behind c y.course) (shared c y) 0) (λ c. cond (clashes_behind c y.course) (sum_by (λ x. cond (x.slot == y.slot) 1 0) (course_row c t)) 0) (course_count i)

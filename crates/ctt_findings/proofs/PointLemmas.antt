@@ -31,12 +31,12 @@ pub found_worth : (b : Bool) (x : Finding) → worth (option_to_list (found b x)
 found_worth true x = omega (arith, sum_by-cons points_of x [])
 found_worth false x = refl
 
--- of each element by itself
+-- the points of the findings for each element
 pub worth_map : {X : Type 0} (f : X → Option Finding) (g : X → ℕ) → ((x : X) → worth (option_to_list (f x)) ≡ g x) → (xs : List X) → worth (filter_map f xs) ≡ sum_by g xs
 worth_map f g e [] = refl
 worth_map f g e (x ∷ xs) = worth_option (f x) (filter_map f xs) ∙ ap₂ (λ m n. m + n) (e x) (worth_map f g e xs) ∙ sym (sum_by-cons g x xs)
 
--- of each number
+-- the points of the findings for each number
 pub worth_each : (f : ℕ → List Finding) (n : ℕ) → worth (for_each f n) ≡ sum_below (λ k. worth (f k)) n
 worth_each f zero = refl
 worth_each f (suc n) = sum_by-append points_of (for_each f n) (f n) ∙ ap (λ k. k + worth (f n)) (worth_each f n)
@@ -45,7 +45,7 @@ worth_where : (b : Bool) (xs : List Finding) → worth (cond b xs []) ≡ cond b
 worth_where true xs = refl
 worth_where false xs = refl
 
--- of each number that passes
+-- the points of the findings for each number that passes
 pub worth_passing : (p : ℕ → Bool) (f : ℕ → List Finding) (n : ℕ) → worth (for_each (where_passes p f) n) ≡ sum_below (λ k. cond (p k) (worth (f k)) 0) n
 worth_passing p f n = worth_each (where_passes p f) n ∙ sum_below_same (λ k. worth (where_passes p f k)) (λ k. cond (p k) (worth (f k)) 0) n (λ k. worth_where (p k) (f k))
 
@@ -87,7 +87,7 @@ module _ (i : Problem) (t : List Placed) where
   pub capacity_counted : worth (filter_map (capacity_finding i) t) ≡ (penalty i t).capacity
   capacity_counted = worth_map (capacity_finding i) (unseated i) (λ l. found_worth (nat_lt 0 (unseated i l)) (Capacity l (unseated i l)) ∙ some_points (unseated i l)) t
 
--- rooms that are taken
+-- the points of the lectures in rooms that are taken
 taken_worth : (before xs : List Placed) → worth (occupancy_from before xs) ≡ tally room_taken before xs
 taken_worth before [] = refl
 taken_worth before (x ∷ xs) =
@@ -137,7 +137,7 @@ twice p (x ∷ xs) = omega (arith, by (p x), sum_by-cons (λ y. cond (p y) 2 0) 
     by true = refl
     by false = refl
 
--- a sum over the places of a list
+-- a sum over the indices of a list
 places_below : {X : Type 0} (f : X → ℕ) (d : X) (xs : List X) (n : ℕ) → n ≤ length xs → sum_below (λ k. f (get_or xs k d)) n ≡ sum_by f (take n xs)
 places_below f d xs zero le = refl
 places_below f d xs (suc n) le =

@@ -18,11 +18,11 @@ use Rattle.ctt_findings.specs.ReportText.{data_of, explained_data_of, explained_
 use Rattle.ctt_findings.specs.declared.finding.Finding.{Finding}
 use Rattle.ctt_findings.proofs.ObjectLemmas.{items_are}
 
--- a member more
+-- the members with one more member
 pub adds : {new old members : Members} (key : List ℕ) (value : Data) → new ≡ put key value old → old ≡ members → new ≡ put key value members
 adds key value e was = e ∙ ap (put key value) was
 
--- the members put one after another, where some room is barred and where none is
+-- the members put one after another, if some room is barred and if none is
 pub all_put : (name : List ℕ) (barred : Bool) (hard : Hard) (cost : Cost) (lawful complete : Bool)
     → put (codes "complete") (boolean complete) (put (codes "lawful") (boolean lawful) (with_cost cost (with_hard barred hard (put (codes "instance") (string name) no_members))))
     ≡ members_of name barred hard cost lawful complete
@@ -30,7 +30,7 @@ unfolding members_before members_behind serde_json_on_literals
 all_put name true hard cost lawful complete = refl
 all_put name false hard cost lawful complete = refl
 
--- with an empty list of findings
+-- the report with an empty array of findings
 pub findings_put : (name : List ℕ) (barred : Bool) (hard : Hard) (cost : Cost) (lawful complete : Bool)
     → object (put (codes "findings") (array no_items) (members_of name barred hard cost lawful complete)) ≡ explained_data_of (array no_items) name barred hard cost lawful complete
 unfolding explained_data_of members_before members_behind serde_json_on_literals
@@ -53,12 +53,12 @@ open_text : Bool → Members → List ℕ
 open_text later no_members = []
 open_text later (member k d ms) = comma_if later ++ (compact_text (string k) ++ 58 ∷ (compact_text d ++ open_text true ms))
 
--- members in front of others
+-- members followed by others
 in_front : Members → Members → Members
 in_front no_members others = others
 in_front (member k d ms) others = member k d (in_front ms others)
 
--- whether something stands before what follows them
+-- whether any member precedes what follows them
 after : Bool → Members → Bool
 after later no_members = later
 after later (member k d ms) = after true ms
@@ -74,7 +74,7 @@ opened later (member k d ms) others =
     ∙ ap (λ text. comma_if later ++ text) (append_assoc (compact_text (string k)) (58 ∷ (compact_text d ++ so_far)) rest
     ∙ ap (λ text. compact_text (string k) ++ 58 ∷ text) (append_assoc (compact_text d) so_far rest)))
 
--- the members before the findings, and the findings' text with those behind them
+-- the members before the findings, and the text of the findings followed by the later members
 before_opens : (barred : Bool) (hard : Hard) (cost : Cost) (complete : Bool) (others : Members)
     → members_text false (members_before barred hard cost complete others) ≡ open_text false (members_before barred hard cost complete no_members) ++ members_text true others
 unfolding members_before in_front after
@@ -96,7 +96,7 @@ regroup front key items behind end =
     ∙ ap (λ text. front ++ text) (append_assoc key ((items ++ 93 ∷ []) ++ 44 ∷ behind) end
     ∙ ap (λ text. key ++ text) (append_assoc (items ++ 93 ∷ []) (44 ∷ behind) end ∙ append_assoc items (93 ∷ []) (44 ∷ (behind ++ end)))))
 
--- the text up to the list of findings, and up to the first of them
+-- the text up to the array of findings, and the text up to the first of them
 pub text_to_list : Bool → Hard → Cost → Bool → List ℕ
 text_to_list barred hard cost complete = codes "{" ++ (open_text false (members_before barred hard cost complete no_members) ++ codes ",\"findings\":")
 
@@ -125,7 +125,7 @@ explained_is i fs name barred hard cost lawful complete =
     ∙ ap (λ text. (front ++ text) ++ codes "\n") (sym between)
     ∙ ap (λ text. text ++ codes "\n") (sym (before_opens barred hard cost complete (member (codes "findings") (array (objects_of i fs)) behind))))
 
--- no list begins in a number
+-- a number contains no bracket
 no_list_in_digits : (k n : ℕ) (acc : List ℕ) → list_any is_bracket acc ≡ false → list_any is_bracket (digits_onto k 10 false n acc) ≡ false
 no_list_in_digits zero n acc h = h
 no_list_in_digits (suc k) n acc h = by (n / 10 == 0) (no_list_in_digits k (n / 10) (digit_glyph false (n % 10) ∷ acc))
@@ -157,7 +157,7 @@ no_list_in_answer false = refl
 no_list_in_both : (a b : List ℕ) → list_any is_bracket a ≡ false → list_any is_bracket b ≡ false → list_any is_bracket (a ++ b) ≡ false
 no_list_in_both a b p q = list_any-append is_bracket a b ∙ ap₂ (λ x y. x || y) p q
 
--- in none of these members a list begins
+-- none of these members contains a bracket
 ArePlain : Members → Type 0
 ArePlain no_members = ⊤
 ArePlain (member k d ms) = (list_any is_bracket (compact_text (string k)) ≡ false) × (list_any is_bracket (compact_text d) ≡ false) × ArePlain ms
@@ -183,7 +183,7 @@ pub no_list_before : (barred : Bool) (hard : Hard) (cost : Cost) (complete : Boo
 unfolding text_to_list
 no_list_before barred hard cost complete = no_list_in_both (open_text false (members_before barred hard cost complete no_members)) (codes ",\"findings\":") (no_list_in_members false (members_before barred hard cost complete no_members) (before_plain barred hard cost complete)) refl
 
--- the first list of a text, by what stands before it and behind its bracket
+-- the first bracket of a text, by the text before it and the text after it
 first_at : (front rest : List ℕ) → list_any is_bracket front ≡ false → position_or_len is_bracket (front ++ 91 ∷ rest) ≡ length front
 first_at [] rest h = refl
 first_at (x ∷ xs) rest h = elim (cases_eq x 91) [

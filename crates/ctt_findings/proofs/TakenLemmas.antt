@@ -1,4 +1,4 @@
--- The rooms that are taken, lecture by lecture.
+-- The rooms that are already taken, lecture by lecture.
 use Rattle.std.proofs.Common.{◌≡◌, ℕ, ◌+◌, ◌<◌, Bool, ◌&&◌, ◌||◌, ◌==◌, List, [], ◌∷◌, ◌++◌, take, drop, length, get_or, Option, Result, IfErr, ◌∙◌, sym, ap, subst, arith, append-nil}
 use Rattle.std.specs.List.{list_any}
 use Rattle.std.specs.Option.{option_to_list}
@@ -15,7 +15,7 @@ use Rattle.ctt_findings.proofs.HearLemmas.{hears_append}
 use Rattle.ctt_findings.proofs.FrontLemmas.{err_in}
 use Rattle.ctt_findings.specs.declared.untold.Untold.{Untold}
 
--- two lists, one behind the other
+-- the findings on two lists, one after the other
 occupancy_append : (front xs ys : List Placed) → occupancy_from front (xs ++ ys) ≡ occupancy_from front xs ++ occupancy_from (front ++ xs) ys
 occupancy_append front [] ys = ap (λ ls. occupancy_from ls ys) (sym (append-nil front))
 occupancy_append front (x ∷ xs) ys =
@@ -28,7 +28,7 @@ abbrev pub is_taken : List Placed → ℕ → ℕ → Bool
 is_taken ls s r = list_any (λ (l : Placed). l.slot == s && l.room == r) ls
 
 module _ (t : List Placed) (k : ℕ) (x : Placed) (within : k < length t) (at : x ≡ get_or t k x) where
-  -- the table with a lecture more
+  -- the table with one more lecture
   pub taken_more : (old new : List (List ℕ)) → ((s r : ℕ) → in_row old s r ≡ is_taken (take k t) s r) → ((s r : ℕ) → in_row new s r ≡ ((x.slot == s && x.room == r) || in_row old s r))
       → (s r : ℕ) → in_row new s r ≡ is_taken (take (k + 1) t) s r
   taken_more old new so_far marked s r =
@@ -58,7 +58,7 @@ module _ (t : List Placed) (k : ℕ) (x : Placed) (within : k < length t) (at : 
         ∙ occupancy_append [] (take k t) (x ∷ drop (k + 1) t)
         ∙ ap (λ fs. occupancy_from [] (take k t) ++ (fs ++ occupancy_from (take k t ++ x ∷ []) (drop (k + 1) t))) (sym this_is)
 
-    -- what is heard of a lecture more
+    -- the findings that are heard with one more lecture
     pub hears_taken : {L : Type 0} (R : L → Finding → L → Type 0) (a b c : L) → Hears R a (occupancy_from [] (take k t)) b → Hears R b (option_to_list this) c → Hears R a (occupancy_from [] (take (k + 1) t)) c
     hears_taken R a b c before now = subst (λ fs. Hears R a fs c) (sym next) (hears_append R a (occupancy_from [] (take k t)) b (option_to_list this) c before now)
 

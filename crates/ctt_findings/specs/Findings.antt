@@ -1,4 +1,4 @@
--- What is wrong with a timetable, and what costs points, each thing by itself, in the order of the report.
+-- The findings of a timetable: what breaks a hard rule or costs points, in the order of the report.
 use Rattle.std.specs.Prelude.{ℕ, zero, suc, Bool, cond, List, [], ◌∷◌, ◌++◌, length, filter_map, ◌==◌, ◌&&◌, not, nat_lt, Option, Some, None, option_to_list, unwrap_or, if◌then◌else◌}
 use Rattle.std.specs.List.{find, list_any}
 use Rattle.ctt_text.specs.Belonging.{curricula_of}
@@ -14,42 +14,43 @@ use Rattle.ctt_findings.specs.declared.finding.Cause.TheVariants.{Teacher, Curri
 use Rattle.ctt_findings.specs.declared.finding.Finding.{Finding}
 use Rattle.ctt_findings.specs.declared.finding.Finding.TheVariants.{Lectures, Conflict, Availability, Occupancy, Barred, Capacity, Days, Compactness, Stability}
 
--- what is found for each number below n, in turn
+-- the findings for each number below n, in order
 abbrev pub for_each : (ℕ → List Finding) → ℕ → List Finding
 for_each f zero = []
 for_each f (suc n) = for_each f n ++ f n
 
--- what is found for a number that passes, and nothing for another
+-- the findings for a number that passes, and none for another
 abbrev pub where_passes : (ℕ → Bool) → (ℕ → List Finding) → ℕ → List Finding
 where_passes p f n = cond (p n) (f n) []
 
--- a finding, where it is one
+-- a finding, if the condition holds
 abbrev pub found : Bool → Finding → Option Finding
 found b finding = cond b (Some finding) None
 
--- missing or surplus lectures of a course, by its lectures
+-- missing or surplus lectures of a course with these lectures
 abbrev pub lectures_finding : Problem → ℕ → List Placed → Option Finding
 lectures_finding i c row = found (not (length row == (course_of i c).lectures)) (Lectures c (length row) (course_of i c).lectures)
 
--- the least curriculum that has both courses: of those of c, which ascend, the first that has d; their number, where none has
+-- the least curriculum that has both courses, or the number of curricula if none has; the curricula
+-- of c ascend, so the first of them that has d is the least
 abbrev pub common_curriculum : Problem → ℕ → ℕ → ℕ
 common_curriculum i c d = unwrap_or (find (λ q. has d (members i q)) (curricula_of i c)) (curriculum_count i)
 
--- why two courses clash: by their teacher, or else by a curriculum
+-- why two courses clash: their common teacher, or else the least curriculum that has both
 abbrev pub cause : Problem → ℕ → ℕ → Cause
 cause i c d = if (course_of i c).teacher == (course_of i d).teacher
     then Teacher (course_of i c).teacher
     else Curriculum (common_curriculum i c d)
 
--- a lecture in a slot in which a course stands with which its own clashes
+-- a lecture in one of the slots of course c, which clashes with its own course
 abbrev pub conflict_finding : Problem → ℕ → (ℕ → Bool) → Placed → Option Finding
 conflict_finding i c standing l = found (standing l.slot) (Conflict c l.course l.slot (cause i c l.course))
 
--- the lectures of d in slots of c
+-- the lectures of d that are in slots of c
 abbrev pub conflicts_between : Problem → List Placed → ℕ → ℕ → List Finding
 conflicts_between i t c d = filter_map (conflict_finding i c (busy (course_row c t))) (course_row d t)
 
--- those of the courses behind c that clash with it
+-- the conflicts of c with the courses after it that clash with it
 abbrev pub conflicts_of : Problem → List Placed → ℕ → List Finding
 conflicts_of i t c = for_each (where_passes (λ d. nat_lt c d && clash i c d) (conflicts_between i t c)) (course_count i)
 
@@ -57,11 +58,11 @@ conflicts_of i t c = for_each (where_passes (λ d. nat_lt c d && clash i c d) (c
 abbrev pub availability_finding : Problem → Placed → Option Finding
 availability_finding i l = found (is_unavailable i l.course l.slot) (Availability l)
 
--- a lecture in a room that has an earlier lecture in the slot, or has none
+-- a lecture in a room that is already taken in the slot
 abbrev pub occupancy_finding : Bool → Placed → Option Finding
 occupancy_finding taken l = found taken (Occupancy l)
 
--- the lectures in rooms that have an earlier one in the slot, where some stand before the first
+-- the lectures in rooms that an earlier one takes in the slot; `before` precedes the list
 abbrev pub occupancy_from : List Placed → List Placed → List Finding
 occupancy_from before [] = []
 occupancy_from before (x ∷ xs) = option_to_list (occupancy_finding (list_any (share_room x) before) x) ++ occupancy_from (before ++ x ∷ []) xs
@@ -74,34 +75,35 @@ barred_finding i l = found (is_barred i l.course l.room) (Barred l)
 abbrev pub capacity_finding : Problem → Placed → Option Finding
 capacity_finding i l = found (nat_lt 0 (unseated i l)) (Capacity l (unseated i l))
 
--- too few days of a course, by its lectures
+-- too few days of a course with these lectures
 abbrev pub days_finding : Problem → ℕ → List Placed → Option Finding
 days_finding i c row = found (nat_lt 0 (days_cost i c row)) (Days c (days_of i row) (course_of i c).min_days (days_cost i c row))
 
--- a lecture that stands alone in a curriculum, or does not
+-- a lecture of a curriculum, if it is isolated
 abbrev pub compactness_finding : ℕ → Bool → Placed → Option Finding
 compactness_finding q alone l = found alone (Compactness q l 2)
 
--- the lectures of a course that stand alone among those of a curriculum
+-- the lectures of a course that are isolated among those of a curriculum
 abbrev pub alone_of : Problem → List Placed → ℕ → ℕ → List Finding
 alone_of i t q c = filter_map (λ l. compactness_finding q (is_alone i (lectures_of (members i q) t) l) l) (course_row c t)
 
--- those of the curriculum's members
+-- the isolated lectures of a curriculum, by course
 abbrev pub compactness_of : Problem → List Placed → ℕ → List Finding
 compactness_of i t q = for_each (where_passes (λ c. has c (members i q)) (alone_of i t q)) (course_count i)
 
--- rooms of a course beyond the first, by its lectures
+-- rooms beyond the first of a course with these lectures
 abbrev pub stability_finding : Problem → ℕ → List Placed → Option Finding
 stability_finding i c row = found (nat_lt 0 (rooms_cost i row)) (Stability c (rooms_of i row) (rooms_cost i row))
 
--- what is found of each course in turn
+-- the findings for each course, in order
 abbrev pub by_course : Problem → List Placed → (ℕ → List Placed → Option Finding) → List Finding
 by_course i t f = for_each (λ c. option_to_list (f c (course_row c t))) (course_count i)
 
--- those of each kind
+-- all conflicts, by the first of the two courses
 abbrev pub conflict_findings : Problem → List Placed → List Finding
 conflict_findings i t = for_each (conflicts_of i t) (course_count i)
 
+-- all isolated lectures, by curriculum
 abbrev pub compactness_findings : Problem → List Placed → List Finding
 compactness_findings i t = for_each (compactness_of i t) (curriculum_count i)
 
@@ -120,5 +122,6 @@ soft_findings i t = filter_map (capacity_finding i) t
     ++ (compactness_findings i t
     ++ by_course i t (stability_finding i)))
 
+-- all findings of a timetable
 unfoldable pub findings : Problem → List Placed → List Finding
 findings i t = hard_findings i t ++ soft_findings i t

@@ -1,4 +1,4 @@
--- Findings whose numbers are those of an instance.
+-- Findings whose numbers are within the ranges of an instance.
 use Rattle.std.specs.Prelude.{◌<◌}
 use Rattle.ctt_text.specs.Problem.{Problem, course_count, slot_count, teacher_count, curriculum_count}
 use Rattle.ctt_text.specs.Timetable.{Fits}

@@ -11,7 +11,7 @@ use Rattle.ctt_findings.specs.Findings.{findings, by_course, lectures_finding, c
 use Rattle.ctt_findings.specs.declared.finding.Finding.{Finding}
 use Rattle.ctt_findings.specs.declared.finding.Finding.TheVariants.{Lectures, Capacity, Days, Compactness, Stability}
 
--- the points of a finding: of missing or surplus lectures how many, of another broken hard rule one
+-- the points of a finding: for missing or surplus lectures their number, for another hard rule one
 abbrev pub points_of : Finding → ℕ
 points_of (Lectures c placed stated) = (stated - placed) + (placed - stated)
 points_of (Capacity l points) = points
@@ -20,7 +20,7 @@ points_of (Compactness q l points) = points
 points_of (Stability c rooms points) = points
 points_of finding = 1
 
--- of each kind of findings the sum of the points is the report's count
+-- for each kind of finding, the sum of the points is the report's count
 pub record AreCounted (i : Problem) (t : List Placed) : Type 0 where
   pub lectures : sum_by points_of (by_course i t (lectures_finding i)) ≡ (hard_counts i t).lectures
   pub conflicts : sum_by points_of (conflict_findings i t) ≡ (hard_counts i t).conflicts

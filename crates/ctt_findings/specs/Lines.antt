@@ -1,4 +1,4 @@
--- Findings by name, and as lines of text.
+-- The facts of findings, and findings as lines of text.
 use Rattle.std.specs.Prelude.{ℕ, List, [], ◌∷◌, codes, flat_map, map, slice_index_or}
 use Rattle.std.specs.Fmt.{decimal}
 use Rattle.ctt_line.specs.Lines.{line as line_of}
@@ -10,12 +10,12 @@ use Rattle.ctt_findings.specs.declared.finding.Cause.TheVariants.{Teacher, Curri
 use Rattle.ctt_findings.specs.declared.finding.Finding.{Finding}
 use Rattle.ctt_findings.specs.declared.finding.Finding.TheVariants.{Lectures, Conflict, Availability, Occupancy, Barred, Capacity, Days, Compactness, Stability}
 
--- a word, or a number
+-- the value of a fact: a word or a number
 pub data Told : Type 0 where
   word : List ℕ → Told
   number : ℕ → Told
 
--- what is told, and by which key it is known
+-- a value, and the key that names it
 pub record Fact : Type 0 where
   pub key : List ℕ
   pub value : Told
@@ -23,7 +23,7 @@ pub record Fact : Type 0 where
 abbrev pub fact : List ℕ → Told → Fact
 fact k v = record { key = k; value = v }
 
--- the facts that name what an instance has
+-- the facts of which findings consist
 abbrev pub kind : List ℕ → Fact
 kind name = fact (codes "kind") (word name)
 
@@ -53,7 +53,7 @@ abbrev pub cause_facts : Problem → Cause → List Fact
 cause_facts i (Teacher n) = fact (codes "cause") (word (codes "teacher")) ∷ fact (codes "name") (word (slice_index_or i.teacher_names n [])) ∷ []
 cause_facts i (Curriculum q) = fact (codes "cause") (word (codes "curriculum")) ∷ fact (codes "name") (word (slice_index_or i.curriculum_names q [])) ∷ []
 
--- what a finding tells, in the order of its line
+-- the facts of a finding, in the order of its line
 abbrev pub facts : Problem → Finding → List Fact
 facts i (Lectures c placed stated) = kind (codes "lectures") ∷ course i c ∷ fact (codes "placed") (number placed) ∷ fact (codes "stated") (number stated) ∷ []
 facts i (Conflict c d s why) = kind (codes "conflict") ∷ course i c ∷ other_course i d ∷ day i s ∷ period i s ∷ cause_facts i why
@@ -65,7 +65,7 @@ facts i (Days c days minimum n) = kind (codes "days") ∷ course i c ∷ fact (c
 facts i (Compactness q l n) = kind (codes "compactness") ∷ curriculum i q ∷ course i l.course ∷ day i l.slot ∷ period i l.slot ∷ points n ∷ []
 facts i (Stability c rooms n) = kind (codes "stability") ∷ course i c ∷ fact (codes "rooms") (number rooms) ∷ points n ∷ []
 
--- the text of what is told
+-- the text of a value
 abbrev pub text_of : Told → List ℕ
 text_of (word w) = w
 text_of (number n) = decimal n

@@ -8,12 +8,12 @@ use Rattle.ctt_findings.specs.Findings.{findings}
 use Rattle.ctt_findings.specs.Lines.{Fact, Told, facts, number, word}
 use Rattle.ctt_findings.specs.declared.finding.Finding.{Finding}
 
--- what is told, as a value
+-- a value as JSON
 abbrev pub value_of : Told → Data
 value_of (word w) = string w
 value_of (number n) = amount (unsigned n)
 
--- members, with facts added, each by its key; the keys ascend
+-- members with facts added, each under its key, in ascending order of the keys
 abbrev pub with_facts : List Fact → Members → Members
 with_facts [] ms = ms
 with_facts (f ∷ fs) ms = with_facts fs (put f.key (value_of f.value) ms)
@@ -34,7 +34,7 @@ all_objects i t = array (objects_of i (findings i t))
 abbrev pub item_text : Problem → Bool → Finding → List ℕ
 item_text i later f = comma_if later ++ compact_text (object_of i f)
 
--- the texts of objects, one behind another; `later` says whether one stands before them
+-- the texts of objects, one after another; `later` says whether another object precedes them
 abbrev pub item_texts : Problem → Bool → List Finding → List ℕ
 item_texts i later [] = []
 item_texts i later (f ∷ fs) = item_text i later f ++ item_texts i true fs

@@ -13,7 +13,7 @@ use Rattle.ctt_rules.specs.Penalty.{penalty, total}
 use Rattle.ctt_findings.specs.Lines.{explained}
 use Rattle.ctt_findings.specs.Objects.{all_objects}
 
--- a line: a key, and what is said of it
+-- a line with a key and its value
 abbrev pub line : List ℕ → List ℕ → List ℕ
 line key text = line_of (key ∷ text ∷ [])
 
@@ -23,14 +23,13 @@ count_line key count = line key (decimal count)
 abbrev pub answer_word : Bool → List ℕ
 answer_word b = if b then codes "yes" else codes "no"
 
--- the line of the lectures in barred rooms, where some room is barred
+-- the line with the count of lectures in barred rooms, if any room is barred
 abbrev pub barred_line : Bool → ℕ → List ℕ
 barred_line true count = count_line (codes "barred") count
 barred_line false count = []
 
--- the report on an instance of this name, in which some room is barred or none: how often hard
--- constraints are broken, what the soft ones cost, whether the timetable is lawful and whether it is
--- complete
+-- the report on an instance with this name; the Booleans say whether any room is barred, whether
+-- the timetable is lawful, and whether it is complete
 unfoldable pub text_of : List ℕ → Bool → Hard → Cost → Bool → Bool → List ℕ
 text_of name barred hard cost lawful complete = line (codes "instance") name
     ++ count_line (codes "lectures") hard.lectures
@@ -46,13 +45,12 @@ text_of name barred hard cost lawful complete = line (codes "instance") name
     ++ line (codes "lawful") (answer_word lawful)
     ++ line (codes "complete") (answer_word complete)
 
--- the member of the lectures in barred rooms, where some room is barred, before the others
+-- the member for lectures in barred rooms, if any room is barred, followed by the others
 abbrev pub barred_member : Bool → ℕ → Members → Members
 barred_member true count others = member (codes "barred") (number (unsigned count)) others
 barred_member false count others = others
 
--- the members of the same report as a JSON object, in the order of their keys: those before the key of the
--- findings, in front of others, and those behind it
+-- the members of the report with keys less than `findings`, in key order, followed by others
 unfoldable pub members_before : Bool → Hard → Cost → Bool → Members → Members
 members_before barred hard cost complete others =
     member (codes "availability") (number (unsigned hard.availability))
@@ -63,6 +61,7 @@ members_before barred hard cost complete others =
     (member (codes "conflicts") (number (unsigned hard.conflicts))
     (member (codes "days") (number (unsigned cost.days)) others))))))
 
+-- the members of the report with keys greater than `findings`, in key order
 unfoldable pub members_behind : List ℕ → Hard → Cost → Bool → Members
 members_behind name hard cost lawful =
     member (codes "instance") (string name)
@@ -72,11 +71,11 @@ members_behind name hard cost lawful =
     (member (codes "stability") (number (unsigned cost.stability))
     (member (codes "total") (number (unsigned (total cost))) no_members)))))
 
--- and all of them
+-- all members of the report, without its findings
 abbrev pub members_of : List ℕ → Bool → Hard → Cost → Bool → Bool → Members
 members_of name barred hard cost lawful complete = members_before barred hard cost complete (members_behind name hard cost lawful)
 
--- members put to others: how often the hard rules are broken, and what the soft ones cost
+-- members with the hard counts and the costs put into others
 abbrev pub with_barred : Bool → ℕ → Members → Members
 with_barred true count others = put (codes "barred") (number (unsigned count)) others
 with_barred false count others = others
@@ -97,7 +96,7 @@ with_cost cost others =
     (put (codes "days") (number (unsigned cost.days))
     (put (codes "capacity") (number (unsigned cost.capacity)) others))))
 
--- the byte by which a list begins
+-- the byte that opens an array
 abbrev pub is_bracket : ℕ → Bool
 is_bracket b = b == 91
 
@@ -106,14 +105,14 @@ unfoldable pub data_of : List ℕ → Bool → Hard → Cost → Bool → Bool �
 data_of name barred hard cost lawful complete =
     object (members_of name barred hard cost lawful complete)
 
--- and with its findings
+-- the report with its findings as a JSON object
 unfoldable pub explained_data_of : Data → List ℕ → Bool → Hard → Cost → Bool → Bool → Data
 explained_data_of found name barred hard cost lawful complete = object
     (members_before barred hard cost complete
     (member (codes "findings") found (members_behind name hard cost lawful)))
 
--- the bytes are what `show` makes of whether some room is barred, the timetable's counts, its costs and the two
--- judgements on it
+-- the bytes are what `show` makes of the name, of whether any room is barred, of the hard counts
+-- and the costs, and of whether the timetable is lawful and whether it is complete
 pub record Shows (show : List ℕ → Bool → Hard → Cost → Bool → Bool → List ℕ) (i : Problem) (t : List Placed) (bytes : List ℕ) : Type 0 where
   pub lawful : Bool
   pub complete : Bool
@@ -125,7 +124,7 @@ pub record Shows (show : List ℕ → Bool → Hard → Cost → Bool → Bool �
 abbrev pub IsTextReport : Problem → List Placed → List ℕ → Type 0
 IsTextReport = Shows text_of
 
--- the object in compact form, and the line's end
+-- the object in compact form, followed by a line feed
 abbrev pub json_of : List ℕ → Bool → Hard → Cost → Bool → Bool → List ℕ
 json_of name barred hard cost lawful complete =
     compact_text (data_of name barred hard cost lawful complete) ++ codes "\n"
@@ -134,12 +133,12 @@ json_of name barred hard cost lawful complete =
 abbrev pub IsJsonReport : Problem → List Placed → List ℕ → Type 0
 IsJsonReport = Shows json_of
 
--- the report as text, and behind it the lines of all findings
+-- the report as text, followed by the lines of all findings
 abbrev pub IsExplainedText : Problem → List Placed → List ℕ → Type 0
 IsExplainedText i t = Shows (λ name barred hard cost lawful complete.
     text_of name barred hard cost lawful complete ++ explained i t) i t
 
--- the object with the findings in compact form, and the line's end
+-- the object with its findings in compact form, followed by a line feed
 abbrev pub explained_json_of : Data → List ℕ → Bool → Hard → Cost → Bool → Bool → List ℕ
 explained_json_of found name barred hard cost lawful complete =
     compact_text (explained_data_of found name barred hard cost lawful complete) ++ codes "\n"

@@ -1,4 +1,4 @@
-//! The lectures that stand alone in a curriculum.
+//! The isolated lectures of curricula.
 
 ghost use Rattle.std.specs.Prelude.{◌≡◌, ◌<◌, ℕ, not, filter_map, IfSome, IfErr, OnOk};
 ghost use Rattle.std.specs.List.{AllByRecursion as Each};
@@ -21,7 +21,7 @@ use ctt_text::{CourseNo, CurriculumNo, Instance, Marks, Placed};
 use std::alloc::Global;
 use std::slice::from_ref;
 
-/// The members of a curriculum.
+/// Marks the members of a curriculum.
 fn members_of(instance: &Instance, curriculum: CurriculumNo) -> Marks
     requires { curriculum < curriculum_count instance.now }
     ensures { (c : ℕ) → is_marked result c ≡ has c (members instance.now curriculum) }
@@ -34,7 +34,7 @@ fn members_of(instance: &Instance, curriculum: CurriculumNo) -> Marks
     courses
 }
 
-/// The slots in which members of a curriculum stand.
+/// Marks the slots in which members of a curriculum have lectures.
 fn slots_of(instance: &Instance, rows: &Rows<'_>, curriculum: CurriculumNo) -> Marks
     requires timetable { IsTimetable instance.now rows.now }
     requires curriculum { curriculum < curriculum_count instance.now }
@@ -48,7 +48,7 @@ fn slots_of(instance: &Instance, rows: &Rows<'_>, curriculum: CurriculumNo) -> M
     slots
 }
 
-/// A lecture of a curriculum beside whose slot none of these slots is: two points.
+/// Returns a finding of two points, if no slot next to a lecture's, on the same day, is marked.
 fn alone(
     instance: &Instance,
     curriculum: CurriculumNo,
@@ -67,7 +67,7 @@ fn alone(
     Some(Finding::Compactness(curriculum, *lecture, 2))
 }
 
-/// Tells of the lectures of one course of a curriculum that stand beside none of these slots.
+/// Reports the lectures of one course of a curriculum with no marked slot next to theirs.
 fn tell_alone<L: Listener>(
     listener: &mut L,
     instance: &Instance,
@@ -94,7 +94,7 @@ fn tell_alone<L: Listener>(
     Ok(())
 }
 
-/// Tells of the lectures that stand alone in one curriculum, course by course.
+/// Reports the isolated lectures of one curriculum, course by course.
 fn tell_compactness_of<L: Listener>(
     listener: &mut L,
     instance: &Instance,
@@ -119,7 +119,7 @@ fn tell_compactness_of<L: Listener>(
     Ok(())
 }
 
-/// Tells of the lectures that stand alone, curriculum by curriculum.
+/// Reports the isolated lectures, curriculum by curriculum.
 fn tell_each<L: Listener>(
     listener: &mut L,
     instance: &Instance,
@@ -137,7 +137,8 @@ fn tell_each<L: Listener>(
     Ok(())
 }
 
-/// Tells of the lectures that stand alone in a curriculum. Each row is found once, since a course is in many curricula.
+/// Reports the isolated lectures of all curricula. The row of each course is looked up only once,
+/// since a course may be in many curricula.
 pub(crate) fn tell_compactness<L: Listener>(
     alloc: Global,
     listener: &mut L,

@@ -15,7 +15,7 @@ use crate::untold::Untold;
 use ctt_rules::{course_row, hard_counts, mark_slots};
 use ctt_text::{CourseNo, CurriculumNo, Instance, Marks, Placed};
 
-/// The least curriculum that has both courses, or the number of curricula, where none has.
+/// Returns the least curriculum that has both courses, or the number of curricula if none has.
 fn common_curriculum(instance: &Instance, course: CourseNo, other: CourseNo) -> CurriculumNo
     requires { course < course_count instance.now }
     ensures least { result ≡ common_curriculum instance.now course other }
@@ -30,7 +30,7 @@ fn common_curriculum(instance: &Instance, course: CourseNo, other: CourseNo) -> 
     CurriculumNo::new(instance.curricula())
 }
 
-/// Why two courses clash: by their teacher, or else by the least curriculum that has both.
+/// Returns why two courses clash: their common teacher, or else the least curriculum that has both.
 fn cause(instance: &Instance, course: CourseNo, other: CourseNo) -> Cause
     requires course { course < course_count instance.now }
     requires other { other < course_count instance.now }
@@ -44,7 +44,7 @@ fn cause(instance: &Instance, course: CourseNo, other: CourseNo) -> Cause
     Cause::Curriculum(common_curriculum(instance, course, other))
 }
 
-/// A lecture in one of the slots in which a course stands with which its own clashes.
+/// Returns a finding, if a lecture is in one of the slots of a course that clashes with its own.
 fn conflict(
     instance: &Instance,
     course: CourseNo,
@@ -65,7 +65,7 @@ fn conflict(
     Some(Finding::Conflict(course, lecture.course, lecture.slot, cause))
 }
 
-/// Tells of the lectures in the slots of a course with which theirs clash.
+/// Reports the lectures in one of the slots of a course that clashes with theirs.
 fn tell_between<L: Listener>(
     listener: &mut L,
     instance: &Instance,
@@ -93,7 +93,7 @@ fn tell_between<L: Listener>(
     Ok(())
 }
 
-/// Tells of the conflicts of a course with those behind it.
+/// Reports the conflicts of a course with the courses after it.
 fn tell_conflicts_of<L: Listener>(
     listener: &mut L,
     instance: &Instance,
@@ -124,7 +124,7 @@ fn tell_conflicts_of<L: Listener>(
     Ok(())
 }
 
-/// Tells of the conflicts of each course with those behind it.
+/// Reports the conflicts of each course with the courses after it.
 fn tell_all_conflicts<L: Listener>(
     listener: &mut L,
     instance: &Instance,
@@ -142,7 +142,8 @@ fn tell_all_conflicts<L: Listener>(
     Ok(())
 }
 
-/// Tells of the pairs of lectures in one slot whose courses clash. Where none is counted, none is looked for.
+/// Reports the pairs of lectures in one slot whose courses clash. If their count is zero, no search
+/// is made.
 pub(crate) fn tell_conflicts<L: Listener>(
     listener: &mut L,
     instance: &Instance,

@@ -13,14 +13,14 @@ use crate::finding::{Cause, Finding};
 use arrayvec::ArrayVec;
 use ctt_text::{CourseNo, CurriculumNo, Instance, Placed, RoomNo, SlotNo};
 
-/// Which finding it is.
+/// Returns the kind of a finding as a fact.
 fn kind<'i>(name: &'i str) -> Fact<'i>
     ensures { result ≡ kind name.now }
 {
     Fact::text("kind", name)
 }
 
-/// The name of a course.
+/// Returns the name of a course as a fact.
 fn course<'i>(instance: &'i Instance, number: CourseNo) -> Fact<'i>
     requires { number < course_count instance.now }
     ensures { result ≡ course instance.now number }
@@ -28,7 +28,7 @@ fn course<'i>(instance: &'i Instance, number: CourseNo) -> Fact<'i>
     Fact::text("course", instance.course_name(number))
 }
 
-/// The name of a room.
+/// Returns the name of a room as a fact.
 fn room<'i>(instance: &'i Instance, number: RoomNo) -> Fact<'i>
     requires { number < room_count instance.now }
     ensures { result ≡ room instance.now number }
@@ -36,7 +36,7 @@ fn room<'i>(instance: &'i Instance, number: RoomNo) -> Fact<'i>
     Fact::text("room", instance.room_name(number))
 }
 
-/// The day of a slot.
+/// Returns the day of a slot as a fact.
 fn day<'i>(instance: &'i Instance, slot: SlotNo) -> Fact<'i>
     requires { slot < slot_count instance.now }
     ensures { result ≡ day instance.now slot }
@@ -44,7 +44,7 @@ fn day<'i>(instance: &'i Instance, slot: SlotNo) -> Fact<'i>
     Fact::number("day", u64::from(instance.day_of(slot)))
 }
 
-/// The period of a slot.
+/// Returns the period of a slot as a fact.
 fn period<'i>(instance: &'i Instance, slot: SlotNo) -> Fact<'i>
     requires { slot < slot_count instance.now }
     ensures { result ≡ period instance.now slot }
@@ -52,14 +52,14 @@ fn period<'i>(instance: &'i Instance, slot: SlotNo) -> Fact<'i>
     Fact::number("period", u64::from(instance.period_of(slot)))
 }
 
-/// What it costs.
+/// Returns the cost of a finding as a fact.
 fn points<'i>(count: u64) -> Fact<'i>
     ensures { result ≡ points count }
 {
     Fact::number("points", count)
 }
 
-/// Missing or surplus lectures.
+/// Returns the facts of missing or surplus lectures.
 fn lectures<'i>(
     instance: &'i Instance,
     number: CourseNo,
@@ -77,7 +77,7 @@ fn lectures<'i>(
     facts
 }
 
-/// A lecture in a barred room.
+/// Returns the facts of a lecture in a barred room.
 fn barred<'i>(instance: &'i Instance, lecture: &Placed) -> ArrayVec<Fact<'i>, 8>
     requires { Fits instance.now lecture.now }
     ensures { result.items ≡ facts instance.now (Barred lecture.now) }
@@ -91,7 +91,7 @@ fn barred<'i>(instance: &'i Instance, lecture: &Placed) -> ArrayVec<Fact<'i>, 8>
     facts
 }
 
-/// Two lectures in one slot whose courses clash.
+/// Returns the facts of two lectures in one slot whose courses clash.
 fn conflict<'i>(
     instance: &'i Instance,
     number: CourseNo,
@@ -141,7 +141,7 @@ fn push_cause<'i>(facts: &mut ArrayVec<Fact<'i>, 8>, instance: &'i Instance, cau
     }
 }
 
-/// A lecture in a slot in which its course is unavailable.
+/// Returns the facts of a lecture in a slot in which its course is unavailable.
 fn availability<'i>(instance: &'i Instance, lecture: &Placed) -> ArrayVec<Fact<'i>, 8>
     requires { Fits instance.now lecture.now }
     ensures { result.items ≡ facts instance.now (Availability lecture.now) }
@@ -154,7 +154,7 @@ fn availability<'i>(instance: &'i Instance, lecture: &Placed) -> ArrayVec<Fact<'
     facts
 }
 
-/// A lecture in a room that is taken.
+/// Returns the facts of a lecture in a room that is already taken.
 fn occupancy<'i>(instance: &'i Instance, lecture: &Placed) -> ArrayVec<Fact<'i>, 8>
     requires { Fits instance.now lecture.now }
     ensures { result.items ≡ facts instance.now (Occupancy lecture.now) }
@@ -168,7 +168,7 @@ fn occupancy<'i>(instance: &'i Instance, lecture: &Placed) -> ArrayVec<Fact<'i>,
     facts
 }
 
-/// A lecture with more students than seats.
+/// Returns the facts of a lecture with more students than seats.
 fn capacity<'i>(instance: &'i Instance, lecture: &Placed, count: u64) -> ArrayVec<Fact<'i>, 8>
     requires { Fits instance.now lecture.now }
     ensures { result.items ≡ facts instance.now (Capacity lecture.now count) }
@@ -183,7 +183,7 @@ fn capacity<'i>(instance: &'i Instance, lecture: &Placed, count: u64) -> ArrayVe
     facts
 }
 
-/// Too few days of a course.
+/// Returns the facts of a course with too few days.
 fn days<'i>(
     instance: &'i Instance,
     number: CourseNo,
@@ -203,7 +203,7 @@ fn days<'i>(
     facts
 }
 
-/// A lecture that stands alone.
+/// Returns the facts of an isolated lecture.
 fn compactness<'i>(
     instance: &'i Instance,
     curriculum: CurriculumNo,
@@ -224,7 +224,7 @@ fn compactness<'i>(
     facts
 }
 
-/// Rooms of a course beyond the first.
+/// Returns the facts of a course with rooms beyond the first.
 fn stability<'i>(
     instance: &'i Instance,
     number: CourseNo,
@@ -242,7 +242,7 @@ fn stability<'i>(
     facts
 }
 
-/// What a finding says, in the order of its line.
+/// Returns the facts of a finding, at most eight, in the order of its line.
 pub fn facts<'i>(instance: &'i Instance, finding: &Finding) -> ArrayVec<Fact<'i>, 8>
     requires { FindingFits instance.now finding.now }
     ensures { result.items ≡ facts instance.now finding.now }

@@ -1,4 +1,4 @@
-//! What is found of each course by its lectures.
+//! Rules that are checked course by course.
 
 ghost use Rattle.std.specs.Prelude.{IfErr, OnOk};
 ghost use Rattle.ctt_text.specs.Timetable.{IsTimetable};
@@ -11,7 +11,7 @@ use crate::untold::Untold;
 use ctt_rules::{course_cost, course_row};
 use ctt_text::{CourseNo, Instance, Placed};
 
-/// What a course can break or cost by its lectures.
+/// A rule that is checked for each course by its lectures.
 pub(crate) trait OfCourse {
     ghost use Rattle.std.specs.Prelude.{◌≡◌, ◌<◌, ℕ, List, Option, IfSome};
     ghost use Rattle.ctt_text.specs.Problem.{Problem, course_count};
@@ -20,10 +20,10 @@ pub(crate) trait OfCourse {
     ghost use Rattle.ctt_findings.specs.Fitting.{FindingFits};
     ghost use Rattle.ctt_findings.specs.declared.finding.Finding.{Finding as Found};
 
-    /// What is found of a course with these lectures.
+    /// The finding for a course with these lectures, if there is one.
     ghost finding: { Problem → ℕ → List Lecture → Option Found };
 
-    /// What is found of a course.
+    /// Returns the finding for a course, if there is one.
     fn find(instance: &Instance, timetable: &[Placed], course: CourseNo) -> Option<Finding>
         requires timetable { IsTimetable instance.now timetable.now }
         requires course { course < course_count instance.now }
@@ -49,7 +49,7 @@ impl OfCourse for LectureCount {
     }
 }
 
-/// Too few days: five points for each that is missing.
+/// Too few working days: five points for each missing one.
 pub(crate) struct DayCount;
 
 impl OfCourse for DayCount {
@@ -68,7 +68,7 @@ impl OfCourse for DayCount {
     }
 }
 
-/// Rooms beyond the first: a point for each.
+/// Rooms beyond the first: one point for each.
 pub(crate) struct RoomCount;
 
 impl OfCourse for RoomCount {
@@ -85,7 +85,7 @@ impl OfCourse for RoomCount {
     }
 }
 
-/// Tells of what is found of the courses, one after another.
+/// Reports the findings on the courses, one course after another.
 pub(crate) fn tell_of_courses<K: OfCourse, L: Listener>(
     listener: &mut L,
     instance: &Instance,

@@ -1,4 +1,4 @@
-//! What a finding says, fact by fact.
+//! The facts of a finding.
 
 use ctt_line::Word;
 use std::marker::Model;
@@ -33,7 +33,7 @@ impl<'i> Fact<'i> {
     ghost use Rattle.ctt_findings.specs.Lines.{fact, number, text_of, word};
     ghost use Rattle.ctt_findings.specs.FactValues.{content_of};
 
-    /// A fact whose value is a text.
+    /// Creates a fact whose value is a text.
     pub fn text(key: &'static str, text: &'i str) -> Self
         ensures { result ≡ fact key.now (word text.now) }
     {
@@ -43,7 +43,7 @@ impl<'i> Fact<'i> {
         }
     }
 
-    /// A fact whose value is a number.
+    /// Creates a fact whose value is a number.
     pub fn number(key: &'static str, count: u64) -> Self
         ensures { result ≡ fact key.now (number count) }
     {
@@ -53,21 +53,21 @@ impl<'i> Fact<'i> {
         }
     }
 
-    /// The key.
+    /// Returns the key.
     pub fn key(&self) -> &'static str
         ensures { result.now ≡ self.now.key }
     {
         self.key
     }
 
-    /// The value.
+    /// Returns the value.
     pub fn value(&self) -> FactValue<'i>
         ensures { content_of result ≡ self.now.value }
     {
         self.value
     }
 
-    /// The value as a word of a line.
+    /// Returns the value as a word of a line.
     pub fn word(&self) -> Word<'i>
         ensures { result ≡ text_of self.now.value }
     {
@@ -79,7 +79,7 @@ impl<'i> Fact<'i> {
 }
 
 impl<'i> Default for Fact<'i> {
-    /// An empty word without a key.
+    /// Returns an empty text with an empty key.
     fn default() -> Self {
         Fact::text("", "")
     }

@@ -15,7 +15,7 @@ use ctt_text::Instance;
 use serde_json::{Map, Value};
 use std::alloc::{AllocError, Global};
 
-/// Adds the member of a fact.
+/// Adds a fact as a member.
 fn put_fact(
     alloc: Global,
     members: &mut Map<String, Value>,
@@ -30,7 +30,7 @@ fn put_fact(
     }
 }
 
-/// The object of facts.
+/// Builds the object of facts.
 fn object(alloc: Global, facts: &[Fact<'_>]) -> Result<Value, AllocError>
     ensures { IfOk result (λ value. view value ≡ object (with_facts facts.now no_members)) }
 {
@@ -57,15 +57,15 @@ fn push_object(
     text.push_str(value.to_string(alloc)?.as_str())
 }
 
-/// Adds a comma, if something stands before.
+/// Adds a comma, if another item precedes this one.
 fn push_comma(text: &mut String, later: bool) -> Result<(), AllocError>
     ensures { OnOk result (string_bytes text.new ≡ string_bytes text.old ++ comma_if later) }
 {
     if later { text.push(',') } else { Ok(()) }
 }
 
-/// Adds the text of a finding's object, with a comma before it if another one stands there: an item
-/// of an array, whose brackets the caller adds (`laws::items_are_an_array`).
+/// Adds the text of a finding's object, after a comma if another one precedes it. It is an item of
+/// an array, whose brackets the caller adds (`laws::items_are_an_array`).
 pub fn push_item(
     alloc: Global,
     text: &mut String,

@@ -16,7 +16,7 @@ use ctt_text::{Instance, NoMemory, Placed};
 use serde_json::{Map, Value};
 use std::alloc::{AllocError, Global};
 
-/// Adds the member of the lectures in barred rooms, if some room is barred.
+/// Adds the count of lectures in barred rooms, if any room is barred.
 fn put_barred(
     alloc: Global,
     report: &mut Map<String, Value>,
@@ -33,7 +33,7 @@ fn put_barred(
     }
 }
 
-/// Adds a member that is true or false.
+/// Adds a Boolean member.
 fn put_answer(
     alloc: Global,
     report: &mut Map<String, Value>,
@@ -46,7 +46,7 @@ fn put_answer(
     serde_json::put(report, alloc, key, Value::Bool(answer))
 }
 
-/// Adds how often the hard rules are broken. `barred` says whether some room is barred.
+/// Adds the hard counts. `barred` says whether any room is barred.
 fn put_hard(
     alloc: Global,
     report: &mut Map<String, Value>,
@@ -63,7 +63,7 @@ fn put_hard(
     put_barred(alloc, report, barred, hard.barred)
 }
 
-/// Adds what the timetable costs.
+/// Adds the four costs and their total.
 fn put_cost(alloc: Global, report: &mut Map<String, Value>, cost: &Cost) -> Result<(), AllocError>
     requires { total cost.now < 2 ^ 64 }
     ensures { OnOk result (members_view report.new.entries
@@ -76,7 +76,7 @@ fn put_cost(alloc: Global, report: &mut Map<String, Value>, cost: &Cost) -> Resu
     put_count(alloc, report, "total", cost.total())
 }
 
-/// The members of the report, without its findings.
+/// Builds the members of the report, without its findings.
 fn members(
     alloc: Global,
     name: &str,
@@ -97,7 +97,7 @@ fn members(
     Ok(report)
 }
 
-/// An object as one line.
+/// Returns an object as one line, which ends with a line feed.
 fn line(alloc: Global, members: Map<String, Value>) -> Result<Vec<u8>, AllocError>
     ensures { IfOk result (λ text. has_float (object (members_view members.entries)) ≡ false
         → text.items ≡ compact_text (object (members_view members.entries)) ++ codes "\n") }
@@ -107,7 +107,7 @@ fn line(alloc: Global, members: Map<String, Value>) -> Result<Vec<u8>, AllocErro
     Ok(text.into_bytes())
 }
 
-/// The report on a timetable as one line of JSON.
+/// Returns the report on a timetable as one line of JSON.
 pub fn report_json(
     alloc: Global,
     instance: &Instance,
@@ -122,7 +122,7 @@ pub fn report_json(
     Ok(line(alloc, report)?)
 }
 
-/// The report as one line of JSON, with an empty list of findings.
+/// Returns the report as one line of JSON, with an empty array of findings.
 fn without_findings(
     alloc: Global,
     name: &str,
@@ -140,15 +140,15 @@ fn without_findings(
     line(alloc, report)
 }
 
-/// Where the first list of a text begins.
+/// Returns the position of the first `[` in a text.
 fn first_list(text: &[u8]) -> Option<usize>
     ensures { result ≡ position is_bracket text.now }
 {
     text.iter().position(|byte| *byte == b'[')
 }
 
-/// The report on a timetable as one line of JSON with its findings, but for these: the text up to
-/// them, and the text after them.
+/// Returns the report on a timetable as one line of JSON, split within its array of findings: the
+/// text before the findings, and the text after them. The caller writes the findings in between.
 pub fn report_around(
     alloc: Global,
     instance: &Instance,
@@ -163,7 +163,7 @@ pub fn report_around(
     let barred = instance.has_barred();
     let assessment = assess(instance, timetable);
     let mut front = without_findings(alloc, instance.name(), barred, &assessment)?;
-    // Numbers and answers alone stand before the list of findings.
+    // Only numbers and Booleans precede the array of findings, so its bracket is the first.
     let place = first_list(&front).unwrap();
     let rest = front.split_off(place + 1)?;
     Ok((front, rest))

@@ -1,13 +1,14 @@
-//! Laws of findings, for the layers above. None of these functions computes anything.
+//! Laws of findings, for the crates above. None of these functions computes anything.
 
 ghost use Rattle.ctt_findings.specs.Laws.{FindingsAreCounted, ItemsAreAnArray};
 
-/// Of each kind, the number of the findings, or the sum of their points, is the report's count.
+/// Proves that the points of the findings of each kind add up to the report's count. Missing or
+/// surplus lectures count by their number, and any other broken hard rule as one.
 pub fn findings_are_counted()
     ensures { FindingsAreCounted }
 {}
 
-/// The texts of the objects of all findings, in brackets, are the text of one JSON array.
+/// Proves that the texts of the objects of all findings, in brackets, are the text of a JSON array.
 pub fn items_are_an_array()
     ensures { ItemsAreAnArray }
 {}

@@ -1,4 +1,4 @@
-//! What is found of each lecture by itself.
+//! Rules that are checked lecture by lecture.
 
 ghost use Rattle.std.specs.Prelude.{IfErr, OnOk, filter_map};
 ghost use Rattle.std.specs.List.{AllByRecursion as Each};
@@ -10,7 +10,7 @@ use crate::listener::{Listener, tell};
 use crate::untold::Untold;
 use ctt_text::{Instance, Placed};
 
-/// What a lecture can break or cost by itself.
+/// A rule that is checked for each lecture by itself.
 pub(crate) trait OfLecture {
     ghost use Rattle.std.specs.Prelude.{◌≡◌, Option, IfSome};
     ghost use Rattle.ctt_text.specs.Problem.{Problem};
@@ -19,10 +19,10 @@ pub(crate) trait OfLecture {
     ghost use Rattle.ctt_findings.specs.Fitting.{FindingFits};
     ghost use Rattle.ctt_findings.specs.declared.finding.Finding.{Finding as Found};
 
-    /// What is found of a lecture.
+    /// The finding for a lecture, if there is one.
     ghost finding: { Problem → Lecture → Option Found };
 
-    /// What is found of a lecture.
+    /// Returns the finding for a lecture, if there is one.
     fn find(instance: &Instance, lecture: &Placed) -> Option<Finding>
         requires { Fits instance.now lecture.now }
         ensures finding { result ≡ finding instance.now lecture.now }
@@ -61,7 +61,7 @@ impl OfLecture for BarredRoom {
     }
 }
 
-/// More students than the room has seats: a point for each student above.
+/// More students than the room has seats: one point for each student above.
 pub(crate) struct Overfull;
 
 impl OfLecture for Overfull {
@@ -79,7 +79,7 @@ impl OfLecture for Overfull {
     }
 }
 
-/// Tells of what is found of the lectures, one after another.
+/// Reports the findings on the lectures, one lecture after another.
 pub(crate) fn tell_of_lectures<K: OfLecture, L: Listener>(
     listener: &mut L,
     instance: &Instance,

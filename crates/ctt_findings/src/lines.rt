@@ -12,7 +12,7 @@ use ctt_line::Word;
 use ctt_text::Instance;
 use std::alloc::AllocError;
 
-/// The words of facts.
+/// Returns the values of facts as words of a line.
 fn words<'i>(facts: &ArrayVec<Fact<'i>, 8>) -> ArrayVec<Word<'i>, 8>
     ensures { result.items ≡ map text_of_fact facts.now.items }
 {
@@ -23,7 +23,7 @@ fn words<'i>(facts: &ArrayVec<Fact<'i>, 8>) -> ArrayVec<Word<'i>, 8>
     words
 }
 
-/// Adds the line of a finding: its kind, and what it says, by name.
+/// Adds the line of a finding: its kind, and its facts with names in place of numbers.
 pub fn push_line(
     text: &mut String,
     instance: &Instance,

@@ -1,4 +1,4 @@
-//! Who hears of findings.
+//! The receiver of findings.
 
 ghost use Rattle.std.specs.Prelude.{OnOk, IfErr, IfSome, option_to_list};
 ghost use Rattle.ctt_findings.specs.Fitting.{FindingFits};
@@ -8,26 +8,26 @@ use crate::finding::Finding;
 use crate::untold::Untold;
 use ctt_text::Instance;
 
-/// Hears of findings, one after another, such as one that writes them.
+/// A receiver of findings, which come one at a time: for example, one that writes them.
 pub trait Listener {
     ghost use Rattle.ctt_text.specs.Problem.{Problem};
     ghost use Rattle.ctt_findings.specs.declared.finding.Finding.{Finding as Found};
     ghost use Rattle.ctt_findings.specs.declared.untold.Untold.{Untold as Fault};
 
-    /// What a finding of an instance makes of it.
+    /// How a finding of an instance changes the listener.
     ghost hears: { Problem → Self → Found → Self → Type 0 };
 
-    /// What a fault makes of it.
+    /// How a fault changes the listener.
     ghost fails: { Fault → Self → Self → Type 0 };
 
-    /// Hears of a finding.
+    /// Receives a finding.
     fn hear(&mut self, instance: &Instance, finding: &Finding) -> Result<(), Untold>
         requires { FindingFits instance.now finding.now }
         ensures heard { OnOk result (hears instance.now self.old finding.now self.new) }
         ensures failed { IfErr result (λ fault. fails fault self.old self.new) };
 }
 
-/// Tells a finding, if there is one.
+/// Reports a finding, if there is one.
 #[inline(always)]
 pub(crate) fn tell<L: Listener>(
     listener: &mut L,

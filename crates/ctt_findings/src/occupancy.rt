@@ -1,4 +1,4 @@
-//! The lectures in rooms that are taken.
+//! The lectures in rooms that are already taken.
 
 ghost use Rattle.std.specs.Prelude.{◌≡◌, ◌<◌, ◌==◌, ◌&&◌, ◌||◌, [], ℕ, false, length, IfOk, IfErr, OnOk};
 ghost use Rattle.ctt_text.specs.Timetable.{IsTimetable};
@@ -28,7 +28,7 @@ impl Model for TakenRooms {
 }
 
 impl TakenRooms {
-    /// No room is taken in any of so many slots.
+    /// Creates a table of `slots` slots, in which no room is taken.
     fn new(alloc: Global, slots: u16) -> Result<Self, NoMemory>
         ensures size { IfOk result (λ taken. length taken ≡ slots) }
         ensures none { IfOk result (λ taken. (s r : ℕ) → in_row taken s r ≡ false) }
@@ -37,7 +37,7 @@ impl TakenRooms {
         Ok(TakenRooms { slots })
     }
 
-    /// Takes the room of a lecture in its slot, and answers whether it was taken before.
+    /// Takes the room of a lecture in its slot, and returns whether it was already taken.
     fn take(&mut self, lecture: &Placed) -> bool
         requires slot { lecture.now.slot < length self.old }
         requires room { lecture.now.room < 2000 }
@@ -50,7 +50,7 @@ impl TakenRooms {
     }
 }
 
-/// A lecture in a room that is taken, or is not.
+/// Returns a finding for a lecture, if its room is taken.
 fn occupancy(taken: bool, lecture: &Placed) -> Option<Finding>
     ensures { result ≡ occupancy_finding taken lecture.now }
 {
@@ -60,7 +60,7 @@ fn occupancy(taken: bool, lecture: &Placed) -> Option<Finding>
     Some(Finding::Occupancy(*lecture))
 }
 
-/// Tells of the lectures in rooms that an earlier one has in the slot.
+/// Reports the lectures in rooms that an earlier lecture takes in the same slot.
 pub(crate) fn tell_occupancy<L: Listener>(
     alloc: Global,
     listener: &mut L,

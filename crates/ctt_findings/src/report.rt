@@ -11,7 +11,7 @@ use ctt_rules::{Assessment, assess};
 use ctt_text::{Instance, NoMemory, Placed};
 use std::alloc::{AllocError, Global};
 
-/// Adds a line of a key and what is said of it.
+/// Adds a line with a key and its value.
 fn push_entry(report: &mut String, key: &str, value: Word<'_>) -> Result<(), AllocError>
     ensures { OnOk result (string_bytes report.new
         ≡ string_bytes report.old ++ line key.now value.entry) }
@@ -19,7 +19,7 @@ fn push_entry(report: &mut String, key: &str, value: Word<'_>) -> Result<(), All
     push_line(report, &[Word::text(key), value])
 }
 
-/// Adds the line of the lectures in barred rooms, if some room is barred.
+/// Adds the line with the count of lectures in barred rooms, if any room is barred.
 fn push_barred(report: &mut String, barred: bool, count: u64) -> Result<(), AllocError>
     ensures { OnOk result (string_bytes report.new
         ≡ string_bytes report.old ++ barred_line barred count) }
@@ -31,7 +31,7 @@ fn push_barred(report: &mut String, barred: bool, count: u64) -> Result<(), Allo
     }
 }
 
-/// Yes or no, as a word.
+/// Returns yes or no as a word.
 fn answer(yes: bool) -> Word<'static>
     ensures { result ≡ answer_word yes }
 {
@@ -42,7 +42,7 @@ fn answer(yes: bool) -> Word<'static>
     }
 }
 
-/// The report as text. `barred` says whether some room is barred.
+/// Returns the report as text. `barred` says whether any room is barred.
 fn text(
     alloc: Global,
     name: &str,
@@ -77,7 +77,7 @@ fn text(
     Ok(report)
 }
 
-/// The report on a timetable as lines of text: twelve, and one more where some room is barred.
+/// Returns the report on a timetable as lines of text: twelve, and one more if any room is barred.
 pub fn report_text(
     alloc: Global,
     instance: &Instance,

@@ -1,4 +1,4 @@
-//! The rows of all courses, each found once.
+//! The rows of all courses, each looked up once.
 
 ghost use Rattle.std.specs.Prelude.{◌≡◌, IfOk};
 ghost use Rattle.std.specs.List.{AllByRecursion as Each};
@@ -29,7 +29,7 @@ impl<'t> Model for Rows<'t> {
 }
 
 impl<'t> Rows<'t> {
-    /// The rows of a timetable.
+    /// Looks up the rows of all courses in a timetable.
     pub(crate) fn of(
         alloc: Global,
         instance: &Instance,
@@ -45,7 +45,7 @@ impl<'t> Rows<'t> {
         Ok(Rows { timetable, rows })
     }
 
-    /// The lectures of a course. One beyond those of the instance has none.
+    /// Returns the lectures of a course. A course that the instance does not have has none.
     pub(crate) fn row(&self, instance: &Instance, course: CourseNo) -> &'t [Placed]
         requires { IsTimetable instance.now self.now }
         ensures row { result.now ≡ course_row course self.now }

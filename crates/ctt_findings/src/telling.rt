@@ -15,7 +15,7 @@ use crate::untold::Untold;
 use ctt_text::{Instance, Placed};
 use std::alloc::Global;
 
-/// Tells of what breaks the hard rules.
+/// Reports what breaks the hard rules.
 fn tell_hard<L: Listener>(
     alloc: Global,
     listener: &mut L,
@@ -35,7 +35,7 @@ fn tell_hard<L: Listener>(
     tell_of_lectures::<BarredRoom, L>(listener, instance, timetable)
 }
 
-/// Tells of what costs points.
+/// Reports what costs points.
 fn tell_soft<L: Listener>(
     alloc: Global,
     listener: &mut L,
@@ -54,11 +54,12 @@ fn tell_soft<L: Listener>(
     tell_of_courses::<RoomCount, L>(listener, instance, timetable)
 }
 
-/// Tells a listener of all that is wrong with a timetable and of all that costs points, each thing once, as
-/// it is found: the kinds in the order of the report, and within each kind by course, slot and room, but
-/// the lectures that stand alone curriculum by curriculum.
+/// Reports to a listener everything in a timetable that breaks a hard rule or costs points, each
+/// finding once, as soon as it is found.
 ///
-/// The memory that it takes does not depend on how much is found.
+/// The kinds come in the order of the report. Within a kind findings are sorted by course and slot:
+/// conflicts by both courses first, and isolated lectures by curriculum first. Memory use does not
+/// depend on the number of findings.
 pub fn tell_findings<L: Listener>(
     alloc: Global,
     listener: &mut L,

@@ -1,14 +1,14 @@
-//! Why findings were not all told.
+//! Why not all findings were reported.
 
 use ctt_text::NoMemory;
 use std::alloc::AllocError;
 
-/// Why a finding was not told.
+/// Why a finding was not reported.
 #[derive(Clone, Copy, PartialEq, Eq)]
 pub enum Untold {
-    /// There is not enough memory.
+    /// Memory ran out.
     NoMemory,
-    /// The listener has failed.
+    /// The listener failed.
     Failed,
 }
 

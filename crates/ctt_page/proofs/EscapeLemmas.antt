@@ -1,4 +1,4 @@
--- Text of a page, character by character.
+-- Text as HTML, character by character.
 use Rattle.std.proofs.Common.{◌≡◌, ℕ, Bool, true, false, ◌==◌, ◌||◌, List, [], ◌∷◌, ◌++◌, length, get_or, chars, codes, encode_utf8, flat_map, IsUtf8, refl, sym, ap, ap₂, ◌∙◌, arith, inl, inr}
 use Rattle.std.specs.List.{list_any}
 use Rattle.std.proofs.StrCases.{chars_of_empty}
@@ -21,7 +21,7 @@ text_empty f text none = ap (λ cs. flat_map f cs) (chars_of_empty text none)
 abbrev is_tag : ℕ → Bool
 is_tag b = b == 60
 
--- a character that is another one has no such byte
+-- a character other than `<` has no such byte
 other_char : (c : ℕ) → (c == 60) ≡ false → list_any is_tag (encode_utf8 c) ≡ false
 other_char c other = list_any_none is_tag (encode_utf8 c) (λ k d lt. elim (cases_Bool (is_tag (get_or (encode_utf8 c) k d))) [
   | inl y ↦ (
@@ -61,12 +61,12 @@ pub names_have_none : NamesHoldNoTag
 unfolding escaped
 names_have_none name = all_have_none (chars name)
 
--- a character that is no blank, and all of a word
+-- a character that is not a blank, and a word without blanks
 plain_char : (c : ℕ) → (c == 32) ≡ false → line_char c ≡ escaped_char c
 unfolding line_char
 plain_char c other = rw other refl
 
--- whether one of two is so
+-- if neither of two tests holds, each of them fails
 none_first : (a b : Bool) → (a || b) ≡ false → a ≡ false
 none_first true b h = h
 none_first false b h = refl
@@ -85,7 +85,7 @@ unfolding escaped words_apart
 words_are_escaped word rest utf8 none =
     ap (λ cs. flat_map line_char cs) (chars-append word rest utf8) ∙ flat_map-append line_char (chars word) (chars rest) ∙ ap (λ xs. xs ++ flat_map line_char (chars rest)) (plain_chars (chars word) none)
 
--- what is put in place of a character
+-- what replaces each character
 pub and_is : escaped_char 38 ≡ codes "&amp;"
 unfolding escaped_char
 and_is = refl

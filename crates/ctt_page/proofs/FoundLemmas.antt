@@ -1,4 +1,4 @@
--- What was written of findings, by what was heard of them.
+-- The text that a listener has written, by the findings that it has heard.
 use Rattle.std.proofs.Common.{◌≡◌, ℕ, List, [], ◌∷◌, ◌++◌, ◌∙◌, sym, ap, ap₂, append_assoc, append-nil}
 use Rattle.std.specs.List.{flat_map}
 use Rattle.ctt_findings.specs.Hearing.{Hears}

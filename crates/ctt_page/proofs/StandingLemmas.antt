@@ -16,7 +16,7 @@ use Rattle.ctt_page.specs.declared.grid.Grid.{Grid}
 use Rattle.ctt_page.specs.declared.grid.Grid.TheVariants.{Curriculum, Room, Teacher}
 use Rattle.ctt_page.proofs.WeekLemmas.{row_at}
 
--- one filter behind another
+-- one filter after another
 filter_both : {X : Type 0} (p q : X → Bool) (xs : List X) → filter p (filter q xs) ≡ filter (λ x. q x && p x) xs
 filter_both p q [] = refl
 filter_both p q (x ∷ xs) = elim (cases_Bool (q x)) [
@@ -24,7 +24,7 @@ filter_both p q (x ∷ xs) = elim (cases_Bool (q x)) [
   | inr n ↦ rw n (filter_both p q xs)
 ]
 
--- what is not kept is not counted, where all that is counted is kept; and the other way round
+-- if all that is counted passes, what does not pass is not counted; and the reverse
 not_kept : (a b : Bool) → (a ≡ true → b ≡ true) → b ≡ false → a ≡ false
 not_kept true b h n = let z : true ≡ false = sym (h refl) ∙ n in cc
 not_kept false b h n = refl
@@ -60,14 +60,14 @@ module _ {X : Type 0} (p q : X → Bool) where
   counted true h xs = kept h xs
   counted false h xs = dropped h xs
 
--- a lecture is another one
+-- two lectures are the same
 abbrev is_same : Placed → Placed → Bool
 is_same l m = m.course == l.course && (m.slot == l.slot && m.room == l.room)
 
 parts : (a b c d e f : ℕ) → (a == b && (c == d && e == f)) ≡ true → (a ≡ b) × (c ≡ d) × (e ≡ f)
 parts a b c d e f h = (grind (arith, nat_tests), grind (arith, nat_tests), grind (arith, nat_tests))
 
--- so it stands in the same grids, in the same slot
+-- the same lectures belong to the same grids and slots
 same_place : (i : Problem) (g : Grid) (s : ℕ) (l m : Placed) → is_same l m ≡ true → (m.slot == s && is_of i g m) ≡ (l.slot == s && is_of i g l)
 same_place i g s l m h =
     let p = parts m.course l.course m.slot l.slot m.room l.room h in
@@ -78,7 +78,7 @@ same_place i g s l m h =
     by (Teacher n) c r = ap (λ k. (course_of i k).teacher == n) c
     by (Room k) c r = ap (λ n. n == k) r
 
--- in a timetable a lecture stands once
+-- a lecture occurs once in a timetable
 none_behind : (l x : Placed) (xs : List Placed) → is_same l x ≡ true → Each (λ y. before x y ≡ true) xs → times l xs ≡ 0
 none_behind l x [] e h = refl
 none_behind l x (y ∷ ys) e h =

@@ -9,7 +9,7 @@ use Rattle.ctt_page.specs.GridTexts.{each_below}
 pub each_more : (f : ℕ → List ℕ) (n : ℕ) → each_below f (n + 1) ≡ each_below f n ++ f n
 each_more f n = rw add-one refl
 
--- the text of a number more
+-- the text with one more number
 pub goes_on : (f : ℕ → List ℕ) (n : ℕ) (old now new piece : List ℕ) → now ≡ old ++ each_below f n → new ≡ now ++ piece → piece ≡ f n → new ≡ old ++ each_below f (n + 1)
 goes_on f n old now new piece so_far more is =
     more ∙ ap (λ xs. xs ++ piece) so_far ∙ append_assoc old (each_below f n) piece ∙ ap (λ xs. old ++ (each_below f n ++ xs)) is ∙ ap (λ xs. old ++ xs) (sym (each_more f n))
@@ -24,21 +24,21 @@ module _ {X : Type 0} (p : X → Bool) (f : X → List ℕ) (xs : List X) (k : �
       ap (flat_map f) (filter_more p xs k x lt ∙ ap (λ y. filter p (take k xs) ++ cond (p y) (y ∷ []) []) (sym at))
       ∙ flat_map-append f (filter p (take k xs)) (cond (p x) (x ∷ []) []) ∙ ap (λ ys. flat_map f (filter p (take k xs)) ++ ys) (one (p x))
 
-  -- the text of an element more, if it passes
+  -- the text with one more element, if it passes
   pub passes_on : (old now new : List ℕ) → now ≡ old ++ flat_map f (filter p (take k xs)) → new ≡ now ++ cond (p x) (f x) [] → new ≡ old ++ flat_map f (filter p (take (k + 1) xs))
   passes_on old now new so_far more =
       more ∙ ap (λ ys. ys ++ cond (p x) (f x) []) so_far ∙ append_assoc old (flat_map f (filter p (take k xs))) (cond (p x) (f x) []) ∙ ap (λ ys. old ++ ys) (sym next)
 
--- the same text, where a piece is another's
+-- a text in which a piece is replaced by an equal one
 pub piece_is : {T E : Type 0} (r : Result T E) (old new more other : List ℕ) → more ≡ other → OnOk r (new ≡ old ++ more) → OnOk r (new ≡ old ++ other)
 piece_is r old new more other e h = subst (λ piece. OnOk r (new ≡ old ++ piece)) e h
 
--- a text of seven pieces, and one behind it
+-- a text of seven pieces, followed by one more
 pub one_behind : (a b c d e f g z : List ℕ) → (a ++ (b ++ (c ++ (d ++ (e ++ (f ++ g)))))) ++ z ≡ a ++ (b ++ (c ++ (d ++ (e ++ (f ++ (g ++ z))))))
 one_behind a b c d e f g z =
     append_assoc a _ z ∙ ap (λ xs. a ++ xs) (append_assoc b _ z ∙ ap (λ xs. b ++ xs) (append_assoc c _ z ∙ ap (λ xs. c ++ xs) (append_assoc d _ z ∙ ap (λ xs. d ++ xs) (append_assoc e _ z ∙ ap (λ xs. e ++ xs) (append_assoc f g z)))))
 
--- an element that passes, one more that does not, and none at all
+-- some element passes, and none passes with one more that does not
 pub any_here : {X : Type 0} (p : X → Bool) (xs : List X) (k : ℕ) (x : X) → k < length xs → x ≡ get_or xs k x → p x ≡ true → list_any p xs ≡ true
 any_here p xs k x lt at e = list_any_at p xs k x lt (ap p (sym at) ∙ e)
 
@@ -54,7 +54,7 @@ five_pieces p q r s t u a b c d e h0 h1 h2 h3 h4 h5 =
     let fourth : t ≡ a ++ (b ++ (c ++ d)) = h4 ∙ ap (λ xs. xs ++ d) third ∙ append_assoc a (b ++ c) d ∙ ap (λ xs. a ++ xs) (append_assoc b c d) in
     h5 ∙ ap (λ xs. xs ++ e) fourth ∙ append_assoc a (b ++ (c ++ d)) e ∙ ap (λ xs. a ++ xs) (append_assoc b (c ++ d) e ∙ ap (λ xs. b ++ xs) (append_assoc c d e))
 
--- the last piece, if all goes well, and pieces before it
+-- the last of several pieces, if it is added without a fault
 pub on_ok : {T E : Type 0} (r : Result T E) (old new t : List ℕ) → new ≡ (if is_ok r then old ++ t else old) → OnOk r (new ≡ old ++ t)
 on_ok (Ok x) old new t h = h
 on_ok (Err x) old new t h = tt

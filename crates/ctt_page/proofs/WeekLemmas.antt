@@ -26,7 +26,7 @@ row_at (suc n) t s lt = elim (cases_eq s n) [
       get_or_append_left (by_slot n t) (slot_row n t ∷ []) [] s (omega (arith, less, length_by_slot n t)) ∙ row_at n t s less)
 ]
 
--- rows that are those of the slots are all of them
+-- rows that are those of each slot are the whole week
 pub by_slot_is : (rows : List (List Placed)) (n : ℕ) (t : List Placed) → length rows ≡ n → ((s : ℕ) → s < n → get_or rows s [] ≡ slot_row s t) → rows ≡ by_slot n t
 by_slot_is rows n t size each =
     same_lists rows (by_slot n t) (size ∙ sym (length_by_slot n t))
@@ -42,7 +42,7 @@ rows_fit i t (suc n) h = Each-append (Each (Fits i)) (by_slot n t) (slot_row n t
 pub week_fits : (i : Problem) (t : List Placed) → Each (Fits i) t → WeekFits i (by_slot (slot_count i) t)
 week_fits i t h = record { size = length_by_slot (slot_count i) t; fits = rows_fit i t (slot_count i) h }
 
--- what is read from a list of values that have lists
+-- a row that is looked up in a list of values that hold lists
 pub row_read : {V : Type 0} (items : V → List Placed) (values : List V) (rows : List (List Placed)) (k s : ℕ) (x : V) (row : List Placed)
     → map items values ≡ rows → k ≡ s → s < length rows → x ≡ get_or values k x → row ≡ items x → row ≡ lectures_in rows s
 row_read items values rows k s x row e same lt is value =
@@ -52,7 +52,7 @@ row_read items values rows k s x row e same lt is value =
 pub row_fits : (i : Problem) (w : List (List Placed)) (s : ℕ) (row : List Placed) → WeekFits i w → s < slot_count i → row ≡ lectures_in w s → Each (Fits i) row
 row_fits i w s row h lt is = rw is (Each-at (Each (Fits i)) w h.fits s [] (omega (arith, lt, h.size)))
 
--- a lecture more, in its slot
+-- the row of a slot with one more lecture
 row_more : (t : List Placed) (k : ℕ) (x : Placed) (s : ℕ) → k < length t → x ≡ get_or t k x → slot_row s (take (k + 1) t) ≡ slot_row s (take k t) ++ cond (x.slot == s) (x ∷ []) []
 row_more t k x s lt at = filter_more (λ (l : Placed). l.slot == s) t k x lt ∙ ap (λ (y : Placed). slot_row s (take k t) ++ cond (y.slot == s) (y ∷ []) []) (sym at)
 

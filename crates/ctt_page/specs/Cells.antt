@@ -1,4 +1,4 @@
--- The cells of grids, and the lectures that stand in them.
+-- The cells of grids, and the lectures in them.
 use Rattle.std.specs.Prelude.{ℕ, ◌++◌, List, [], Some, codes, cond, filter, flat_map, slice_index_or}
 use Rattle.ctt_text.specs.Problem.{Problem}
 use Rattle.ctt_text.specs.declared.placed.Placed.{Placed}
@@ -16,15 +16,15 @@ names_text i l = codes "<p><bdi>"
     ++ (escaped (slice_index_or i.room_names l.room [])
     ++ codes "</bdi></small>")))
 
--- a lecture as it stands in a grid: its names and its signs
+-- a lecture as a grid shows it: its names and its signs
 unfoldable pub lecture_text : Problem → List (List Placed) → Grid → Placed → List ℕ
 lecture_text i w g l = names_text i l ++ (signs i w g l ++ codes "</p>")
 
--- a lecture, if it stands in the grid
+-- a lecture, if it belongs to the grid
 abbrev pub shown_text : Problem → List (List Placed) → Grid → Placed → List ℕ
 shown_text i w g l = cond (is_of i g l) (lecture_text i w g l) []
 
--- the lectures of the cell of a slot: those in the slot that stand in the grid
+-- the lectures of the cell of a slot: those in the slot that belong to the grid
 abbrev pub cell_lectures : Problem → List (List Placed) → Grid → ℕ → List Placed
 cell_lectures i w g s = filter (is_of i g) (lectures_in w s)
 

@@ -1,7 +1,7 @@
--- Text of a page.
+-- Text as HTML.
 use Rattle.std.specs.Prelude.{ℕ, ◌==◌, List, chars, codes, encode_utf8, flat_map, if◌then◌else◌}
 
--- a character; one that has a meaning in HTML goes by its name
+-- a character; one that has a meaning in HTML becomes a character reference
 unfoldable pub escaped_char : ℕ → List ℕ
 escaped_char c = if c == 38 then codes "&amp;"
     else if c == 60 then codes "&lt;"
@@ -10,14 +10,15 @@ escaped_char c = if c == 38 then codes "&amp;"
     else if c == 39 then codes "&#39;"
     else encode_utf8 c
 
--- a text, character by character
+-- a text, escaped character by character
 unfoldable pub escaped : List ℕ → List ℕ
 escaped text = flat_map escaped_char (chars text)
 
--- a character of a line: at a blank the element of a word ends, and that of the next one begins
+-- a character of a line; a blank closes the element of a word, and opens that of the next
 unfoldable pub line_char : ℕ → List ℕ
 line_char c = if c == 32 then codes "</bdi> <bdi>" else escaped_char c
 
--- a line within such an element, so that no word turns the direction of another
+-- the content of an element that holds a line; each word has an element of its own, so that none
+-- affects the direction of another
 unfoldable pub words_apart : List ℕ → List ℕ
 words_apart line = flat_map line_char (chars line)

@@ -9,7 +9,7 @@ use Rattle.ctt_page.specs.Grids.{grid_id, name_of, word_of}
 use Rattle.ctt_page.specs.declared.grid.Grid.{Grid}
 use Rattle.ctt_page.specs.declared.grid.Grid.TheVariants.{Curriculum, Room, Teacher}
 
--- the texts of the numbers below n, one behind another
+-- the texts for the numbers below n, one after another
 abbrev pub each_below : (ℕ → List ℕ) → ℕ → List ℕ
 each_below f zero = []
 each_below f (suc n) = each_below f n ++ f n
@@ -18,14 +18,15 @@ each_below f (suc n) = each_below f n ++ f n
 unfoldable pub day_head : ℕ → List ℕ
 day_head d = codes "<th scope='col'>day " ++ (decimal d ++ codes "</th>")
 
--- the line of a period: a cell for each day
+-- the head of the line of a period
 abbrev pub line_start : ℕ → List ℕ
 line_start p = codes "<tr><th scope='row'>" ++ (decimal p ++ codes "</th>")
 
+-- the line of a period: a cell for each day
 unfoldable pub line : Problem → List (List Placed) → Grid → ℕ → List ℕ
 line i w g p = line_start p ++ (each_below (λ d. cell i w g (slot_of i d p)) i.days ++ codes "</tr>\n")
 
--- the beginning of a grid: what it is of, and the first field of the line of the days
+-- the beginning of a grid: its heading, and the first cell of the line of days
 unfoldable pub grid_start : Problem → Grid → List ℕ
 grid_start i g = codes "<section><h3 id='"
     ++ (grid_id g
@@ -53,6 +54,7 @@ teacher_grids i w = each_below (λ n. grid_text i w (Teacher n)) (teacher_count 
 abbrev pub room_grids : Problem → List (List Placed) → List ℕ
 room_grids i w = each_below (λ r. grid_text i w (Room r)) (room_count i)
 
+-- all grids, with a heading for each kind
 unfoldable pub grids : Problem → List (List Placed) → List ℕ
 grids i w = codes "<h2 id='curricula'>Curricula</h2>\n"
     ++ (curriculum_grids i w

@@ -10,20 +10,21 @@ use Rattle.ctt_page.specs.Grids.{is_of}
 use Rattle.ctt_page.specs.Weeks.{by_slot}
 use Rattle.ctt_page.specs.declared.grid.Grid.{Grid}
 
--- no `<` stands in what is made of a name
+-- an escaped name has no `<`
 abbrev pub NamesHoldNoTag : Type 0
 NamesHoldNoTag = (name : List ℕ) → list_any (λ b. b == 60) (escaped name) ≡ false
 
--- within a line a word, which has no blank, is as the escape makes it, whatever follows
+-- within a line, a word without blanks is escaped like a name, whatever follows
 abbrev pub WordsAreEscaped : Type 0
 WordsAreEscaped = (word rest : List ℕ) → IsUtf8 word → list_any (λ c. c == 32) (chars word) ≡ false → words_apart (word ++ rest) ≡ escaped word ++ words_apart rest
 
--- how often a lecture stands in a list
+-- how often a lecture occurs in a list
 abbrev pub times : Placed → List Placed → ℕ
 times l ls = count_by (λ m. m.course == l.course && (m.slot == l.slot && m.room == l.room)) ls
 
--- the cell of a slot in a grid has the timetable's lectures in the slot that stand in the grid; a lecture
--- stands as often in the cell of its slot as in the timetable, at most once, and in no other cell of the grid
+-- the cell of a slot in a grid has the timetable's lectures in the slot that belong to the grid;
+-- such a lecture occurs as often in the cell of its slot as in the timetable, at most once, and in
+-- no other cell of the grid
 pub record StandsOnce (i : Problem) (t : List Placed) (g : Grid) (s : ℕ) : Type 0 where
   pub lectures : cell_lectures i (by_slot (slot_count i) t) g s ≡ filter (λ m. m.slot == s && is_of i g m) t
   pub standing : (l : Placed) → times l (cell_lectures i (by_slot (slot_count i) t) g s) ≡ cond (l.slot == s && is_of i g l) (times l t) 0

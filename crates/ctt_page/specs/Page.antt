@@ -11,8 +11,8 @@ use Rattle.ctt_page.specs.Sections.{sections}
 use Rattle.ctt_page.specs.Style.{style}
 use Rattle.ctt_page.specs.Weeks.{by_slot}
 
--- what stands before the report: what a browser has to know, the name of the instance, how the page looks,
--- and links to the parts of the page
+-- what precedes the report: the HTML head with the style, the name of the instance, and links to
+-- the parts of the page
 unfoldable pub page_head : List ℕ → List ℕ → List ℕ
 page_head look name = codes "<!DOCTYPE html>\n<html lang='en'><head><meta charset='utf-8'>\n<meta name='viewport' content='width=device-width, initial-scale=1'>\n<title>"
     ++ (escaped name
@@ -22,7 +22,7 @@ page_head look name = codes "<!DOCTYPE html>\n<html lang='en'><head><meta charse
     ++ (escaped name
     ++ codes "</bdi></h1>\n<nav><a href='#report'>Report</a> <a href='#findings'>Findings</a> <a href='#curricula'>Curricula</a> <a href='#teachers'>Teachers</a> <a href='#rooms'>Rooms</a></nav>\n")))))
 
--- the page, of a timetable that is lawful or not, and complete or not
+-- the page of a timetable; the Booleans say whether it is lawful and whether it is complete
 unfoldable pub page : Bool → Bool → Problem → List Placed → List ℕ
 page lawful complete i t = page_head style i.name
     ++ (report (has_barred i) (hard_counts i t) (penalty i t) lawful complete
@@ -30,7 +30,7 @@ page lawful complete i t = page_head style i.name
     ++ (grids i (by_slot (slot_count i) t)
     ++ codes "</body></html>\n")))
 
--- the bytes are the page, with the two judgements on the timetable
+-- the bytes are the page of the timetable
 pub record IsPage (i : Problem) (t : List Placed) (bytes : List ℕ) : Type 0 where
   pub lawful : Bool
   pub complete : Bool

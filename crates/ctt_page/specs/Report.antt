@@ -5,11 +5,11 @@ use Rattle.ctt_rules.specs.Penalty.{total}
 use Rattle.ctt_rules.specs.declared.cost.Cost.{Cost}
 use Rattle.ctt_rules.specs.declared.hard.Hard.{Hard}
 
--- a line: what is said of, and what is said
+-- a line with a key and its value
 unfoldable pub row : List ℕ → List ℕ → List ℕ
 row key text = codes "<tr><th scope='row'>" ++ (key ++ (codes "</th><td>" ++ (text ++ codes "</td></tr>\n")))
 
--- the line of a count, with the sign of its kind and a link to what was found, if there is some
+-- the line of a count; if it is not zero, it has the sign of its kind and links to the findings
 unfoldable pub count_row : List ℕ → List ℕ → List ℕ → ℕ → List ℕ
 count_row key kind sign count = row key (if count == 0 then codes "0"
     else codes "<a href='#" ++ (kind ++ (codes "'>" ++ (sign ++ (codes " " ++ (decimal count ++ codes "</a>"))))))
@@ -20,12 +20,12 @@ total_row count = row (codes "total") (decimal count)
 unfoldable pub answer_row : List ℕ → Bool → List ℕ
 answer_row key answer = row key (if answer then codes "yes" else codes "<b>&#10007; no</b>")
 
--- the line of the lectures in barred rooms, where some room is barred
+-- the line with the count of lectures in barred rooms, if any room is barred
 unfoldable pub barred_row : Bool → ℕ → List ℕ
 barred_row true count = count_row (codes "barred") (codes "barred") (codes "&#9632;") count
 barred_row false count = []
 
--- how often the hard rules are broken
+-- the lines of the hard counts
 unfoldable pub hard_rows : Bool → Hard → List ℕ
 hard_rows barred hard = count_row (codes "lectures") (codes "lectures") (codes "&#9661;") hard.lectures
     ++ (count_row (codes "conflicts") (codes "conflict") (codes "&#9650;") hard.conflicts
@@ -33,7 +33,7 @@ hard_rows barred hard = count_row (codes "lectures") (codes "lectures") (codes "
     ++ (count_row (codes "occupancy") (codes "occupancy") (codes "&#9670;") hard.occupancy
     ++ barred_row barred hard.barred)))
 
--- what the timetable costs
+-- the lines of the four costs and their total
 unfoldable pub cost_rows : Cost → List ℕ
 cost_rows cost = count_row (codes "capacity") (codes "capacity") (codes "&#9679;") cost.capacity
     ++ (count_row (codes "days") (codes "days") (codes "&#9651;") cost.days
@@ -41,7 +41,8 @@ cost_rows cost = count_row (codes "capacity") (codes "capacity") (codes "&#9679;
     ++ (count_row (codes "stability") (codes "stability") (codes "&#9671;") cost.stability
     ++ total_row (total cost))))
 
--- the report, where some room is barred or none is
+-- the report; the Booleans say whether any room is barred, whether the timetable is lawful, and
+-- whether it is complete
 unfoldable pub report : Bool → Hard → Cost → Bool → Bool → List ℕ
 report barred hard cost lawful complete = codes "<h2 id='report'>Report</h2><table>\n"
     ++ (hard_rows barred hard

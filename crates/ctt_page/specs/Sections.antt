@@ -1,4 +1,4 @@
--- The findings, kind by kind, each with a link to its cell.
+-- The findings, kind by kind, each with a link to its grid or cell.
 use Rattle.std.specs.Prelude.{ℕ, ◌++◌, List, [], Option, Some, None, codes, flat_map, if◌then◌else◌}
 use Rattle.std.specs.Str.{bytes_eq}
 use Rattle.ctt_text.specs.Problem.{Problem, course_of}
@@ -14,7 +14,7 @@ use Rattle.ctt_page.specs.Grids.{place_id}
 use Rattle.ctt_page.specs.declared.grid.Grid.{Grid}
 use Rattle.ctt_page.specs.declared.grid.Grid.TheVariants.{Curriculum, Room, Teacher}
 
--- the word by which the kind of a finding is known
+-- the word that names the kind of a finding
 abbrev pub kind_word : Finding → List ℕ
 kind_word (Lectures c placed stated) = codes "lectures"
 kind_word (Conflict c d s why) = codes "conflict"
@@ -31,7 +31,7 @@ abbrev pub cause_grid : Cause → Grid
 cause_grid (HasTeacher n) = Teacher n
 cause_grid (HasCurriculum q) = Curriculum q
 
--- the grid in which a finding is seen: for a course as such its teacher's
+-- the grid that shows a finding; for one on a course as a whole it is that of its teacher
 abbrev pub grid_at : Problem → Finding → Grid
 grid_at i (Lectures c placed stated) = Teacher (course_of i c).teacher
 grid_at i (Conflict c d s why) = cause_grid why
@@ -43,7 +43,7 @@ grid_at i (Days c days minimum n) = Teacher (course_of i c).teacher
 grid_at i (Compactness q l n) = Curriculum q
 grid_at i (Stability c rooms n) = Teacher (course_of i c).teacher
 
--- the slot in which it is seen; one of a course as such has none
+-- the slot of a finding; one on a course as a whole has none
 abbrev pub slot_at : Finding → Option ℕ
 slot_at (Lectures c placed stated) = None
 slot_at (Conflict c d s why) = Some s
@@ -63,7 +63,7 @@ link g s text = codes "<li><a href='#"
     ++ (words_apart text
     ++ codes "</bdi></a></li>\n")))
 
--- a finding: its line, as a link to where it is seen
+-- a finding: its line, as a link to the grid or cell that shows it
 unfoldable pub finding_item : Problem → Finding → List ℕ
 finding_item i f = link (grid_at i f) (slot_at f) (line i f)
 
@@ -71,7 +71,7 @@ finding_item i f = link (grid_at i f) (slot_at f) (line i f)
 abbrev pub item_of : Problem → List ℕ → Finding → List ℕ
 item_of i kind f = if bytes_eq (kind_word f) kind then finding_item i f else []
 
--- the section of a kind, which is known by its word
+-- the section of a kind; the word that names the kind is also the id of the section
 unfoldable pub section : Problem → List Placed → List ℕ → List ℕ → List ℕ
 section i t kind title = codes "<h3 id='"
     ++ (kind

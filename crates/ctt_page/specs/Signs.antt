@@ -13,25 +13,26 @@ use Rattle.ctt_page.specs.declared.grid.Grid.TheVariants.{Curriculum, Teacher, R
 abbrev pub clashes : Problem → List Placed → Placed → Bool
 clashes i row l = list_any (λ m. clash i l.course m.course) row
 
--- one of the lectures is of another course, and in this one's room
+-- one of the lectures is of another course, but in this one's room
 abbrev pub shares_room : List Placed → Placed → Bool
 shares_room row l = list_any (λ m. m.room == l.room && not (m.course == l.course)) row
 
--- a lecture of a grid stands in a slot
+-- a lecture of a grid is in a slot
 abbrev pub stands_in : Problem → List (List Placed) → Grid → ℕ → Bool
 stands_in i w g s = list_any (is_of i g) (lectures_in w s)
 
--- no lecture of the curriculum stands in the slot before or in the one after, on the same day
+-- no lecture of the curriculum is in the slot before or after, on the same day; false in other
+-- grids
 abbrev pub is_alone : Problem → List (List Placed) → Grid → Placed → Bool
 is_alone i w (Curriculum q) l = not (is_beside i (stands_in i w (Curriculum q)) l.slot)
 is_alone i w (Teacher n) l = false
 is_alone i w (Room r) l = false
 
--- a sign, where it is shown
+-- the text of a sign if it is shown, or else an empty text
 unfoldable pub sign : Bool → List ℕ → List ℕ
 sign shown text = if shown then text else []
 
--- the signs of what a lecture breaks about courses and rooms, and of what it costs
+-- the signs of the rules that a lecture breaks, and of what it costs
 unfoldable pub signs : Problem → List (List Placed) → Grid → Placed → List ℕ
 signs i w g l = sign (clashes i (lectures_in w l.slot) l) (codes " <b>&#9650; conflict</b>")
     ++ (sign (is_unavailable i l.course l.slot) (codes " <b>&#9660; unavailable</b>")

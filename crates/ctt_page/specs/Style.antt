@@ -1,7 +1,7 @@
--- How the page looks.
+-- The style sheet of the page.
 use Rattle.std.specs.Prelude.{ℕ, ◌++◌, List, [], ◌∷◌, codes, flat_map}
 
--- the lines of the style
+-- the lines of the style sheet
 abbrev pub style_lines : List (List ℕ)
 style_lines = codes ":root { color-scheme: light dark; --broken: #b00020; --costs: #7a4f00; }"
     ∷ codes "@media (prefers-color-scheme: dark) { :root { --broken: #ff9a9a; --costs: #f0c060; } }"
@@ -35,6 +35,6 @@ style_lines = codes ":root { color-scheme: light dark; --broken: #b00020; --cost
     ∷ codes "}"
     ∷ []
 
--- the style, from the end of the line on which it begins
+-- the style sheet, which begins with a line feed
 unfoldable pub style : List ℕ
 style = codes "\n" ++ flat_map (λ line. line ++ codes "\n") style_lines

@@ -10,11 +10,11 @@ abbrev pub by_slot : ℕ → List Placed → List (List Placed)
 by_slot zero t = []
 by_slot (suc n) t = by_slot n t ++ slot_row n t ∷ []
 
--- those in one slot
+-- the lectures in one slot
 abbrev pub lectures_in : List (List Placed) → ℕ → List Placed
 lectures_in w s = slice_index_or w s []
 
--- there are as many slots as the instance has, and each lecture fits it
+-- the week has as many slots as the instance, and each of its lectures fits the instance
 pub record WeekFits (i : Problem) (w : List (List Placed)) : Type 0 where
   pub size : length w ≡ slot_count i
   pub fits : Each (Each (Fits i)) w

@@ -1,4 +1,4 @@
-//! Lectures, and the cells that they stand in.
+//! The cells of a grid, and the lectures in them.
 
 ghost use Rattle.std.specs.Prelude.{◌≡◌, ◌<◌, ◌++◌, OnOk, filter, flat_map, string_bytes};
 ghost use Rattle.std.specs.List.{AllByRecursion as Each};
@@ -31,7 +31,7 @@ fn push_names(page: &mut String, instance: &Instance, lecture: &Placed) -> Resul
     )
 }
 
-/// Adds a lecture as it stands in a grid: its names and its signs.
+/// Adds a lecture as a grid shows it: its names and its signs.
 #[tactic(auto, unfolding(crate::specs::Cells::lecture_text))]
 fn push_lecture(
     page: &mut String,
@@ -51,7 +51,7 @@ fn push_lecture(
     page.push_str("</p>")
 }
 
-/// Adds a lecture, if it stands in the grid.
+/// Adds a lecture, if it belongs to the grid.
 fn push_shown(
     page: &mut String,
     instance: &Instance,
@@ -72,7 +72,7 @@ fn push_shown(
     }
 }
 
-/// Adds those of the lectures that stand in the grid.
+/// Adds those of the lectures that belong to the grid.
 fn push_lectures(
     page: &mut String,
     instance: &Instance,

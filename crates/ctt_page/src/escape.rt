@@ -1,11 +1,11 @@
-//! Names as text of a page.
+//! Names as HTML text.
 
 ghost use Rattle.std.specs.Prelude.{Some};
 ghost use Rattle.ctt_page.specs.Escape.{escaped, escaped_char, line_char, words_apart};
 
 use std::fmt;
 
-/// A character as text of a page: one that has a meaning in HTML goes by its name.
+/// A character as HTML text. One that has a meaning in HTML becomes a character reference.
 #[derive(Clone, Copy)]
 struct EscapedChar(char);
 
@@ -24,7 +24,7 @@ impl fmt::Display for EscapedChar {
     }
 }
 
-/// A text as text of a page, in which no character has a meaning in HTML.
+/// A text as HTML text, in which no character has a meaning in HTML.
 #[derive(Clone, Copy)]
 pub(crate) struct Escaped<'a>(pub(crate) &'a str);
 
@@ -39,7 +39,7 @@ impl fmt::Display for Escaped<'_> {
     }
 }
 
-/// A character of a line: at a blank the element of a word ends, and that of the next one begins.
+/// A character of a line. A blank closes the `bdi` element of a word, and opens that of the next.
 #[derive(Clone, Copy)]
 struct LineChar(char);
 
@@ -56,7 +56,8 @@ impl fmt::Display for LineChar {
     }
 }
 
-/// A line within such an element, so that no word turns the direction of another.
+/// The content of a `bdi` element that holds a line. Each word has an element of its own, so that
+/// none affects the direction of another.
 #[derive(Clone, Copy)]
 pub(crate) struct WordsApart<'a>(pub(crate) &'a str);
 

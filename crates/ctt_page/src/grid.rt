@@ -1,4 +1,4 @@
-//! What has a grid of its own on the page.
+//! The grids of the page.
 
 ghost use Rattle.std.specs.Prelude.{◌≡◌, Some};
 ghost use Rattle.ctt_text.specs.Timetable.{Fits};
@@ -7,7 +7,7 @@ ghost use Rattle.ctt_page.specs.Grids.{GridFits, grid_id, is_of, name_of, place_
 use ctt_text::{CurriculumNo, Instance, Placed, RoomNo, SlotNo, TeacherNo};
 use std::fmt;
 
-/// What has a grid of its own.
+/// The curriculum, teacher or room whose lectures a grid shows. Displayed as the id of the grid.
 #[derive(Clone, Copy, PartialEq, Eq)]
 pub enum Grid {
     /// The lectures of a curriculum's members.
@@ -18,7 +18,7 @@ pub enum Grid {
     Room(RoomNo),
 }
 
-/// Whether a lecture stands in a grid.
+/// Returns whether a lecture belongs to a grid.
 pub(crate) fn is_of(instance: &Instance, grid: &Grid, lecture: &Placed) -> bool
     requires grid { GridFits instance.now grid.now }
     requires lecture { Fits instance.now lecture.now }
@@ -31,7 +31,7 @@ pub(crate) fn is_of(instance: &Instance, grid: &Grid, lecture: &Placed) -> bool
     }
 }
 
-/// The word for what a grid is of.
+/// Returns the word for what a grid shows.
 pub(crate) fn word_of(grid: &Grid) -> &'static str
     ensures { result.now ≡ word_of grid.now }
 {
@@ -42,7 +42,7 @@ pub(crate) fn word_of(grid: &Grid) -> &'static str
     }
 }
 
-/// The name of what a grid is of.
+/// Returns the name of what a grid shows.
 pub(crate) fn name_of<'i>(instance: &'i Instance, grid: &Grid) -> &'i str
     requires { GridFits instance.now grid.now }
     ensures { result.now ≡ name_of instance.now grid.now }
@@ -76,7 +76,7 @@ impl fmt::Display for Grid {
     }
 }
 
-/// A grid, or the cell of a slot in it.
+/// A grid, or the cell of a slot in it. Displayed as its id.
 #[derive(Clone, Copy)]
 pub(crate) struct Place {
     pub(crate) grid: Grid,

@@ -89,7 +89,7 @@ fn push_lines(
     Ok(())
 }
 
-/// Begins a grid: what it is of, and the first field of the line of the days.
+/// Begins a grid: its heading, and the first cell of the line of days.
 #[tactic(auto, unfolding(crate::specs::GridTexts::grid_start))]
 fn push_grid_start(page: &mut String, instance: &Instance, grid: &Grid) -> Result<(), AllocError>
     requires { GridFits instance.now grid.now }
@@ -164,7 +164,7 @@ fn push_rooms(page: &mut String, instance: &Instance, week: &Week) -> Result<(),
     Ok(())
 }
 
-/// Adds all grids.
+/// Adds all grids, with a heading for each kind.
 #[tactic(auto, unfolding(crate::specs::GridTexts::grids))]
 pub(crate) fn push_grids(
     page: &mut String,

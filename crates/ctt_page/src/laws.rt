@@ -2,17 +2,17 @@
 
 ghost use Rattle.ctt_page.specs.Laws.{LecturesStandOnce, NamesHoldNoTag, WordsAreEscaped};
 
-/// No `<` stands in what the page makes of a name.
+/// Proves that an escaped name has no `<`, so that it opens no tag.
 pub fn names_hold_no_tag()
     ensures { NamesHoldNoTag }
 {}
 
-/// Within the line of a finding a word, which has no blank, is as the escape makes it.
+/// Proves that a word in the line of a finding, which has no blank, is escaped like a name.
 pub fn words_are_escaped()
     ensures { WordsAreEscaped }
 {}
 
-/// In each of its grids, a lecture of the timetable stands in the cell of its slot, once, and in no other.
+/// Proves that each grid shows a lecture that belongs to it exactly once, in the cell of its slot.
 pub fn lectures_stand_once()
     ensures { LecturesStandOnce }
 {}

@@ -1,4 +1,4 @@
-//! A timetable as one page of HTML, which needs nothing beside it.
+//! A timetable as one self-contained HTML page.
 #![tactic(auto)]
 
 mod cells;

@@ -18,8 +18,8 @@ use ctt_text::{Instance, NoMemory, Placed};
 use std::alloc::{AllocError, Global};
 use std::fmt::Write;
 
-/// Adds what stands before the report: what a browser has to know, the name of the instance, the style, and
-/// links to the parts of the page.
+/// Adds what precedes the report: the HTML head with the style, the name of the instance, and links
+/// to the parts of the page.
 #[tactic(auto, unfolding(crate::specs::Page::page_head))]
 fn push_head(page: &mut String, style: &str, name: &str) -> Result<(), AllocError>
     ensures { OnOk result (string_bytes page.new
@@ -38,7 +38,7 @@ fn push_head(page: &mut String, style: &str, name: &str) -> Result<(), AllocErro
     )
 }
 
-/// Adds the grids.
+/// Adds the grids of a timetable.
 fn push_week(
     alloc: Global,
     page: &mut String,
@@ -54,8 +54,8 @@ fn push_week(
     push_grids(page, instance, &week)
 }
 
-/// A timetable as one page of HTML, with no script and nothing from elsewhere: the report, the findings kind
-/// by kind, and a grid for each curriculum, teacher and room.
+/// Returns a timetable as one HTML page without scripts or external resources: the report, the
+/// findings by kind, and a grid for each curriculum, teacher and room.
 #[tactic(auto, unfolding(crate::specs::Page::page))]
 pub fn page_text(
     alloc: Global,

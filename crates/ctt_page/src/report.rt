@@ -17,7 +17,8 @@ fn push_row(page: &mut String, key: &str, text: &str) -> Result<(), AllocError>
     writeln!(page, "<tr><th scope='row'>{key}</th><td>{text}</td></tr>")
 }
 
-/// Adds the line of a count, with the sign of its kind and a link to what was found, if there is some.
+/// Adds the line of a count. If it is not zero, it has the sign of its kind and links to the
+/// findings.
 #[tactic(auto, unfolding(crate::specs::Report::count_row, crate::specs::Report::row))]
 fn push_count(
     page: &mut String,
@@ -48,7 +49,7 @@ fn push_total(page: &mut String, count: u64) -> Result<(), AllocError>
     writeln!(page, "<tr><th scope='row'>total</th><td>{count}</td></tr>")
 }
 
-/// Adds the line of the lectures in barred rooms, where some room is barred.
+/// Adds the line with the count of lectures in barred rooms, if any room is barred.
 #[tactic(auto, unfolding(crate::specs::Report::barred_row))]
 fn push_barred(page: &mut String, barred: bool, count: u64) -> Result<(), AllocError>
     ensures { OnOk result (string_bytes page.new
@@ -74,7 +75,7 @@ fn push_answer(page: &mut String, key: &str, answer: bool) -> Result<(), AllocEr
     }
 }
 
-/// Adds how often the hard rules are broken.
+/// Adds the lines of the hard counts.
 #[tactic(auto, unfolding(crate::specs::Report::hard_rows))]
 fn push_hard(page: &mut String, barred: bool, hard: &Hard) -> Result<(), AllocError>
     ensures { OnOk result (string_bytes page.new
@@ -93,7 +94,7 @@ fn push_hard(page: &mut String, barred: bool, hard: &Hard) -> Result<(), AllocEr
     push_barred(page, barred, hard.barred)
 }
 
-/// Adds what the timetable costs.
+/// Adds the lines of the four costs and their total.
 #[tactic(auto, unfolding(crate::specs::Report::cost_rows))]
 fn push_costs(page: &mut String, cost: &Cost) -> Result<(), AllocError>
     requires { total cost.now < 2 ^ 64 }
@@ -114,7 +115,7 @@ fn push_costs(page: &mut String, cost: &Cost) -> Result<(), AllocError>
     push_total(page, total)
 }
 
-/// Adds the report as a table. `barred` says whether some room is barred.
+/// Adds the report as a table. `barred` says whether any room is barred.
 #[tactic(auto, unfolding(crate::specs::Report::report))]
 pub(crate) fn push_report(
     page: &mut String,

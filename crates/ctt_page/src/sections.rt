@@ -1,4 +1,4 @@
-//! The findings, kind by kind, each with a link to its cell.
+//! The findings, kind by kind, each with a link to its grid or cell.
 
 ghost use Rattle.std.specs.Prelude.{◌≡◌, ◌++◌, IfOk, OnOk, flat_map, string_bytes};
 ghost use Rattle.std.specs.Str.{bytes_eq};
@@ -14,7 +14,7 @@ use ctt_text::{Instance, NoMemory, Placed, SlotNo};
 use std::alloc::{AllocError, Global};
 use std::fmt::Write;
 
-/// The word by which the kind of a finding is known.
+/// Returns the word that names the kind of a finding.
 fn kind_word(finding: &Finding) -> &'static str
     ensures { result.now ≡ kind_word finding.now }
 {
@@ -31,14 +31,14 @@ fn kind_word(finding: &Finding) -> &'static str
     }
 }
 
-/// Whether a finding is of this kind.
+/// Returns whether a finding is of this kind.
 fn is_of_kind(finding: &Finding, kind: &str) -> bool
     ensures { result ≡ bytes_eq (kind_word finding.now) kind.now }
 {
     kind_word(finding) == kind
 }
 
-/// The grid of what two courses have in common.
+/// Returns the grid of what two courses have in common.
 fn cause_grid(cause: &Cause) -> Grid
     ensures { result ≡ cause_grid cause.now }
 {
@@ -48,7 +48,7 @@ fn cause_grid(cause: &Cause) -> Grid
     }
 }
 
-/// The grid in which a finding is seen: for a course as such its teacher's.
+/// Returns the grid that shows a finding. For one on a course as a whole it is that of its teacher.
 fn grid_at(instance: &Instance, finding: &Finding) -> Grid
     requires { FindingFits instance.now finding.now }
     ensures { result ≡ grid_at instance.now finding.now }
@@ -66,7 +66,7 @@ fn grid_at(instance: &Instance, finding: &Finding) -> Grid
     }
 }
 
-/// The slot in which a finding is seen; one of a course as such has none.
+/// Returns the slot of a finding. One on a course as a whole has none.
 fn slot_at(finding: &Finding) -> Option<SlotNo>
     ensures { result ≡ slot_at finding.now }
 {
@@ -94,7 +94,7 @@ fn push_link(page: &mut String, place: &Place, line: &str) -> Result<(), AllocEr
     writeln!(page, "<li><a href='#{place}'><bdi>{text}</bdi></a></li>")
 }
 
-/// Adds a finding: its line, as a link to where it is seen.
+/// Adds a finding: its line, as a link to the grid or cell that shows it.
 #[tactic(auto, unfolding(crate::specs::Sections::finding_item))]
 fn push_finding(
     alloc: Global,
@@ -134,7 +134,7 @@ fn push_if_of_kind(
     }
 }
 
-/// The findings of a kind that were heard, as items of a list.
+/// A listener that collects the findings of a kind as items of a list.
 #[derive(Drop)]
 struct Items<'k> {
     alloc: Global,
@@ -157,7 +157,7 @@ impl<'k> Listener for Items<'k> {
     }
 }
 
-/// The findings of a kind, as items of a list.
+/// Returns the findings of a kind as items of a list.
 fn items_of_kind(
     alloc: Global,
     instance: &Instance,
@@ -185,7 +185,7 @@ fn items_of_kind(
     }
 }
 
-/// Adds the section of a kind, which is known by its word.
+/// Adds the section of a kind. The word that names the kind is also the id of the section.
 #[tactic(auto, unfolding(crate::specs::Sections::section))]
 fn push_section(
     alloc: Global,

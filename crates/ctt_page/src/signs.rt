@@ -15,7 +15,7 @@ use ctt_text::{Instance, Placed, SlotNo};
 use std::alloc::AllocError;
 use std::fmt::Write;
 
-/// Whether one of the lectures is of a course that clashes with this lecture's.
+/// Returns whether one of the lectures is of a course that clashes with this lecture's.
 fn clashes(instance: &Instance, row: &[Placed], lecture: &Placed) -> bool
     requires row { Each (Fits instance.now) row.now }
     requires lecture { Fits instance.now lecture.now }
@@ -29,14 +29,14 @@ fn clashes(instance: &Instance, row: &[Placed], lecture: &Placed) -> bool
     false
 }
 
-/// Whether one of the lectures is of another course, and in this lecture's room.
+/// Returns whether one of the lectures is of another course, but in this lecture's room.
 fn shares_room(row: &[Placed], lecture: &Placed) -> bool
     ensures { result ≡ shares_room row.now lecture.now }
 {
     row.iter().any(|other| other.room == lecture.room && other.course != lecture.course)
 }
 
-/// Whether one of the lectures stands in a grid.
+/// Returns whether one of the lectures belongs to a grid.
 fn has_any_of(instance: &Instance, grid: &Grid, row: &[Placed]) -> bool
     requires grid { GridFits instance.now grid.now }
     requires row { Each (Fits instance.now) row.now }
@@ -50,7 +50,7 @@ fn has_any_of(instance: &Instance, grid: &Grid, row: &[Placed]) -> bool
     false
 }
 
-/// Whether a lecture of a grid stands in a slot; where there is no such slot, none does.
+/// Returns whether a lecture of a grid is in a slot; false if the instance has no such slot.
 fn stands_in(instance: &Instance, week: &Week, grid: &Grid, slot: SlotNo) -> bool
     requires week { WeekFits instance.now week.now }
     requires grid { GridFits instance.now grid.now }
@@ -62,7 +62,7 @@ fn stands_in(instance: &Instance, week: &Week, grid: &Grid, slot: SlotNo) -> boo
     has_any_of(instance, grid, week.row(instance, slot))
 }
 
-/// Whether a lecture of a grid stands in the slot before or in the one after, on the same day.
+/// Returns whether a lecture of a grid is in the slot before or after, on the same day.
 fn is_beside(instance: &Instance, week: &Week, grid: &Grid, slot: SlotNo) -> bool
     requires week { WeekFits instance.now week.now }
     requires grid { GridFits instance.now grid.now }
@@ -78,7 +78,7 @@ fn is_beside(instance: &Instance, week: &Week, grid: &Grid, slot: SlotNo) -> boo
             && stands_in(instance, week, grid, SlotNo::new(number + 1)))
 }
 
-/// Whether a lecture stands alone in the curriculum of a grid; in other grids none does.
+/// Returns whether a lecture is isolated in the curriculum of a grid; false in other grids.
 fn is_alone(instance: &Instance, week: &Week, grid: &Grid, lecture: &Placed) -> bool
     requires week { WeekFits instance.now week.now }
     requires grid { GridFits instance.now grid.now }
@@ -92,7 +92,7 @@ fn is_alone(instance: &Instance, week: &Week, grid: &Grid, lecture: &Placed) -> 
     }
 }
 
-/// A sign, where it is shown.
+/// Returns the text of a sign if it is shown, or else an empty text.
 #[tactic(auto, unfolding(crate::specs::Signs::sign))]
 fn sign(shown: bool, text: &'static str) -> &'static str
     ensures { result.now ≡ sign shown text.now }
@@ -100,7 +100,7 @@ fn sign(shown: bool, text: &'static str) -> &'static str
     if shown { text } else { "" }
 }
 
-/// Adds the signs of what a lecture breaks about courses and rooms, and of what it costs.
+/// Adds the signs of the rules that a lecture breaks, and of what it costs.
 #[tactic(auto, unfolding(crate::specs::Signs::signs))]
 pub(crate) fn push_signs(
     page: &mut String,

@@ -1,11 +1,12 @@
-//! How the page looks.
+//! The style sheet of the page.
 
 ghost use Rattle.std.specs.Prelude.{◌≡◌};
 ghost use Rattle.ctt_page.specs.Style.{style as style_text};
 
-/// The style of the page: by the system's colours, light or dark; a grid that is wider than the window is
-/// moved sideways in its own box, past its periods; the links to the parts stay in sight, and a link to a cell
-/// shows its grid round it; on paper no grid is cut in two, if it fits on a sheet.
+/// The style sheet of the page. It uses the system's colours, light or dark. A grid wider than the
+/// window scrolls sideways in its own box, with the column of its periods fixed. The links to the
+/// parts stay visible, and a link to a cell shows the grid around it. In print a grid is not split
+/// if it fits on a page.
 const STYLE: &str = "
 :root { color-scheme: light dark; --broken: #b00020; --costs: #7a4f00; }
 @media (prefers-color-scheme: dark) { :root { --broken: #ff9a9a; --costs: #f0c060; } }
@@ -39,7 +40,7 @@ td:target { outline-offset: -3px; scroll-margin: 40vh 7rem; }
 }
 ";
 
-/// The style of the page.
+/// Returns the style sheet of the page.
 #[tactic(auto, unfolding(crate::specs::Style::style))]
 pub(crate) fn style() -> &'static str
     ensures { result.now ≡ style_text }

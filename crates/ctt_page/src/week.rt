@@ -41,7 +41,7 @@ fn add_lectures(slots: &mut [Vec<Placed>], timetable: &[Placed]) -> Result<(), A
     Ok(())
 }
 
-/// The lectures in each of so many slots.
+/// Groups lectures by slot, for the first `count` slots.
 fn lectures_by_slot(
     alloc: Global,
     count: u16,
@@ -60,7 +60,7 @@ fn lectures_by_slot(
 }
 
 impl Week {
-    /// The lectures of a timetable, slot by slot.
+    /// Groups the lectures of a timetable by slot.
     pub(crate) fn new(
         alloc: Global,
         instance: &Instance,
@@ -75,7 +75,7 @@ impl Week {
         Ok(Week { slots })
     }
 
-    /// The lectures in a slot.
+    /// Returns the lectures in a slot.
     pub(crate) fn row(&self, instance: &Instance, slot: SlotNo) -> &[Placed]
         requires week { WeekFits instance.now self.now }
         requires slot { slot < slot_count instance.now }

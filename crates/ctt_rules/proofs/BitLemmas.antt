@@ -18,11 +18,11 @@ bit_of_not a j small lt = ap (λ n. n == 1) (bit_at_not w64 a j small lt) ∙ by
     by (suc zero) l = refl
     by (suc (suc m)) l = absurd (omega (arith, l))
 
--- the low bits of a number are those of what is left by a power of two
+-- the low bits of a number are those of its remainder modulo a power of two
 low_bits : (n k j : ℕ) → j < k → bit_at (n % 2 ^ k) j ≡ bit_at n j
 low_bits n k j lt = sym (bit_at_cat_low (n / 2 ^ k) k (n % 2 ^ k) j lt) ∙ ap (λ m. bit_at m j) (div-add-mod' n (2 ^ k))
 
--- one to the left and one to the right
+-- the bits of a word that is shifted left or right by one
 pub bit_of_shl : (a j : ℕ) → j < 63 → has_bit (a * 2 ^ 1 % 2 ^ 64) (suc j) ≡ has_bit a j
 bit_of_shl a j lt = ap (λ n. n == 1) (low_bits (a * 2 ^ 1) 64 (suc j) (omega arith) ∙ up)
   where
@@ -38,7 +38,7 @@ bit_of_set a k j lt = elim (cases_eq j k) [
   | inr other ↦ (ap (λ n. n == 1) (bit_at_set_other w64 a k lt j other) ∙ sym (ap (λ b. b || has_bit a j) (ne_eqb j k other)))
 ]
 
--- the bits that two words have both
+-- the number of bits that are set in both words
 pub common_counted : (a b : ℕ) → b < 2 ^ 64 → count_ones (bit_and a b) ≡ count_below (λ j. has_bit a j && has_bit b j) 64
 common_counted a b lt = ones_are 64 (bit_and a b) (omega (arith, and_le_r a b)) ∙ sum_below_same (λ j. cond (has_bit (bit_and a b) j) 1 0) (λ j. cond (has_bit a j && has_bit b j) 1 0) 64 (λ j. ap (λ c. cond c 1 0) (both_bits a b j))
 
@@ -55,7 +55,7 @@ inner_bits j = elim (cases_lt 0 j) [
   | inr none ↦ (ap (λ n. n == 1) (bit_at_mask_below 1 63 j (omega (arith, none))) ∙ sym (and_left (ltb 0 j) (ltb j 63) (le-ltb 0 j none)))
 ]
 
--- the places 1 to 62 that have no bit beside them
+-- the places 1 to 62 that have no set bit next to them
 module _ (a : ℕ) (small : a < 2 ^ 64) where
   abbrev beside : ℕ
   beside = bit_or (a * 2 ^ 1 % 2 ^ 64) (a / 2 ^ 1)

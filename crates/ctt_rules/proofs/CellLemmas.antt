@@ -1,4 +1,4 @@
--- Lectures beyond the first in each room and slot, as they come one after another.
+-- Lectures beyond the first in each room and slot, counted lecture by lecture.
 use Rattle.std.proofs.Common.{◌≡◌, ℕ, zero, suc, ◌+◌, ◌-◌, ◌<◌, Bool, true, false, cond, ◌&&◌, ◌||◌, ◌==◌, eqb, ltb, List, [], ◌∷◌, ◌++◌, refl, ◌∙◌, sym, ap, ap₂, arith, inl, inr}
 use Rattle.std.specs.List.{count_by, list_any}
 use Rattle.std.proofs.lemmas.Bool.Decides.{nat_tests}
@@ -19,7 +19,7 @@ crowd_in i s t = sum_below (λ r. count_by (λ l. l.room == r && l.slot == s) t 
 abbrev crowd_below : Problem → ℕ → List Placed → ℕ
 crowd_below i n t = sum_below (λ s. crowd_in i s t) n
 
--- sums in the other order
+-- the order of two sums can be exchanged
 sum_below_turn : (f : ℕ → ℕ → ℕ) (m n : ℕ) → sum_below (λ r. sum_below (λ s. f r s) n) m ≡ sum_below (λ s. sum_below (λ r. f r s) m) n
 sum_below_turn f zero n = sym (sum_below_zero (λ _. 0) n (λ _ _. refl))
 sum_below_turn f (suc m) n = ap (λ k. k + sum_below (λ s. f m s) n) (sum_below_turn f m n) ∙ sym (sum_below_add (λ s. sum_below (λ r. f r s) m) (λ s. f m s) n)
@@ -30,7 +30,7 @@ crowd_is_occupancy i t = sym (sum_below_turn (λ r s. count_by (λ l. l.room == 
 crowd_none : (i : Problem) (n : ℕ) → crowd_below i n [] ≡ 0
 crowd_none i n = sum_below_zero (λ s. crowd_in i s []) n (λ s lt. sum_below_zero (λ _. 0 - 1) (room_count i) (λ _ _. refl))
 
--- of what passes, all but the first
+-- the count of what passes, split into one for the first and the rest
 beyond_first : {X : Type 0} (p : X → Bool) (xs : List X) → count_by p xs ≡ (count_by p xs - 1) + cond (list_any p xs) 1 0
 beyond_first p [] = refl
 beyond_first p (x ∷ xs) = by (p x) (list_any p xs) (count_by p xs) (count_by p (x ∷ xs)) (count_by-cons p x xs) (beyond_first p xs)
@@ -44,14 +44,14 @@ same_test true b f g = sym (f refl)
 same_test false true f g = g refl
 same_test false false f g = refl
 
--- the sum of what stands at one number, whether or not it is reached
+-- the sum of a value at the single number j, which may be out of range
 sum_below_at : (v j n : ℕ) → sum_below (λ x. cond (eqb j x) v 0) n ≡ cond (ltb j n) v 0
 sum_below_at v j n = elim (cases_lt j n) [
   | inl lt ↦ sum_below_one v j n lt ∙ sym (ap (λ b. cond b v 0) (lt-ltb j n lt))
   | inr le ↦ sum_below_zero (λ x. cond (eqb j x) v 0) n (λ x lt. ap (λ b. cond b v 0) (ne_eqb j x (λ e. omega (arith, e, lt, le)))) ∙ sym (ap (λ b. cond b v 0) (le-ltb j n le))
 ]
 
--- one more lecture is beyond the first in its room and slot where another stands there
+-- one more lecture is beyond the first in its room and slot if another one is there
 module _ (i : Problem) (ts : List Placed) (x : Placed) (room : x.room < room_count i) where
   abbrev more : ℕ
   more = cond (list_any (share_room x) ts) 1 0
@@ -99,7 +99,7 @@ module _ (i : Problem) (ts : List Placed) (x : Placed) (room : x.room < room_cou
       sum_below_same (λ s. crowd_in i s (ts ++ x ∷ [])) (λ s. crowd_in i s ts + cond (eqb x.slot s) more 0) n in_slot
       ∙ sum_below_add (λ s. crowd_in i s ts) (λ s. cond (eqb x.slot s) more 0) n ∙ ap (λ k. crowd_below i n ts + k) (sum_below_at more x.slot n)
 
--- one more lecture
+-- the count with one more lecture
 pub occupancy_push : (i : Problem) (ts : List Placed) (x : Placed) → Fits i x → occupancy_count i (ts ++ x ∷ []) ≡ occupancy_count i ts + cond (list_any (share_room x) ts) 1 0
 occupancy_push i ts x fits =
     sym (crowd_is_occupancy i (ts ++ x ∷ [])) ∙ crowd_push i ts x fits.2 (slot_count i)

@@ -1,4 +1,4 @@
--- Conflicts and shared rooms, counted lecture by lecture against those before.
+-- Conflicts and shared rooms, counted lecture by lecture against the earlier ones.
 use Rattle.std.proofs.Common.{◌≡◌, ℕ, zero, suc, ◌+◌, ◌-◌, ◌<◌, ◌≤◌, Bool, true, false, cond, not, ◌&&◌, ◌||◌, ◌==◌, ltb, leb, List, [], ◌∷◌, ◌++◌, take, length, get_or, replicate, refl, ◌∙◌, sym, ap, ap₂, arith, inl, inr, append_assoc, append-nil}
 use Rattle.std.specs.List.{list_any, AllByRecursion as Each}
 use Rattle.std.proofs.lemmas.List.{take_more}
@@ -21,7 +21,7 @@ use Rattle.ctt_rules.proofs.NeighbourLemmas.{any_same, count_by-same}
 use Rattle.ctt_rules.proofs.SumLemmas.{sum_below_same, count_below_le, count_by-cons}
 use Rattle.ctt_rules.proofs.WindowLemmas.{counted_apart}
 
--- courses clash both ways
+-- clashing is symmetric
 eqb_comm : (a b : ℕ) → (a == b) ≡ (b == a)
 eqb_comm a b = grind arith
 
@@ -52,7 +52,7 @@ no_rows marks none zero row n = past_words [] n (omega arith)
 no_rows marks none (suc k) zero n = none n
 no_rows marks none (suc k) (suc row) n = no_rows marks none k row n
 
--- a tally goes on by one lecture
+-- a tally with one more lecture
 pub tally_push : (f : List Placed → Placed → ℕ) (before xs : List Placed) (x : Placed) → tally f before (xs ++ x ∷ []) ≡ tally f before xs + f (before ++ xs) x
 tally_push f before [] x = rw append-nil (omega arith)
 tally_push f before (y ∷ ys) x = omega (arith, tally_push f (before ++ y ∷ []) ys x, ap (λ zs. f zs x) (append_assoc before (y ∷ []) ys))
@@ -73,7 +73,7 @@ tallied P g f e before (x ∷ xs) h = ap g (sym (append_assoc before (x ∷ []) 
 from_nothing : (P : Placed → Type 0) (g : List Placed → ℕ) (f : List Placed → Placed → ℕ) → ((ts : List Placed) (x : Placed) → P x → g (ts ++ x ∷ []) ≡ g ts + f ts x) → g [] ≡ 0 → (t : List Placed) → Each P t → tally f [] t ≡ g t
 from_nothing P g f e none t h = sym (tallied P g f e [] t h ∙ ap (λ n. n + tally f [] t) none ∙ omega arith)
 
--- conflicts
+-- the conflicts with one more lecture
 conflicts_push : (i : Problem) (ts : List Placed) (x : Placed) → conflict_count i (ts ++ x ∷ []) ≡ conflict_count i ts + new_conflicts i ts x
 conflicts_push i [] x = refl
 conflicts_push i (y ∷ ys) x = omega (arith, conflicts_push i ys x, sum_by_push (λ l. cond (conflicts i y l) 1 0) ys x, count_by-cons (λ z. conflicts i z x) y ys)
@@ -84,7 +84,7 @@ conflicts_tallied i t h = from_nothing (Fits i) (conflict_count i) (new_conflict
 pub rooms_tallied : (i : Problem) (t : List Placed) → Each (Fits i) t → tally room_taken [] t ≡ occupancy_count i t
 rooms_tallied i t h = from_nothing (Fits i) (occupancy_count i) room_taken (λ ts x f. occupancy_push i ts x f) (none_shared i) t h
 
--- by blocks of slots
+-- tallies over blocks of slots
 module _ (adds : List Placed → Placed → ℕ) where
   pub block_more : (first end : ℕ) → first ≤ end → (t : List Placed) → tally (only_in 0 first adds) [] t + tally (only_in first end adds) [] t ≡ tally (only_in 0 end adds) [] t
   block_more first end le t = tally_join (only_in 0 first adds) (only_in first end adds) (only_in 0 end adds) (λ ts x. each x.slot (adds ts x)) [] t
@@ -104,7 +104,7 @@ Pairwise-take R zero xs h = tt
 Pairwise-take R (suc n) [] h = tt
 Pairwise-take R (suc n) (x ∷ xs) h = (Each-take (R x) n xs h.0, Pairwise-take R n xs h.1)
 
--- one more lecture of a timetable is met, in a block of slots
+-- one more lecture of a timetable is counted in a block of slots
 module _ (i : Problem) (t : List Placed) (h : IsTimetable i t) (courses_few : course_count i ≤ 2000) (first k : ℕ) (x : Placed) (within : k < length t) (at : x ≡ get_or t k x) where
   abbrev ts : List Placed
   ts = take k t
@@ -112,7 +112,7 @@ module _ (i : Problem) (t : List Placed) (h : IsTimetable i t) (courses_few : co
   next : take (k + 1) t ≡ ts ++ x ∷ []
   next = take_more t k x within ∙ ap (λ y. ts ++ y ∷ []) (sym at)
 
-  -- the marks on those that were met
+  -- the marks of the lectures seen so far
   pub met_more : (p : ℕ → ℕ → Placed → Bool) (old new : ℕ → ℕ → Bool) → ((r n : ℕ) → r < 64 → old r n ≡ list_any (p r n) ts) → ((r n : ℕ) → r < 64 → new r n ≡ (p r n x || old r n)) → (r n : ℕ) → r < 64 → new r n ≡ list_any (p r n) (take (k + 1) t)
   met_more p old new so_far marked r n lt =
       marked r n lt ∙ ap (λ b. p r n x || b) (so_far r n lt) ∙ flip (p r n x) (list_any (p r n) ts) ∙ ap (λ y. list_any (p r n) ts || p r n y) at ∙ sym (list_any_more (p r n) t k x within)
@@ -123,7 +123,7 @@ module _ (i : Problem) (t : List Placed) (h : IsTimetable i t) (courses_few : co
   tally_more : (adds : List Placed → Placed → ℕ) → tally (only_in first (first + 64) adds) [] (take (k + 1) t) ≡ tally (only_in first (first + 64) adds) [] ts + cond (leb first x.slot && ltb x.slot (first + 64)) (adds ts x) 0
   tally_more adds = ap (tally (only_in first (first + 64) adds) []) next ∙ tally_push (only_in first (first + 64) adds) [] ts x
 
-  -- what is added, by the tables
+  -- the tally with what the tables add for one more lecture
   added : (adds : List Placed → Placed → ℕ) (n : ℕ) → (first ≤ x.slot → x.slot < first + 64 → n ≡ adds ts x)
       → tally (only_in first (first + 64) adds) [] (take (k + 1) t) ≡ tally (only_in first (first + 64) adds) [] ts + cond (leb first x.slot && ltb x.slot (first + 64)) n 0
   added adds n is = tally_more adds ∙ ap (λ m. tally (only_in first (first + 64) adds) [] ts + m) (elim (cases_Bool (leb first x.slot && ltb x.slot (first + 64))) [

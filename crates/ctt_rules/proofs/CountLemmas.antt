@@ -1,4 +1,4 @@
--- The hard counts are zero exactly where the hard rules hold.
+-- The hard counts are zero exactly if the hard rules hold.
 use Rattle.std.proofs.Common.{◌≡◌, ℕ, zero, suc, ◌+◌, ◌-◌, ◌<◌, ◌≤◌, Bool, true, false, cond, ◌&&◌, ◌==◌, List, [], ◌∷◌, length, refl, ◌∙◌, sym, ap, arith, inl, inr}
 use Rattle.std.specs.List.{count_by, AllByRecursion as Each}
 use Rattle.std.proofs.lemmas.Bool.Decides.{nat_tests}
@@ -46,7 +46,7 @@ conflict_free i (x ∷ xs) h =
     let sum : count_by (conflicts i x) xs + conflict_count i xs ≡ 0 = h in
     (none_counted (conflicts i x) xs (omega arith), conflict_free i xs (omega arith))
 
--- rooms
+-- the lectures in one room and slot
 abbrev stands : ℕ → ℕ → Placed → Bool
 stands r s l = l.room == r && l.slot == s
 
@@ -106,7 +106,7 @@ module _ (i : Problem) (t : List Placed) (h : IsTimetable i t) where
     few = few;
   }
 
-  -- past the last course there are no lectures, placed or wanted
+  -- past the last course there are no lectures, placed or stated
   pub none_past : (c : ℕ) → course_count i ≤ c → (length (course_row c t) ≡ 0) × ((course_of i c).lectures ≡ 0)
   none_past c le =
       let row : course_row c t ≡ [] = filter_none (λ l. l.course == c) t (Each-map (λ (l : Placed). l.course < course_count i) (λ l. (l.course == c) ≡ false) (λ l lt. ne_eqb l.course c (λ e. omega (arith, e, lt, le))) t (courses_fit i t h)) in

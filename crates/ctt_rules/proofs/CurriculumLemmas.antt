@@ -10,7 +10,7 @@ use Rattle.ctt_rules.specs.Penalty.{lectures_of}
 use Rattle.ctt_rules.specs.Neighbours.{busy}
 use Rattle.ctt_rules.proofs.SumLemmas.{count_by-cons}
 
--- where the first test rules the second out, what passes either is counted by each
+-- if the first test excludes the second, the counts of what passes each add up
 count_filter_or : (a b : Placed → Bool) (p : Placed → Bool) (xs : List Placed) → ((x : Placed) → a x ≡ true → b x ≡ false) → count_by p (filter (λ x. a x || b x) xs) ≡ count_by p (filter a xs) + count_by p (filter b xs)
 count_filter_or a b p [] apart = refl
 count_filter_or a b p (x ∷ xs) apart = elim (cases_Bool (a x)) [
@@ -47,7 +47,7 @@ none_of : (t : List Placed) → lectures_of [] t ≡ []
 none_of [] = refl
 none_of (x ∷ xs) = none_of xs
 
--- the members by the tests of their rows
+-- the lectures of a curriculum, by its first member and the others
 member_first : (m : ℕ) (q : List ℕ) (t : List Placed) → lectures_of (m ∷ q) t ≡ filter (λ (l : Placed). (l.course == m) || has l.course q) t
 member_first m q [] = refl
 member_first m q (x ∷ xs) = ap₂ (λ b ls. cond (b || has x.course q) (x ∷ ls) ls) (turn m x.course) (member_first m q xs)
@@ -55,7 +55,7 @@ member_first m q (x ∷ xs) = ap₂ (λ b ls. cond (b || has x.course q) (x ∷ 
     turn : (a b : ℕ) → (a == b) ≡ (b == a)
     turn a b = grind arith
 
--- what some lecture of the members does, some lecture of one of them does
+-- some lecture of some member passes exactly if some lecture of the curriculum passes
 pub any_lecture : (p : Placed → Bool) (q : List ℕ) (t : List Placed) → list_any (λ m. list_any p (course_row m t)) q ≡ list_any p (lectures_of q t)
 any_lecture p [] t = sym (ap (list_any p) (none_of t))
 any_lecture p (m ∷ q) t = ap (λ b. list_any p (course_row m t) || b) (any_lecture p q t) ∙ sym (ap (list_any p) (member_first m q t) ∙ any_filter_or (λ l. l.course == m) (λ l. has l.course q) p t)

@@ -1,4 +1,4 @@
--- Counting different numbers by marks on them.
+-- Counting different numbers by marking them.
 use Rattle.std.proofs.Common.{◌≡◌, ℕ, ◌+◌, ◌<◌, ◌==◌, ◌||◌, Bool, true, false, cond, not, List, length, get_or, take, refl, sym, ap, ◌∙◌, arith, inl, inr, eqb}
 use Rattle.std.specs.List.{list_any}
 use Rattle.std.proofs.lemmas.Bool.{cases_eq, eq-eqb, ne_eqb}
@@ -7,7 +7,7 @@ use Rattle.ctt_text.specs.Lists.{count_below}
 use Rattle.ctt_text.specs.Marks.{is_marked}
 use Rattle.ctt_rules.proofs.SumLemmas.{sum_below_same, sum_below_add, sum_below_one}
 
--- one more number that passes counts where it did not pass before
+-- one more number that passes adds one to the count if it did not pass before
 count_below_or : (p : ℕ → Bool) (j n : ℕ) → j < n → count_below (λ d. p d || (j == d)) n ≡ count_below p n + cond (p j) 0 1
 count_below_or p j n lt =
     sum_below_same (λ d. cond (p d || (j == d)) 1 0) (λ d. cond (p d) 1 0 + cond (eqb j d) (cond (p j) 0 1) 0) n each

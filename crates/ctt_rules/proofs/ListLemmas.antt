@@ -1,4 +1,4 @@
--- Filters, and what holds of each element.
+-- Filters, and properties of each element.
 use Rattle.std.proofs.Common.{◌≡◌, ℕ, zero, suc, Bool, true, false, List, [], ◌∷◌, take, refl, ap, inl, inr}
 use Rattle.std.specs.List.{filter, AllByRecursion as Each}
 use Rattle.std.proofs.lemmas.Bool.{cases_Bool}
@@ -13,7 +13,7 @@ pub Pairwise-filter : {X : Type 0} (R : X → X → Type 0) (p : X → Bool) (xs
 Pairwise-filter R p [] h = tt
 Pairwise-filter R p (x ∷ xs) h = elim (cases_Bool (p x)) [ inl e ↦ rw e (Each-filter (R x) p xs h.0, Pairwise-filter R p xs h.1) | inr e ↦ rw e (Pairwise-filter R p xs h.1) ]
 
--- what passes nowhere
+-- a filter that no element passes
 pub filter_none : {X : Type 0} (p : X → Bool) (xs : List X) → Each (λ x. p x ≡ false) xs → filter p xs ≡ []
 filter_none p [] h = refl
 filter_none p (x ∷ xs) h = rw h.0 (filter_none p xs h.1)
@@ -22,7 +22,7 @@ pub filter_every : {X : Type 0} (p : X → Bool) (xs : List X) → Each (λ x. p
 filter_every p [] h = refl
 filter_every p (x ∷ xs) h = rw h.0 (ap (λ ys. x ∷ ys) (filter_every p xs h.1))
 
--- a filter after one that keeps all that it keeps
+-- a filter after a weaker one is the filter alone
 pub filter_within : {X : Type 0} (p q : X → Bool) (xs : List X) → ((x : X) → p x ≡ true → q x ≡ true) → filter p (filter q xs) ≡ filter p xs
 filter_within p q [] h = refl
 filter_within p q (x ∷ xs) h = elim (cases_Bool (p x)) [

@@ -1,4 +1,4 @@
--- Slots that stand next to each other, and lectures that stand alone.
+-- Adjacent slots, and isolated lectures.
 use Rattle.std.proofs.Common.{◌≡◌, ℕ, suc, ◌+◌, ◌-◌, ◌*◌, ◌/◌, ◌%◌, ◌<◌, ◌≤◌, Bool, true, false, cond, not, ◌&&◌, ◌||◌, ◌==◌, ltb, List, [], ◌∷◌, refl, ◌∙◌, sym, ap, ap₂, arith, inl, inr, ◌⊎◌}
 use Rattle.std.specs.List.{count_by, list_any, AllByRecursion as Each}
 use Rattle.std.proofs.lemmas.Bool.{cases_eq, cases_lt, eq-eqb, ne_eqb, lt-ltb, le-ltb}
@@ -38,7 +38,7 @@ module _ (p s : ℕ) (some : 0 < p) where
     | inr le ↦ ne_eqb ((s + 1) / p) (s / p) (λ e. omega (arith, e, (next_day le).0)) ∙ sym (le-ltb 0 ((s + 1) % p) (omega (arith, (next_day le).1)))
   ]
 
--- one slot stands next to another: it is the one before or the one after, and the day is the same
+-- two slots are adjacent exactly if one is directly before or after the other, on the same day
 pub by_period : (i : Problem) (s m : ℕ) → 0 < i.periods → next_to i s m ≡ ((ltb 0 (period_of i s) && m == s - 1) || (ltb (period_of i s + 1) i.periods && m == s + 1))
 by_period i s m some = elim (cases_eq m (s + 1)) [
   | inl same ↦ (
@@ -95,7 +95,7 @@ pub any_same : {X : Type 0} (p q : X → Bool) (xs : List X) → ((x : X) → p 
 any_same p q [] e = refl
 any_same p q (x ∷ xs) e = ap₂ (λ a b. a || b) (e x) (any_same p q xs e)
 
--- some lecture stands next to the slot where the slot before or the one after is busy
+-- some lecture is adjacent to a slot exactly if the slot before or the one after is busy
 pub neighbour_is : (i : Problem) (ls : List Placed) (s : ℕ) → 0 < i.periods → list_any (λ m. next_to i s m.slot) ls ≡ is_beside i (busy ls) s
 neighbour_is i ls s some =
     any_same (λ m. next_to i s m.slot) (λ m. (ltb 0 (period_of i s) && m.slot == s - 1) || (ltb (period_of i s + 1) i.periods && m.slot == s + 1)) ls (λ m. by_period i s m.slot some)
@@ -106,7 +106,7 @@ pub count_by-same : {X : Type 0} (p q : X → Bool) (xs : List X) → Each (λ x
 count_by-same p q [] h = refl
 count_by-same p q (x ∷ xs) h = count_by-cons p x xs ∙ ap₂ (λ b n. cond b 1 0 + n) h.0 (count_by-same p q xs h.1) ∙ sym (count_by-cons q x xs)
 
--- the lectures that stand alone are those with no busy slot beside theirs
+-- the isolated lectures are those with no busy slot next to theirs
 pub alone_is : (i : Problem) (ls : List Placed) (marks : ℕ → Bool) → Each (λ (l : Placed). l.slot < slot_count i) ls → ((s : ℕ) → marks s ≡ busy ls s) → count_by (is_alone i ls) ls ≡ count_by (λ l. not (is_beside i marks l.slot)) ls
 alone_is i ls marks fits same = count_by-same (is_alone i ls) (λ l. not (is_beside i marks l.slot)) ls (each ls fits)
   where

@@ -1,4 +1,4 @@
--- The rows of a timetable, which stand one after another.
+-- The rows of a timetable, which follow one another.
 use Rattle.std.proofs.Common.{◌≡◌, ℕ, zero, suc, ◌+◌, ◌-◌, ◌<◌, ◌≤◌, Bool, true, false, ◌==◌, leb, List, [], ◌∷◌, length, take, drop, get_or, refl, ◌∙◌, sym, ap, arith, inl, inr, one-add, add-one}
 use Rattle.std.specs.List.{list_all, prefix_len, AllWithin, AllByRecursion as Each}
 use Rattle.std.specs.List.Sorted.{IsNonDecreasingBy}
@@ -16,7 +16,7 @@ pub record IsStart (c start : ℕ) (t : List Placed) : Type 0 where
   pub within : start ≤ length t
   pub rest : drop start t ≡ from_course c t
 
--- the lectures of a course at the front, and those of the courses after it
+-- the prefix with the lectures of a course, and the lectures of the courses after it
 module _ (c : ℕ) where
   all_after : (x : Placed) (xs : List Placed) → c < x.course → Each (λ y. before x y ≡ true) xs → Each (λ (y : Placed). c < y.course) xs
   all_after x xs lt h = Each-map (λ y. before x y ≡ true) (λ (y : Placed). c < y.course) (λ y k. by y k) xs h
@@ -46,7 +46,7 @@ module _ (c : ℕ) where
         (rw no' (sym (none_there xs every.1)), rw no' (sym (all_there (x ∷ xs) every))))
   ]
 
--- the rows and what stands before and after them, by places
+-- the rows, and the lectures before and after them, by index
 module _ (t : List Placed) (ascending : Ascending t) where
   module _ (c start : ℕ) (is : IsStart c start t) where
     abbrev rest : List Placed
@@ -81,7 +81,7 @@ module _ (t : List Placed) (ascending : Ascending t) where
         let e : end - start ≡ front = omega (arith, next_is end next) in
         rw e row_is
 
--- a start by what stands before it and from it on
+-- the start of a course, given the lectures before it and those from it on
 pub start_by_places : (c : ℕ) (t : List Placed) (start : ℕ) → start ≤ length t → AllWithin (λ (l : Placed). l.course < c) t 0 start → AllWithin (λ (l : Placed). c ≤ l.course) t start (length t) → IsStart c start t
 start_by_places c [] zero le before after = record { within = omega arith; rest = refl }
 start_by_places c [] (suc n) le before after = absurd (omega (arith, le))
@@ -95,7 +95,7 @@ start_by_places c (x ∷ xs) (suc n) le before after =
     let more = start_by_places c xs n (omega (arith, le)) (λ k d l h. before (suc k) d (omega arith) (omega arith)) (λ k d l h. after (suc k) d (omega arith) (omega arith)) in
     record { within = omega (arith, more.within); rest = rw no' more.rest }
 
--- the courses do not fall
+-- the courses of a timetable are non-decreasing
 pub courses_rise : (t : List Placed) → Ascending t → IsNonDecreasingBy (λ (l : Placed). l.course) t
 courses_rise [] h i j d le lt = absurd (omega (arith, lt))
 courses_rise (x ∷ xs) h zero zero d le lt = omega arith
@@ -106,11 +106,11 @@ courses_rise (x ∷ xs) h zero (suc j) d le lt = by (get_or xs j d) (Each-at (λ
 courses_rise (x ∷ xs) h (suc i) zero d le lt = absurd (omega (arith, le))
 courses_rise (x ∷ xs) h (suc i) (suc j) d le lt = courses_rise xs h.1 i j d (omega (arith, le)) (omega (arith, lt))
 
--- what does not fall does not fall from a place on
+-- a suffix of a non-decreasing list is non-decreasing
 pub rise_from : (t : List Placed) (start : ℕ) → IsNonDecreasingBy (λ (l : Placed). l.course) t → IsNonDecreasingBy (λ (l : Placed). l.course) (drop start t)
 rise_from t start rise i j d le lt = rw (get_or-drop start t i d, get_or-drop start t j d) (rise (start + i) (start + j) d (omega arith) (omega (arith, lt, length-drop start t)))
 
--- a row by the places where its course begins and where it ends after that
+-- the row of a course, given its start and its length
 pub row_by_places : (t : List Placed) → Ascending t → (c start end : ℕ) → IsStart c start t → IsStart (c + 1) end (drop start t) → take end (drop start t) ≡ course_row c t
 row_by_places t ascending c start end is next =
     let rest : List Placed = from_course c t in
@@ -121,7 +121,7 @@ row_by_places t ascending c start end is next =
     let e : end - 0 ≡ end = omega arith in
     rw is.rest (rw e at (row_between rest order c 0 first end there) ∙ filter_within (λ l. l.course == c) (λ l. leb c l.course) t (λ l k. le-leb c l.course (omega (arith, eqb-true l.course c k))))
 
--- the first that does not pass stands behind those that do
+-- the prefix of elements that pass ends at the first that does not
 pub passes_end : {X : Type 0} (p : X → Bool) (d : X) (xs : List X) (k : ℕ) → k ≤ length xs → list_all p (take k xs) ≡ true → (k < length xs → p (get_or xs k d) ≡ false) → prefix_len p xs ≡ k
 passes_end p d [] zero le all stop = refl
 passes_end p d (x ∷ xs) zero le all stop = rw (stop (omega arith)) refl
@@ -130,7 +130,7 @@ passes_end p d (x ∷ xs) (suc k) le all stop =
     let parts = and_parts (p x) (list_all p (take k xs)) all in
     rw (parts.0, one-add) (ap suc (passes_end p d xs k (omega (arith, le)) parts.1 (λ lt. stop (omega (arith, lt)))))
 
--- what a timetable has from a course on, cut behind its row
+-- the lectures of a timetable from a course on, split after the row of the course
 pub cut_is : (t : List Placed) → Ascending t → (c : ℕ) (lectures : List Placed) → lectures ≡ from_course c t → (k : ℕ) → prefix_len (λ l. l.course == c) lectures ≡ k → IsCut c t (take k lectures) (drop k lectures)
 cut_is t ascending c lectures is k e =
     let order : Ascending (from_course c t) = Pairwise-filter (λ a b. before a b ≡ true) (λ l. leb c l.course) t ascending in

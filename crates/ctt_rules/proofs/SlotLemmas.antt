@@ -7,7 +7,7 @@ some_periods : (d p s : ℕ) → s < d * p → 0 < p
 some_periods d zero s h = absurd (omega (arith, h))
 some_periods d (suc p) s h = omega arith
 
--- where there is a slot, a day has periods
+-- if there is a slot, a day has periods
 pub periods_above : (i : Problem) (s : ℕ) → s < slot_count i → 0 < i.periods
 periods_above i s lt = some_periods i.days i.periods s lt
 

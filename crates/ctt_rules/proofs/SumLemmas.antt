@@ -5,7 +5,7 @@ use Rattle.std.proofs.lemmas.Bool.{cases_eq, eq-eqb, ne_eqb}
 use Rattle.std.proofs.lemmas.List.Sums.{sum_by-cons}
 use Rattle.ctt_text.specs.Lists.{sum_below, count_below}
 
--- the sum goes on by one number
+-- a sum with one more number
 pub sum_below_more : (f : ℕ → ℕ) (n : ℕ) → sum_below f (n + 1) ≡ sum_below f n + f n
 sum_below_more f n = rw add-one refl
 
@@ -13,7 +13,7 @@ pub sum_below_same : (f g : ℕ → ℕ) (n : ℕ) → ((x : ℕ) → f x ≡ g 
 sum_below_same f g zero e = refl
 sum_below_same f g (suc n) e = let here : f n ≡ g n = e n in omega (arith, sum_below_same f g n e)
 
--- the same below n
+-- the sums of functions that agree below n
 pub sum_below_agree : (f g : ℕ → ℕ) (n : ℕ) → ((x : ℕ) → x < n → f x ≡ g x) → sum_below f n ≡ sum_below g n
 sum_below_agree f g zero e = refl
 sum_below_agree f g (suc n) e = let here : f n ≡ g n = e n (omega arith) in omega (arith, here, sum_below_agree f g n (λ x lt. e x (omega (arith, lt))))
@@ -26,7 +26,7 @@ pub sum_below_zero : (f : ℕ → ℕ) (n : ℕ) → ((x : ℕ) → x < n → f 
 sum_below_zero f zero h = refl
 sum_below_zero f (suc n) h = let here : f n ≡ 0 = h n (omega arith) in omega (arith, sum_below_zero f n (λ x lt. h x (omega (arith, lt))))
 
--- the sum of what stands at one number alone
+-- the sum of a value at the single number j
 pub sum_below_one : (v j n : ℕ) → j < n → sum_below (λ x. cond (eqb j x) v 0) n ≡ v
 sum_below_one v j zero h = omega arith
 sum_below_one v j (suc n) h = elim (cases_eq j n) [
@@ -59,7 +59,7 @@ pub sum_by-agree : {X : Type 0} (f g : X → ℕ) → ((x : X) → f x ≡ g x) 
 sum_by-agree f g e [] = refl
 sum_by-agree f g e (x ∷ xs) = sum_by-cons f x xs ∙ ap₂ (λ a b. a + b) (e x) (sum_by-agree f g e xs) ∙ sym (sum_by-cons g x xs)
 
--- two sums over the same elements
+-- two sums over the same elements, joined
 pub sum_by-join : {X : Type 0} (f g h : X → ℕ) → ((x : X) → f x + g x ≡ h x) → (xs : List X) → sum_by f xs + sum_by g xs ≡ sum_by h xs
 sum_by-join f g h e [] = refl
 sum_by-join f g h e (x ∷ xs) = omega (arith, e x, sum_by-join f g h e xs, sum_by-cons f x xs, sum_by-cons g x xs, sum_by-cons h x xs)

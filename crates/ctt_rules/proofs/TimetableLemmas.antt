@@ -1,4 +1,4 @@
--- Timetables: their rows, and how long they are.
+-- The rows of timetables, and bounds on their lengths.
 use Rattle.std.proofs.Common.{◌≡◌, ℕ, suc, ◌+◌, ◌*◌, ◌<◌, ◌≤◌, true, cond, ◌==◌, eqb, List, [], ◌∷◌, length, refl, ◌∙◌, sym, arith, inl, inr}
 use Rattle.std.specs.List.{sum_by, AllByRecursion as Each}
 use Rattle.std.proofs.Math.Nat.{mul-le-mul_right}
@@ -44,7 +44,7 @@ sum_by_course f n (x ∷ xs) h =
     sum_below_same (λ c. sum_by f (course_row c (x ∷ xs))) (λ c. cond (eqb x.course c) (f x) 0 + sum_by f (course_row c xs)) n each ∙ sum_below_add (λ c. cond (eqb x.course c) (f x) 0) (λ c. sum_by f (course_row c xs)) n in
     omega (arith, split, sum_below_one (f x) x.course n h.0, sum_by_course f n xs h.1, sum_by-cons f x xs)
 
--- the lectures of a course that come after one of it stand in later slots
+-- after a lecture of a course, the lectures of the course are in later slots
 pub row_after : (c : ℕ) (x : Placed) (ys : List Placed) → x.course ≡ c → Each (λ z. before x z ≡ true) ys → Each (λ (z : Placed). x.slot < z.slot) (course_row c ys)
 row_after c x [] same k = tt
 row_after c x (y ∷ ys) same k = elim (cases_Bool (eqb y.course c)) [
@@ -63,7 +63,7 @@ row_by_slot c (x ∷ xs) h = elim (cases_Bool (eqb x.course c)) [
   | inr n ↦ rw n (row_by_slot c xs h.1)
 ]
 
--- lectures in slots that ascend are as many as slots at most
+-- there are at most as many lectures in ascending slots as slots
 slots_left : (n low : ℕ) (ls : List Placed) → low ≤ n → Each (λ (l : Placed). low ≤ l.slot) ls → Each (λ (l : Placed). l.slot < n) ls → Pairwise (λ (a b : Placed). a.slot < b.slot) ls → length ls + low ≤ n
 slots_left n low [] le h f p = omega arith
 slots_left n low (x ∷ xs) le h f p =

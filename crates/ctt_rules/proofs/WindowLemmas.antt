@@ -1,4 +1,4 @@
--- Lectures that stand alone, by the words of a window.
+-- Isolated lectures, by the words of a window.
 use Rattle.std.proofs.Common.{◌≡◌, ℕ, ◌+◌, ◌-◌, ◌*◌, ◌/◌, ◌%◌, ◌^◌, ◌<◌, ◌≤◌, Bool, true, false, cond, not, ◌&&◌, ◌||◌, ◌==◌, eqb, ltb, leb, List, [], ◌∷◌, length, get_or, set, refl, ◌∙◌, sym, ap, ap₂, arith, inl, inr, ◌⊎◌}
 use Rattle.std.specs.Prelude.{bit_or}
 use Rattle.std.specs.List.{count_by, sum_by, list_any, AllByRecursion as Each}
@@ -21,14 +21,14 @@ use Rattle.ctt_rules.proofs.CurriculumLemmas.{any_lecture, count_lectures, count
 use Rattle.ctt_rules.proofs.SumLemmas.{sum_below_same, sum_below_agree, sum_below_add, sum_below_one, sum_below_zero, count_by-cons, count_below_le, sum_by-agree, sum_by-join, sum_by-zero, sum_by-few}
 use Rattle.ctt_rules.proofs.TimetableLemmas.{row_by_slot, few_lectures}
 
--- two tests of numbers that say the same
+-- two tests for equality are the same if each implies the other
 eqb_same : (a b c d : ℕ) → (a ≡ b → c ≡ d) → (c ≡ d → a ≡ b) → eqb a b ≡ eqb c d
 eqb_same a b c d f g = elim (cases_eq a b) [
   | inl e ↦ (eq-eqb a b e ∙ sym (eq-eqb c d (f e)))
   | inr n ↦ (ne_eqb a b n ∙ sym (ne_eqb c d (λ e. n (g e))))
 ]
 
--- the numbers of those that pass a test, where no two that pass have the same number
+-- the numbers of those that pass a test, if no two that pass have the same number
 module _ {X : Type 0} (g : X → Bool) (f : X → ℕ) (q : ℕ → Bool) (n : ℕ) where
   abbrev Apart : X → X → Type 0
   Apart x y = g x ≡ true → g y ≡ true → f x ≡ f y → ⊥
@@ -75,14 +75,14 @@ module _ {X : Type 0} (g : X → Bool) (f : X → ℕ) (q : ℕ → Bool) (n : �
             rw (e, no') (omega arith))
       ]
 
--- the days of slots do not fall
+-- the day of a slot is non-decreasing in the slot
 days_rise : (i : Problem) (a b : ℕ) → a ≤ b → day_of i a ≤ day_of i b
 days_rise i a b le = elim (cases_eq i.periods 0) [
   | inl none ↦ omega (arith, ap (λ k. a / k) none ∙ div-zero a)
   | inr some ↦ le-div (day_of i a) b i.periods (omega arith) (omega (arith, le, div-mul-le_self a i.periods))
 ]
 
--- slots stand next to each other exactly where their spaced numbers do
+-- slots are adjacent exactly if their spaced numbers are consecutive
 pub next_is : (i : Problem) (s m : ℕ) → 0 < i.periods → next_to i s m ≡ (spaced i m == spaced i s + 1 || spaced i m + 1 == spaced i s)
 next_is i s m some = elim (cases_eq (day_of i s) (day_of i m)) [
   | inl same ↦ (
@@ -105,7 +105,7 @@ next_is i s m some = elim (cases_eq (day_of i s) (day_of i m)) [
       ]
     ]
 
--- lectures of one course, in a list of all
+-- the lectures of one course among those of all
 pub any_in_row : (c : ℕ) (p : Placed → Bool) (t : List Placed) → list_any (λ l. l.course == c && p l) t ≡ list_any p (course_row c t)
 any_in_row c p [] = refl
 any_in_row c p (x ∷ xs) = elim (cases_Bool (eqb x.course c)) [
@@ -121,7 +121,7 @@ module _ (i : Problem) (t : List Placed) (h : IsTimetable i t) (first : ℕ) (wo
   abbrev in_window : Placed → Bool
   in_window l = leb first (spaced i l.slot + 1) && ltb (spaced i l.slot + 1) (first + 64)
 
-  -- at a place of the window stands who is in it and has the place
+  -- a lecture is at a place of the window exactly if it is in the window and has that place
   stands_is : (place : ℕ) (l : Placed) → place < 64 → stands_at i first place l ≡ (in_window l && place_of l == place)
   stands_is place l lt = elim (cases_lt (spaced i l.slot + 1) first) [
     | inl before ↦ off (ne_eqb (spaced i l.slot + 1) (first + place) (λ e. omega (arith, e, before))) (and_left (leb first (spaced i l.slot + 1)) (ltb (spaced i l.slot + 1) (first + 64)) (lt-leb first (spaced i l.slot + 1) before))
@@ -206,7 +206,7 @@ module _ (i : Problem) (t : List Placed) (h : IsTimetable i t) (first : ℕ) (wo
         ∙ count_lectures (λ l. in_window l && has_bit bits (place_of l)) q t different
         ∙ count_by-same (λ l. in_window l && has_bit bits (place_of l)) (is_alone_within i first part) part (Each-map (Fits i) (λ l. (in_window l && has_bit bits (place_of l)) ≡ is_alone_within i first part l) alone_there part (Each-filter (Fits i) (λ l. has l.course q) t h.fits))
 
--- a table of words, one bit of which is set
+-- a table of words in which one more bit is set
 pub bit_set_in : (words : List ℕ) (course number first : ℕ) → course < length words → first ≤ number → number - first < 64 → (c place : ℕ)
     → has_bit (word_of (set words course (bit_or (get_or words course 0) (1 * 2 ^ (number - first) % 2 ^ 64))) c) place ≡ ((course == c && number == first + place) || has_bit (word_of words c) place)
 bit_set_in words course number first within low high c place = elim (cases_eq course c) [
@@ -220,7 +220,7 @@ bit_set_in words course number first within low high c place = elim (cases_eq co
       ∙ sym (ap (λ b. b || has_bit (word_of words c) place) (and_left (course == c) (number == first + place) (ne_eqb course c other))))
 ]
 
--- different numbers below n are at most n
+-- at most n different numbers are less than n
 pub few_members : (n : ℕ) (q : List ℕ) → AreMembers n q → length q ≤ n
 few_members n q h = omega (
   arith,
@@ -240,11 +240,11 @@ module _ (i : Problem) (t : List Placed) (h : IsTimetable i t) where
   abbrev cost_before : ℕ → List ℕ → ℕ
   cost_before first q = 2 * count_by (alone_before first (lectures_of q t)) (lectures_of q t)
 
-  -- before the first number there is none
+  -- no lecture has a number less than zero
   pub none_before : 0 ≡ sum_by (cost_before 0) i.curricula
   none_before = sym (sum_by-zero (cost_before 0) (λ q. ap (λ n. 2 * n) (sum_by-zero (λ l. cond (alone_before 0 (lectures_of q t) l) 1 0) (λ l. ap (λ b. cond b 1 0) (and_left (ltb (spaced i l.slot) 0) (is_alone i (lectures_of q t) l) (le-ltb (spaced i l.slot) 0 (omega arith)))) (lectures_of q t))) i.curricula)
 
-  -- the numbers before a window, and those in it
+  -- the lectures before a window and those in it are those before the next window
   pub window_more : (first : ℕ) → sum_by (cost_before first) i.curricula + sum_by (λ q. 2 * count_by (is_alone_within i first (lectures_of q t)) (lectures_of q t)) i.curricula ≡ sum_by (cost_before (first + 62)) i.curricula
   window_more first = sum_by-join (cost_before first) (λ q. 2 * count_by (is_alone_within i first (lectures_of q t)) (lectures_of q t)) (cost_before (first + 62))
       (λ q. omega (arith, sum_by-join (λ l. cond (alone_before first (lectures_of q t) l) 1 0) (λ l. cond (is_alone_within i first (lectures_of q t) l) 1 0) (λ l. cond (alone_before (first + 62) (lectures_of q t) l) 1 0) (λ l. each (spaced i l.slot) (is_alone i (lectures_of q t) l)) (lectures_of q t))) i.curricula
@@ -266,7 +266,7 @@ module _ (i : Problem) (t : List Placed) (h : IsTimetable i t) where
         | inr le ↦ inr (le-ltb s first le, le-leb first s le)
       ])
 
-  -- all numbers
+  -- the lectures before the end are all lectures
   pub all_before : (first : ℕ) → slot_count i + i.days ≤ first → sum_by (cost_before first) i.curricula ≡ sum_by (λ q. alone_cost i (lectures_of q t)) i.curricula
   all_before first le = sum_by-agree (cost_before first) (λ q. alone_cost i (lectures_of q t)) (λ q. ap (λ n. 2 * n) (count_by-same (alone_before first (lectures_of q t)) (is_alone i (lectures_of q t)) (lectures_of q t)
       (Each-map (Fits i) (λ l. alone_before first (lectures_of q t) l ≡ is_alone i (lectures_of q t) l) (λ l f. ap (λ b. b && is_alone i (lectures_of q t) l) (lt-ltb (spaced i l.slot) first (omega (arith, le, f.1, day_fits i l.slot f.1)))) (lectures_of q t) (Each-filter (Fits i) (λ l. has l.course q) t h.fits)))) i.curricula

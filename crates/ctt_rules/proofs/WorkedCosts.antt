@@ -1,4 +1,5 @@
--- Worked cases: the courses alg, geo and top are 0, 1 and 2, the rooms A and B are 0 and 1, and there are two days of three periods.
+-- Worked cases: the courses alg, geo and top are 0, 1 and 2, the rooms A and B are 0 and 1, and
+-- there are two days of three periods.
 use Rattle.std.proofs.Common.{◌≡◌, ℕ, List, [], ◌∷◌, true, false, refl}
 use Rattle.ctt_text.specs.Problem.{Problem}
 use Rattle.ctt_text.specs.declared.placed.Placed.{Placed}
@@ -7,7 +8,8 @@ use Rattle.ctt_rules.specs.Hard.{hard_counts}
 use Rattle.ctt_rules.specs.declared.cost.Cost.{Cost}
 use Rattle.ctt_rules.specs.declared.hard.Hard.{Hard}
 
--- geo is unavailable in slot 0; alg and geo are the members of the one curriculum; alg and top have one teacher
+-- geo is unavailable in slot 0; alg and geo are the members of the only curriculum; alg and top
+-- have the same teacher
 abbrev small : Problem
 small = record {
   name = [];
@@ -45,7 +47,7 @@ full_total = refl
 full_counts : hard_counts small full ≡ counts 0 0 0 0
 full_counts = refl
 
--- where room A is barred for alg, and where it is barred for top, which has none of its lectures there
+-- the counts if room A is barred for alg, or for top, which has no lecture there
 barred_counts : hard_counts (record small { barred = true ∷ false ∷ false ∷ false ∷ false ∷ false ∷ [] }) full ≡ record { lectures = 0; conflicts = 0; availability = 0; occupancy = 0; barred = 1 }
 barred_counts = refl
 
@@ -61,7 +63,7 @@ empty_cost = refl
 empty_counts : hard_counts small [] ≡ counts 5 0 0 0
 empty_counts = refl
 
--- the end of a day is not next to the next day
+-- the last slot of a day is not adjacent to the first slot of the next
 abbrev over_night : List Placed
 over_night = at 0 2 0 ∷ at 1 3 0 ∷ []
 
@@ -71,7 +73,7 @@ over_night_cost = refl
 over_night_counts : hard_counts small over_night ≡ counts 3 0 0 0
 over_night_counts = refl
 
--- two lectures in one room, the first where its course is unavailable
+-- two lectures in one room, the first in a slot in which its course is unavailable
 abbrev crowded : List Placed
 crowded = at 1 0 1 ∷ at 2 0 1 ∷ []
 

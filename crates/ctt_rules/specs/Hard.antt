@@ -7,18 +7,20 @@ use Rattle.ctt_text.specs.Timetable.{IsTimetable, course_row}
 use Rattle.ctt_text.specs.declared.placed.Placed.{Placed}
 use Rattle.ctt_rules.specs.declared.hard.Hard.{Hard}
 
--- in one slot, with courses that clash
+-- the lectures are in one slot, and their courses clash
 abbrev pub conflicts : Problem → Placed → Placed → Bool
 conflicts i a b = a.slot == b.slot && clash i a.course b.course
 
--- in one slot and one room
+-- the lectures are in one slot and one room
 abbrev pub share_room : Placed → Placed → Bool
 share_room a b = a.slot == b.slot && a.room == b.room
 
--- what a lecture may be by itself: its course is available in the slot, and the room is not barred for it
+-- a lecture breaks no rule by itself: its course is available in the slot, and its room is not
+-- barred for the course
 abbrev pub IsAllowed : Problem → Placed → Type 0
 IsAllowed i l = (is_unavailable i l.course l.slot ≡ false) × (is_barred i l.course l.room ≡ false)
 
+-- the timetable breaks no hard rule, missing lectures aside
 pub record Lawful (i : Problem) (t : List Placed) : Type 0 where
   pub timetable : IsTimetable i t
   pub conflict_free : Pairwise (λ a b. conflicts i a b ≡ false) t
@@ -26,11 +28,12 @@ pub record Lawful (i : Problem) (t : List Placed) : Type 0 where
   pub rooms_apart : Pairwise (λ a b. share_room a b ≡ false) t
   pub few : (c : ℕ) → length (course_row c t) ≤ (course_of i c).lectures
 
+-- the timetable is lawful and has all lectures of each course
 pub record Complete (i : Problem) (t : List Placed) : Type 0 where
   pub lawful : Lawful i t
   pub all_placed : (c : ℕ) → length (course_row c t) ≡ (course_of i c).lectures
 
--- the lectures that courses lack, and those that they have too many
+-- the missing and surplus lectures of all courses
 abbrev pub missing_count : Problem → List Placed → ℕ
 missing_count i t = sum_below (λ c. ((course_of i c).lectures - length (course_row c t)) + (length (course_row c t) - (course_of i c).lectures)) (course_count i)
 
@@ -51,6 +54,7 @@ barred_count i t = count_by (λ l. is_barred i l.course l.room) t
 abbrev pub occupancy_count : Problem → List Placed → ℕ
 occupancy_count i t = sum_below (λ r. sum_below (λ s. count_by (λ l. l.room == r && l.slot == s) t - 1) (slot_count i)) (room_count i)
 
+-- how often a timetable breaks each of the hard rules
 abbrev pub hard_counts : Problem → List Placed → Hard
 hard_counts i t = record {
   lectures = missing_count i t;

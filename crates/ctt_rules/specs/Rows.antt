@@ -7,7 +7,7 @@ use Rattle.ctt_text.specs.declared.placed.Placed.{Placed}
 abbrev pub from_course : ℕ → List Placed → List Placed
 from_course c t = filter (λ l. nat_le c l.course) t
 
--- what a timetable has from a course on, cut behind the row of that course
+-- row and rest split the lectures of t from course c on: the row of c, and those of later courses
 pub record IsCut (c : ℕ) (t row rest : List Placed) : Type 0 where
   pub front : row ≡ course_row c t
   pub after : rest ≡ from_course (c + 1) t

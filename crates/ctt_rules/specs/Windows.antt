@@ -1,18 +1,20 @@
--- Lectures of courses in a window of 64 slots, a bit each.
+-- The lectures of courses in a window of 64 slots, one bit each.
 use Rattle.std.specs.Prelude.{ℕ, ◌+◌, Bool, List, slice_index_or, ◌==◌, ◌&&◌, nat_le, nat_lt}
 use Rattle.std.specs.Int.{bit_at}
 use Rattle.ctt_text.specs.Problem.{Problem, day_of}
 use Rattle.ctt_text.specs.declared.placed.Placed.{Placed}
 use Rattle.ctt_rules.specs.Penalty.{is_alone}
 
--- the number of a slot where each day is followed by a gap: slots are next to each other exactly where these numbers are
+-- the number of a slot, with a gap after each day: slots are adjacent exactly if their numbers are
+-- consecutive
 abbrev pub spaced : Problem → ℕ → ℕ
 spaced i s = s + day_of i s
 
--- the lecture stands at this place of the window in which first has place 1
+-- the lecture has this place in the window whose place 1 has the number `first`
 abbrev pub stands_at : Problem → ℕ → ℕ → Placed → Bool
 stands_at i first place l = spaced i l.slot + 1 == first + place
 
+-- the bit at a place of a word is set
 abbrev pub has_bit : ℕ → ℕ → Bool
 has_bit word place = bit_at word place == 1
 
@@ -20,6 +22,6 @@ has_bit word place = bit_at word place == 1
 abbrev pub word_of : List ℕ → ℕ → ℕ
 word_of words c = slice_index_or words c 0
 
--- the lecture stands alone among these, at one of the places 1 to 62 of the window
+-- the lecture is isolated among these, and has one of the places 1 to 62 of the window
 abbrev pub is_alone_within : Problem → ℕ → List Placed → Placed → Bool
 is_alone_within i first ls l = (nat_le first (spaced i l.slot) && nat_lt (spaced i l.slot) (first + 62)) && is_alone i ls l

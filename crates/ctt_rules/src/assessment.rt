@@ -1,4 +1,4 @@
-//! All that the rules say of a timetable, at once.
+//! The assessment of a timetable: its hard counts and soft costs, and the two judgements on it.
 
 ghost use Rattle.std.specs.Prelude.{◌≡◌, ◌<◌, ◌^◌, ◌↔◌, IsTrue};
 ghost use Rattle.ctt_text.specs.Timetable.{IsTimetable};
@@ -11,20 +11,20 @@ use crate::lawful::{has_all, keeps_rules};
 use crate::soft::penalty;
 use ctt_text::{Instance, Placed};
 
-/// What a timetable breaks and costs, and the two judgements that follow from it.
+/// The hard counts and soft costs of a timetable, and whether it is lawful and complete.
 #[derive(Clone, Copy, PartialEq, Eq)]
 pub struct Assessment {
     /// How often it breaks the hard constraints.
     pub hard: Hard,
-    /// What it costs by the soft ones.
+    /// What it costs under the soft constraints.
     pub cost: Cost,
-    /// Whether it keeps the hard rules, but for lectures that are not placed.
+    /// Whether it breaks no hard rule, unplaced lectures aside.
     pub lawful: bool,
     /// Whether it is lawful and has all lectures of each course.
     pub complete: bool,
 }
 
-/// Assesses a timetable: everything is counted once.
+/// Assesses a timetable. Both judgements follow from the same hard counts.
 pub fn assess(instance: &Instance, timetable: &[Placed]) -> Assessment
     requires { IsTimetable instance.now timetable.now }
     ensures hard { result.hard ≡ hard_counts instance.now timetable.now }

@@ -1,4 +1,4 @@
-//! The compactness of the curricula, by words of bits: one bit for each slot of a window.
+//! Curriculum compactness, computed with bit masks: one bit for each slot of a window.
 
 ghost use Rattle.std.specs.Prelude.{◌≡◌, ◌<◌, ◌≤◌, ◌+◌, ◌-◌, ◌*◌, ◌&&◌, ◌||◌, ◌==◌, not, nat_lt, ℕ, length, count_by, sum_by};
 ghost use Rattle.std.specs.List.{list_any, AllByRecursion as Each};
@@ -10,10 +10,11 @@ ghost use Rattle.ctt_rules.specs.Windows.{has_bit, is_alone_within, stands_at, w
 use ctt_text::{CourseNo, CurriculumNo, Instance, Placed};
 use std::marker::Model;
 
-/// The places of a window at which lectures are counted, 1 to 62. At 0 and 63 stand their neighbours.
+/// The places of a window at which lectures are counted, 1 to 62. Places 0 and 63 are their
+/// neighbours.
 const COUNTED: u64 = 0x7fff_ffff_ffff_fffe;
 
-/// A word of 64 bits for each course.
+/// A 64-bit word for each course.
 #[derive(Drop)]
 struct Words {
     words: [u64; 2000],
@@ -28,14 +29,14 @@ impl Model for Words {
 }
 
 impl Words {
-    /// No bit is set.
+    /// Creates words with no bit set.
     fn new() -> Self
         ensures { (c : ℕ) → word_of result c ≡ 0 }
     {
         Words { words: [0; 2000] }
     }
 
-    /// Sets the bit of a number, if it is one of the 64 from `first` on.
+    /// Sets the bit of a number in the word of a course, if it is one of the 64 from `first` on.
     fn set(&mut self, course: CourseNo, number: u16, first: u16)
         requires { course < 2000 }
         ensures { (c place : ℕ) → place < 64 → has_bit (word_of self.new c) place
@@ -46,7 +47,7 @@ impl Words {
         }
     }
 
-    /// The word of a course.
+    /// Returns the word of a course.
     fn of(&self, course: CourseNo) -> u64
         requires { course < 2000 }
         ensures { result ≡ word_of self.now course }
@@ -54,7 +55,7 @@ impl Words {
         self.words[course.get() as usize]
     }
 
-    /// The bits that some of these courses have.
+    /// Returns the bits that are set for at least one of these courses.
     fn union(&self, courses: &[CourseNo]) -> u64
         requires { Each (λ c. c < 2000) courses.now }
         ensures { (place : ℕ)
@@ -68,7 +69,7 @@ impl Words {
         union
     }
 
-    /// How many of these bits the courses have, each for itself.
+    /// Counts the bits of `bits` that are set in the words of these courses, each course by itself.
     fn count(&self, courses: &[CourseNo], bits: u64) -> u64
         requires fit { Each (λ c. c < 2000) courses.now }
         requires few { length courses.now ≤ 2000 }
@@ -86,7 +87,7 @@ impl Words {
     }
 }
 
-/// The places that are counted and have no busy one beside them.
+/// Returns the places 1 to 62 that have no busy place next to them.
 fn alone(busy: u64) -> u64
     ensures { (place : ℕ) → has_bit result place
         ≡ ((nat_lt 0 place && nat_lt place 63)
@@ -95,7 +96,7 @@ fn alone(busy: u64) -> u64
     !(busy << 1 | busy >> 1) & COUNTED
 }
 
-/// The lectures, course by course, in the window in which `first` has place 1.
+/// Marks the lectures of each course in the window whose place 1 has the number `first`.
 fn window(instance: &Instance, timetable: &[Placed], first: u16) -> Words
     requires { Each (Fits instance.now) timetable.now }
     ensures { (c place : ℕ) → place < 64 → has_bit (word_of result c) place
@@ -110,7 +111,8 @@ fn window(instance: &Instance, timetable: &[Placed], first: u16) -> Words
     words
 }
 
-/// Two points for each lecture of a curriculum that is next to none of it, in a window.
+/// Returns two points for each lecture in a window that is isolated in a curriculum, over all
+/// curricula.
 fn alone_within(instance: &Instance, timetable: &[Placed], first: u16) -> u64
     requires { IsTimetable instance.now timetable.now }
     ensures value { result
@@ -130,10 +132,10 @@ fn alone_within(instance: &Instance, timetable: &[Placed], first: u16) -> u64
     total
 }
 
-/// Two points for each lecture of a curriculum that is next to none of it, over all curricula.
+/// Returns two points for each lecture that is isolated in a curriculum, over all curricula.
 ///
-/// Slots are numbered with a gap after each day, so that the last of a day and the first of the next are not next to each
-/// other. Windows of 62 numbers are taken in turn.
+/// Slots are numbered with a gap after each day, so that the last slot of a day is not adjacent to
+/// the first slot of the next. The numbers are processed in windows of 62.
 pub(crate) fn compactness(instance: &Instance, timetable: &[Placed]) -> u64
     requires { IsTimetable instance.now timetable.now }
     ensures value { result ≡ (penalty instance.now timetable.now).compactness }

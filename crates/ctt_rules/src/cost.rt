@@ -1,16 +1,15 @@
 //! The soft costs.
 
-/// What a timetable costs by the four soft constraints of the technical report of Di Gaspero,
+/// What a timetable costs under the four soft constraints of the technical report of Di Gaspero,
 /// McCollum and Schaerf for ITC 2007.
 #[derive(Clone, Copy, Default, PartialEq, Eq)]
 pub struct Cost {
     /// One point for each student above the capacity of the room, at each lecture.
     pub capacity: u64,
-    /// Five points for each day below the minimum over which the lectures of a course should be
-    /// spread.
+    /// Five points for each day by which a course falls short of its minimum of working days.
     pub days: u64,
-    /// Two points for each lecture of a curriculum that is not next to another one of it, on the
-    /// same day.
+    /// Two points for each lecture that is isolated in a curriculum: not adjacent to another
+    /// lecture of it on the same day.
     pub compactness: u64,
     /// One point for each room beyond the first in which a course has lectures.
     pub stability: u64,
@@ -20,7 +19,7 @@ impl Cost {
     ghost use Rattle.std.specs.Prelude.{◌≡◌, ◌<◌, ◌^◌};
     ghost use Rattle.ctt_rules.specs.Penalty.{total};
 
-    /// The sum of the four costs.
+    /// Returns the sum of the four costs.
     pub fn total(&self) -> u64
         requires { total self.now < 2 ^ 64 }
         ensures { result ≡ total self.now }

@@ -13,7 +13,7 @@ use ctt_text::{CourseNo, Instance, Placed};
 /// Di Gaspero, McCollum and Schaerf for ITC 2007, and how many lectures are in barred rooms.
 #[derive(Clone, Copy, Default, PartialEq, Eq)]
 pub struct Hard {
-    /// Lectures that courses lack, and lectures that they have too many.
+    /// Missing and surplus lectures, over all courses.
     pub lectures: u64,
     /// Pairs of lectures in one slot whose courses have the same teacher or a common curriculum.
     pub conflicts: u64,
@@ -25,7 +25,7 @@ pub struct Hard {
     pub barred: u64,
 }
 
-/// The lectures that courses lack, and those that they have too many.
+/// Counts the missing and surplus lectures of all courses.
 fn missing(instance: &Instance, timetable: &[Placed]) -> u64
     requires { IsTimetable instance.now timetable.now }
     ensures { result ≡ missing_count instance.now timetable.now }
@@ -42,7 +42,7 @@ fn missing(instance: &Instance, timetable: &[Placed]) -> u64
     total
 }
 
-/// The lectures in slots in which their courses are unavailable.
+/// Counts the lectures in slots in which their courses are unavailable.
 fn unavailable(instance: &Instance, lectures: &[Placed]) -> u64
     requires { Each (Fits instance.now) lectures.now }
     ensures { result ≡ unavailable_count instance.now lectures.now }
@@ -56,7 +56,7 @@ fn unavailable(instance: &Instance, lectures: &[Placed]) -> u64
     count
 }
 
-/// The lectures in rooms that are barred for their courses.
+/// Counts the lectures in rooms that are barred for their courses.
 fn barred(instance: &Instance, lectures: &[Placed]) -> u64
     requires { Each (Fits instance.now) lectures.now }
     ensures { result ≡ barred_count instance.now lectures.now }
@@ -70,7 +70,7 @@ fn barred(instance: &Instance, lectures: &[Placed]) -> u64
     count
 }
 
-/// How often a timetable breaks each of the hard constraints.
+/// Counts how often a timetable breaks each of the hard rules.
 pub fn hard_counts(instance: &Instance, timetable: &[Placed]) -> Hard
     requires { IsTimetable instance.now timetable.now }
     ensures { result ≡ hard_counts instance.now timetable.now }

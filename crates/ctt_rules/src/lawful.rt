@@ -1,4 +1,4 @@
-//! Which timetables are lawful, and which of those are complete, by what they break.
+//! Whether a timetable is lawful, and whether it is complete, by its hard counts.
 
 ghost use Rattle.std.specs.Prelude.{◌≡◌, ◌≤◌, ◌↔◌, ◌==◌, ◌&&◌, ℕ, IsTrue, length};
 ghost use Rattle.ctt_text.specs.Problem.{course_of};
@@ -9,7 +9,7 @@ use crate::hard::{Hard, hard_counts};
 use crate::row::course_row;
 use ctt_text::{CourseNo, Instance, Placed};
 
-/// Whether no course has more lectures than the instance says, in a timetable that breaks so much.
+/// Returns whether no course has more lectures than the instance states, given the hard counts.
 fn has_no_surplus(instance: &Instance, timetable: &[Placed], hard: &Hard) -> bool
     requires timetable { IsTimetable instance.now timetable.now }
     requires counted { hard.now ≡ hard_counts instance.now timetable.now }
@@ -28,7 +28,7 @@ fn has_no_surplus(instance: &Instance, timetable: &[Placed], hard: &Hard) -> boo
     true
 }
 
-/// Whether none of the lectures that are placed breaks a rule.
+/// Returns whether all counts other than that of missing and surplus lectures are zero.
 fn breaks_none(hard: &Hard) -> bool
     ensures { result
         ≡ (hard.now.conflicts == 0
@@ -37,7 +37,7 @@ fn breaks_none(hard: &Hard) -> bool
     hard.conflicts == 0 && (hard.availability == 0 && (hard.occupancy == 0 && hard.barred == 0))
 }
 
-/// Whether a timetable that breaks so much is lawful.
+/// Returns whether a timetable with these hard counts is lawful.
 pub(crate) fn keeps_rules(instance: &Instance, timetable: &[Placed], hard: &Hard) -> bool
     requires timetable { IsTimetable instance.now timetable.now }
     requires counted { hard.now ≡ hard_counts instance.now timetable.now }
@@ -46,7 +46,7 @@ pub(crate) fn keeps_rules(instance: &Instance, timetable: &[Placed], hard: &Hard
     breaks_none(hard) && has_no_surplus(instance, timetable, hard)
 }
 
-/// Whether a timetable that breaks so much, and is lawful or not, is complete.
+/// Returns whether a timetable is complete, given its hard counts and whether it is lawful.
 pub(crate) fn has_all(instance: &Instance, timetable: &[Placed], hard: &Hard, lawful: bool) -> bool
     requires timetable { IsTimetable instance.now timetable.now }
     requires counted { hard.now ≡ hard_counts instance.now timetable.now }
@@ -56,9 +56,9 @@ pub(crate) fn has_all(instance: &Instance, timetable: &[Placed], hard: &Hard, la
     lawful && hard.lectures == 0
 }
 
-/// Whether a timetable keeps the hard rules, but for lectures that are not placed: no lectures in
-/// one slot have courses that clash, none is where its course is unavailable, or in a room that is barred
-/// for it, no two share a room and slot, and no course has too many.
+/// Returns whether a timetable breaks no hard rule, unplaced lectures aside: no two lectures in one
+/// slot have courses that clash, no lecture is in a slot in which its course is unavailable or in a
+/// room that is barred for it, no two share a room and slot, and no course has surplus lectures.
 pub fn is_lawful(instance: &Instance, timetable: &[Placed]) -> bool
     requires { IsTimetable instance.now timetable.now }
     ensures { IsTrue result ↔ Lawful instance.now timetable.now }
@@ -66,7 +66,7 @@ pub fn is_lawful(instance: &Instance, timetable: &[Placed]) -> bool
     keeps_rules(instance, timetable, &hard_counts(instance, timetable))
 }
 
-/// Whether a timetable is lawful and has all lectures of each course.
+/// Returns whether a timetable is lawful and has all lectures of each course.
 pub fn is_complete(instance: &Instance, timetable: &[Placed]) -> bool
     requires { IsTimetable instance.now timetable.now }
     ensures { IsTrue result ↔ Complete instance.now timetable.now }

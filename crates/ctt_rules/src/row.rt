@@ -8,7 +8,7 @@ ghost use Rattle.ctt_rules.specs.Rows.{from_course, IsCut};
 
 use ctt_text::{CourseNo, Instance, Placed};
 
-/// The lectures of a course, which stand together in a timetable.
+/// Returns the lectures of a course, which are contiguous in a timetable.
 pub fn course_row<'a>(
     instance: &Instance,
     timetable: &'a [Placed],
@@ -24,8 +24,7 @@ pub fn course_row<'a>(
     &rest[..end]
 }
 
-/// The lectures of a course, and those of the courses after it, of a timetable's lectures from this
-/// course on.
+/// Splits the lectures from a course on into those of the course and those of the courses after it.
 pub(crate) fn cut_row<'a>(lectures: &'a [Placed], course: CourseNo) -> (&'a [Placed], &'a [Placed])
     ensures { (t : List Placed)
         → Ascending t

@@ -1,4 +1,4 @@
-//! Lectures in one slot: whose courses clash, and which share a room. A block of 64 slots is taken at a time.
+//! Lectures in one slot whose courses clash or that share a room, counted in blocks of 64 slots.
 
 ghost use Rattle.std.specs.Prelude.{◌≡◌, ◌<◌, ◌≤◌, ◌+◌, ◌-◌, ◌*◌, ◌^◌, ◌==◌, ◌&&◌, ◌||◌, ℕ, [], cond, false, not, nat_le, nat_lt};
 ghost use Rattle.ctt_text.specs.Marks.{is_marked, count_marked};
@@ -9,7 +9,7 @@ ghost use Rattle.ctt_rules.specs.Earlier.{clashes_with, in_row, new_conflicts, o
 use ctt_text::{Instance, Marks, Placed};
 use std::marker::Model;
 
-/// Numbers that are marked in each of 64 slots in a row.
+/// The numbers that are marked in each of 64 consecutive slots.
 #[derive(Drop)]
 struct SlotMarks {
     rows: [Marks; 64],
@@ -24,7 +24,7 @@ impl Model for SlotMarks {
 }
 
 impl SlotMarks {
-    /// No number is marked.
+    /// Creates marks with no number marked.
     fn new() -> Self
         ensures { (row n : ℕ) → in_row result row n ≡ false }
     {
@@ -32,7 +32,7 @@ impl SlotMarks {
         SlotMarks { rows: [none; 64] }
     }
 
-    /// Marks a number in a slot, and answers whether it was new.
+    /// Marks a number in a slot, and returns whether it was unmarked before.
     fn mark(&mut self, row: usize, number: usize) -> bool
         requires row { row < 64 }
         requires number { number < 2000 }
@@ -43,7 +43,7 @@ impl SlotMarks {
         self.rows[row].mark(number)
     }
 
-    /// How many numbers are marked in a slot and in these marks.
+    /// Counts the numbers that are marked both in a slot and in `marks`.
     fn common_count(&self, row: usize, marks: &Marks) -> u32
         requires { row < 64 }
         ensures count { result
@@ -54,7 +54,7 @@ impl SlotMarks {
     }
 }
 
-/// How often lectures in one slot break a hard constraint.
+/// How often lectures in one slot break a hard constraint together.
 #[derive(Clone, Copy)]
 pub(crate) struct Sharing {
     /// Pairs of lectures whose courses clash.
@@ -63,7 +63,7 @@ pub(crate) struct Sharing {
     pub(crate) occupancy: u64,
 }
 
-/// The lectures met so far in the 64 slots from `first` on.
+/// The lectures seen so far in the 64 slots from `first` on, and their counts.
 #[derive(Drop)]
 struct Block {
     first: u16,
@@ -73,7 +73,7 @@ struct Block {
 }
 
 impl Block {
-    /// No lecture was met.
+    /// Creates a block in which no lecture has been seen.
     fn new(first: u16) -> Self
         ensures first { result.first ≡ first }
         ensures courses { (row n : ℕ) → in_row result.courses row n ≡ false }
@@ -92,7 +92,7 @@ impl Block {
         }
     }
 
-    /// Meets a lecture, if it is in one of the slots.
+    /// Counts a lecture against those seen so far, and records it, if it is in one of the slots.
     fn meet(&mut self, instance: &Instance, lecture: &Placed)
         requires fits { Fits instance.now lecture.now }
         requires small { self.now.sharing.conflicts + 2000 < 2 ^ 64 }
@@ -128,7 +128,7 @@ impl Block {
     }
 }
 
-/// The counts of one block.
+/// Counts the conflicts and shared rooms in one block.
 fn count_block(instance: &Instance, timetable: &[Placed], first: u16) -> Sharing
     requires { IsTimetable instance.now timetable.now }
     ensures conflicts { result.conflicts
@@ -146,7 +146,8 @@ fn count_block(instance: &Instance, timetable: &[Placed], first: u16) -> Sharing
     block.sharing
 }
 
-/// The pairs of lectures in one slot whose courses clash, and the lectures beyond the first in each room and slot.
+/// Counts the pairs of lectures in one slot whose courses clash, and the lectures beyond the first
+/// in each room and slot.
 pub(crate) fn count_sharing(instance: &Instance, timetable: &[Placed]) -> Sharing
     requires { IsTimetable instance.now timetable.now }
     ensures conflicts { result.conflicts ≡ conflict_count instance.now timetable.now }

@@ -1,4 +1,4 @@
-//! Marks on the slots of lectures, and the lectures that stand beside none.
+//! Marks on the slots of lectures, and lectures with no marked slot next to theirs.
 
 ghost use Rattle.std.specs.Prelude.{◌≡◌, ◌<◌, ◌≤◌, ◌||◌, not, ℕ, length, count_by};
 ghost use Rattle.std.specs.List.{AllByRecursion as Each};
@@ -20,7 +20,7 @@ pub fn mark_slots(instance: &Instance, slots: &mut Marks, lectures: &[Placed])
     }
 }
 
-/// Whether the slot before or the one after, on the same day, is marked.
+/// Returns whether the slot before or after, on the same day, is marked.
 fn is_beside(instance: &Instance, slots: &Marks, slot: SlotNo) -> bool
     requires { slot < slot_count instance.now }
     ensures { result ≡ is_beside instance.now (is_marked slots.now) slot }
@@ -32,7 +32,7 @@ fn is_beside(instance: &Instance, slots: &Marks, slot: SlotNo) -> bool
         || (period + 1 < instance.periods() && slots.is_marked(number + 1))
 }
 
-/// How many lectures stand where no slot beside them is marked.
+/// Counts the lectures with no marked slot directly before or after theirs on the same day.
 pub fn count_alone(instance: &Instance, slots: &Marks, lectures: &[Placed]) -> u64
     requires { Each (Fits instance.now) lectures.now }
     ensures count { result

@@ -1,4 +1,4 @@
-//! What a timetable costs.
+//! The soft costs of a timetable.
 
 ghost use Rattle.std.specs.Prelude.{◌≡◌, ◌<◌, ◌≤◌, ◌*◌, ◌^◌, length, sum_by};
 ghost use Rattle.std.specs.List.{AllByRecursion as Each};
@@ -11,7 +11,7 @@ use crate::cost::Cost;
 use crate::row::{course_row, cut_row};
 use ctt_text::{CourseNo, Instance, Marks, Placed};
 
-/// The students above the capacities of the rooms, over all these lectures.
+/// Sums the students above the capacity of the room, over all these lectures.
 fn capacity(instance: &Instance, lectures: &[Placed]) -> u64
     requires fits { Each (Fits instance.now) lectures.now }
     requires few { length lectures.now ≤ 4000000 }
@@ -27,7 +27,7 @@ fn capacity(instance: &Instance, lectures: &[Placed]) -> u64
     total
 }
 
-/// On how many different days these lectures are.
+/// Counts the different days of these lectures.
 fn day_count(instance: &Instance, lectures: &[Placed]) -> u64
     requires { Each (Fits instance.now) lectures.now }
     ensures { result ≡ days_of instance.now lectures.now }
@@ -43,7 +43,7 @@ fn day_count(instance: &Instance, lectures: &[Placed]) -> u64
     count
 }
 
-/// In how many different rooms these lectures are.
+/// Counts the different rooms of these lectures.
 fn room_count(instance: &Instance, lectures: &[Placed]) -> u64
     requires { Each (Fits instance.now) lectures.now }
     ensures { result ≡ rooms_of instance.now lectures.now }
@@ -59,7 +59,7 @@ fn room_count(instance: &Instance, lectures: &[Placed]) -> u64
     count
 }
 
-/// Five points for each day that the lectures of a course have too few.
+/// Returns five points for each day by which a course falls short of its minimum of working days.
 fn missing_days(instance: &Instance, course: CourseNo, row: &[Placed]) -> u64
     requires course { course < course_count instance.now }
     requires fits { Each (Fits instance.now) row.now }
@@ -70,7 +70,7 @@ fn missing_days(instance: &Instance, course: CourseNo, row: &[Placed]) -> u64
     5 * u64::from(instance.min_days(course)).saturating_sub(day_count(instance, row))
 }
 
-/// One point for each room beyond the first that the lectures of a course have.
+/// Returns one point for each room beyond the first in which a course has lectures.
 fn surplus_rooms(instance: &Instance, row: &[Placed]) -> u64
     requires { Each (Fits instance.now) row.now }
     ensures value { result ≡ rooms_cost instance.now row.now }
@@ -80,7 +80,7 @@ fn surplus_rooms(instance: &Instance, row: &[Placed]) -> u64
     room_count(instance, row).saturating_sub(1)
 }
 
-/// Five points for each day that the lectures of a course have too few, over all courses.
+/// Returns five points for each missing working day, over all courses.
 fn days(instance: &Instance, timetable: &[Placed]) -> u64
     requires { IsTimetable instance.now timetable.now }
     ensures value { result ≡ (penalty instance.now timetable.now).days }
@@ -98,7 +98,7 @@ fn days(instance: &Instance, timetable: &[Placed]) -> u64
     total
 }
 
-/// One point for each room beyond the first that the lectures of a course have, over all courses.
+/// Returns one point for each room beyond the first, over all courses.
 fn stability(instance: &Instance, timetable: &[Placed]) -> u64
     requires { IsTimetable instance.now timetable.now }
     ensures value { result ≡ (penalty instance.now timetable.now).stability }
@@ -115,7 +115,7 @@ fn stability(instance: &Instance, timetable: &[Placed]) -> u64
     total
 }
 
-/// What a timetable costs.
+/// Returns what a timetable costs under the soft constraints.
 pub fn penalty(instance: &Instance, timetable: &[Placed]) -> Cost
     requires { IsTimetable instance.now timetable.now }
     ensures value { result ≡ penalty instance.now timetable.now }
@@ -130,8 +130,8 @@ pub fn penalty(instance: &Instance, timetable: &[Placed]) -> Cost
     }
 }
 
-/// What the lectures of one course cost by the constraints that are counted course by course, that
-/// is by all but the compactness of curricula, which is 0 here.
+/// Returns what one course costs under the constraints that are counted course by course: all but
+/// the compactness of curricula, which is 0 here.
 pub fn course_cost(instance: &Instance, timetable: &[Placed], course: CourseNo) -> Cost
     requires timetable { IsTimetable instance.now timetable.now }
     requires course { course < course_count instance.now }

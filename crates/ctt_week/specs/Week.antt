@@ -1,4 +1,4 @@
--- The week of a timetable as text: tables that have a column a day and a line a period.
+-- The week of a timetable as text: tables with a column for each day and a line for each period.
 use Rattle.std.specs.Prelude.{ℕ, zero, suc, ◌+◌, ◌-◌, ◌<◌, max, Bool, false, List, [], ◌∷◌, ◌++◌, length, get_or, replicate, fold, filter, flat_map, ◌==◌, Option, Some, None, codes, chars, slice_index_or, if◌then◌else◌}
 use Rattle.std.specs.Fmt.{decimal}
 use Rattle.unicode_width.specs.Width.{str_width}
@@ -9,12 +9,12 @@ use Rattle.ctt_text.specs.declared.placed.Placed.{Placed}
 use Rattle.ctt_week.specs.declared.selection.Selection.{Selection}
 use Rattle.ctt_week.specs.declared.selection.Selection.TheVariants.{Curriculum, Teacher, Course, Room}
 
--- what f gives for each number below n, one behind another
+-- the lists that f gives for the numbers below n, one after another
 abbrev pub for_each : {X : Type 0} → (ℕ → List X) → ℕ → List X
 for_each f zero = []
 for_each f (suc n) = for_each f n ++ f n
 
--- a selection of what the instance has
+-- the number of a selection is one of the instance
 abbrev pub SelectionFits : Problem → Selection → Type 0
 SelectionFits i (Curriculum q) = q < curriculum_count i
 SelectionFits i (Teacher n) = n < teacher_count i
@@ -39,7 +39,7 @@ is_closed i (Room r) s = false
 abbrev pub entry : Problem → Placed → List ℕ
 entry i l = slice_index_or i.course_names l.course [] ++ (codes " " ++ slice_index_or i.room_names l.room [])
 
--- what stands between a cell's text and one more lecture
+-- the separator between the text of a cell and one more lecture
 abbrev pub comma : List ℕ → List ℕ
 comma cell = if length cell == 0 then [] else codes ", "
 
@@ -47,61 +47,65 @@ comma cell = if length cell == 0 then [] else codes ", "
 abbrev pub entries : Problem → List Placed → List ℕ
 entries i ls = fold (λ cell l. cell ++ (comma cell ++ entry i l)) [] ls
 
--- the mark of a cell in whose slot the selection is closed: by itself, or behind the lecture
+-- the mark of a cell in whose slot the selection is closed: alone, or after the lectures
 abbrev pub mark : Bool → List ℕ → List ℕ
 mark closed cell = if closed then (if length cell == 0 then codes "-" else codes " !") else []
 
--- the cell of a slot, where these lectures are in the selection
+-- the text of the cell of a slot; ls are the lectures in the selection
 abbrev pub cell : Problem → Selection → List Placed → ℕ → List ℕ
 cell i selection ls s = entries i (slot_row s ls) ++ mark (is_closed i selection s) (entries i (slot_row s ls))
 
--- a column: its head, and below it what stands in each period
+-- the column of the periods: its head, and the number of each period
 abbrev pub period_column : Problem → List (List ℕ)
 period_column i = codes "period" ∷ for_each (λ p. decimal p ∷ []) i.periods
 
+-- the column of a day: its head, and the cell of each period
 abbrev pub day_column : Problem → Selection → List Placed → ℕ → List (List ℕ)
 day_column i selection ls d = (codes "day " ++ decimal d) ∷ for_each (λ p. cell i selection ls (slot_of i d p) ∷ []) i.periods
 
+-- all columns of a table
 abbrev pub columns : Problem → Selection → List Placed → List (List (List ℕ))
 columns i selection ls = period_column i ∷ for_each (λ d. day_column i selection ls d ∷ []) i.days
 
--- how wide a text stands in a terminal, and the widest of some
+-- the width of a text in terminal columns
 abbrev pub width : List ℕ → ℕ
 width text = str_width false (chars text)
 
+-- the width of the widest text
 abbrev pub widest : List (List ℕ) → ℕ
 widest texts = fold (λ n text. max n (width text)) 0 texts
 
 abbrev pub blanks : ℕ → List ℕ
 blanks n = replicate n 32
 
--- the text of a column in a line, filled with blanks to the width of the column
+-- the text at a place of a column, padded with blanks to the width of the column
 abbrev pub filled : ℕ → List (List ℕ) → List ℕ
 filled k column = codes "| " ++ (get_or column k [] ++ (blanks (widest column - width (get_or column k [])) ++ codes " "))
 
--- a line of a table, from the top
+-- a line of a table, counted from the top
 abbrev pub line : List (List (List ℕ)) → ℕ → List ℕ
 line columns k = flat_map (filled k) columns ++ codes "|\n"
 
--- the line above a table: whose it is
+-- the line above a table, which names the selection
 abbrev pub title : Problem → Selection → List ℕ
 title i (Curriculum q) = codes "curriculum " ++ (slice_index_or i.curriculum_names q [] ++ codes "\n")
 title i (Teacher n) = codes "teacher " ++ (slice_index_or i.teacher_names n [] ++ codes "\n")
 title i (Course c) = codes "course " ++ (slice_index_or i.course_names c [] ++ codes "\n")
 title i (Room r) = codes "room " ++ (slice_index_or i.room_names r [] ++ codes "\n")
 
--- the table of a selection: a line of heads, and one a period
+-- the table of a selection: its title, a line of heads, and a line for each period
 abbrev pub table : Problem → Selection → List Placed → List ℕ
 table i selection t = title i selection ++ for_each (line (columns i selection (filter (is_selected i selection) t))) (i.periods + 1)
 
--- the tables of all rooms, with a blank line between two
+-- a blank line, except before the first table
 abbrev pub gap : ℕ → List ℕ
 gap n = if n == 0 then [] else codes "\n"
 
+-- the tables of all rooms, with blank lines between them
 abbrev pub tables : Problem → List Placed → List ℕ
 tables i t = for_each (λ r. gap r ++ table i (Room r) t) (room_count i)
 
--- the week of a selection; without one that of all rooms
+-- the week of a selection, or the weeks of all rooms if there is no selection
 abbrev pub week : Problem → Option Selection → List Placed → List ℕ
 week i (Some selection) t = table i selection t
 week i None t = tables i t

@@ -11,7 +11,7 @@ use ctt_text::{Instance, Placed, SlotNo};
 use std::alloc::{AllocError, Global};
 use std::fmt::Write;
 
-/// Adds a comma and a blank, where something stands in the cell.
+/// Adds a comma and a blank, unless the cell is empty.
 fn push_comma(cell: &mut String) -> Result<(), AllocError>
     ensures { OnOk result (string_bytes cell.new
         ≡ string_bytes cell.old ++ comma (string_bytes cell.old)) }
@@ -22,7 +22,7 @@ fn push_comma(cell: &mut String) -> Result<(), AllocError>
     cell.push_str(", ")
 }
 
-/// Adds a lecture: its course and its room.
+/// Adds a lecture: its course and its room, after a comma if the cell is not empty.
 fn push_entry(cell: &mut String, instance: &Instance, lecture: &Placed) -> Result<(), AllocError>
     requires { Fits instance.now lecture.now }
     ensures { OnOk result (string_bytes cell.new ≡ string_bytes cell.old
@@ -34,7 +34,7 @@ fn push_entry(cell: &mut String, instance: &Instance, lecture: &Placed) -> Resul
     write!(cell, "{course} {room}")
 }
 
-/// The lectures that stand in a slot.
+/// Returns the text of the lectures in a slot.
 fn entries(
     alloc: Global,
     instance: &Instance,
@@ -54,7 +54,7 @@ fn entries(
     Ok(cell)
 }
 
-/// Adds the mark of a cell in whose slot the selection is closed.
+/// Adds the mark of a slot in which the selection is closed: `-` in an empty cell, ` !` in another.
 fn push_mark(cell: &mut String, closed: bool) -> Result<(), AllocError>
     ensures { OnOk result (string_bytes cell.new
         ≡ string_bytes cell.old ++ mark closed (string_bytes cell.old)) }
@@ -66,7 +66,7 @@ fn push_mark(cell: &mut String, closed: bool) -> Result<(), AllocError>
     cell.push_str(mark)
 }
 
-/// The text of the cell of a slot, of the lectures in the selection.
+/// Returns the text of the cell of a slot. `lectures` are those in the selection.
 pub(crate) fn cell(
     alloc: Global,
     instance: &Instance,

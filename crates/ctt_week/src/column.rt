@@ -8,7 +8,7 @@ use std::fmt::Write;
 use std::marker::Model;
 use unicode_width::UnicodeWidthStr;
 
-/// The texts of a column, from the top, and how wide the widest is.
+/// The texts of a column from top to bottom, and the width of the widest.
 #[derive(Drop)]
 pub(crate) struct Column {
     texts: Vec<String>,
@@ -26,21 +26,19 @@ impl Model for Column {
     ghost invariant = { λ c. c.width ≡ widest (map string_bytes c.texts.items) };
 }
 
-/// How wide a text stands in a terminal.
+/// Returns the width of a text in terminal columns.
 fn width(text: &str) -> usize
     ensures { result ≡ width text.now }
 {
     text.width()
 }
 
-/// The greater of two numbers.
 fn greater(a: usize, b: usize) -> usize
     ensures { result ≡ max a b }
 {
     if a < b { b } else { a }
 }
 
-/// Adds blanks.
 fn push_blanks(line: &mut String, count: usize) -> Result<(), AllocError>
     ensures { OnOk result (string_bytes line.new ≡ string_bytes line.old ++ blanks count) }
 {
@@ -51,7 +49,7 @@ fn push_blanks(line: &mut String, count: usize) -> Result<(), AllocError>
 }
 
 impl Column {
-    /// No text.
+    /// Creates a column without texts.
     pub(crate) fn new(alloc: Global) -> Self
         ensures { result ≡ [] }
     {
@@ -71,14 +69,14 @@ impl Column {
         Ok(())
     }
 
-    /// How wide the widest text is.
+    /// Returns the width of the widest text in terminal columns.
     fn widest(&self) -> usize
         ensures { result ≡ widest self.now }
     {
         self.width
     }
 
-    /// The text in a place; below the last there is none.
+    /// Returns the text at a place, counted from the top; below the last it is empty.
     fn text(&self, place: usize) -> &str
         ensures { result.now ≡ get_or self.now place [] }
     {
@@ -88,7 +86,7 @@ impl Column {
         }
     }
 
-    /// Adds the text in a place to a line, filled with blanks to the width of the column.
+    /// Adds the text at a place to a line, padded with blanks to the width of the column.
     pub(crate) fn push_to(&self, line: &mut String, place: usize) -> Result<(), AllocError>
         ensures { OnOk result (string_bytes line.new
             ≡ string_bytes line.old ++ filled place self.now) }

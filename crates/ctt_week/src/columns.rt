@@ -1,4 +1,4 @@
-//! The columns of a week: one of the periods, and one a day.
+//! The columns of a week: one for the periods, and one for each day.
 
 ghost use Rattle.std.specs.Prelude.{◌≡◌, ◌<◌, IfOk};
 ghost use Rattle.std.specs.List.{AllByRecursion as Each};
@@ -11,7 +11,7 @@ use crate::selection::Selection;
 use ctt_text::{Instance, Placed};
 use std::alloc::{AllocError, Global};
 
-/// The column of the periods.
+/// Builds the column of the periods.
 #[tactic(auto, using(crate::proofs::WeekLemmas::each_more))]
 fn period_column(alloc: Global, instance: &Instance) -> Result<Column, AllocError>
     ensures { IfOk result (λ column. column ≡ period_column instance.now) }
@@ -24,7 +24,7 @@ fn period_column(alloc: Global, instance: &Instance) -> Result<Column, AllocErro
     Ok(column)
 }
 
-/// The column of a day, of the lectures in the selection.
+/// Builds the column of a day. `lectures` are those in the selection.
 #[tactic(auto, using(crate::proofs::WeekLemmas::each_more))]
 fn day_column(
     alloc: Global,
@@ -48,7 +48,7 @@ fn day_column(
     Ok(column)
 }
 
-/// The columns of the lectures in the selection.
+/// Builds all columns. `lectures` are those in the selection.
 #[tactic(auto, using(crate::proofs::WeekLemmas::each_more))]
 pub(crate) fn columns(
     alloc: Global,

@@ -1,4 +1,4 @@
-//! The week of a timetable as a text to look at: a column a day, and a line a period.
+//! The week of a timetable as plain text: a column for each day, and a line for each period.
 #![tactic(auto)]
 
 mod cell;

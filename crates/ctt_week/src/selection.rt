@@ -1,4 +1,4 @@
-//! Whose week is shown.
+//! The selection of lectures to show.
 
 ghost use Rattle.std.specs.Prelude.{◌≡◌, ◌<◌, IfOk, filter};
 ghost use Rattle.std.specs.List.{AllByRecursion as Each};
@@ -9,20 +9,20 @@ ghost use Rattle.ctt_week.specs.Week.{SelectionFits, is_closed, is_selected};
 use ctt_text::{CourseNo, CurriculumNo, Instance, Placed, RoomNo, SlotNo, TeacherNo};
 use std::alloc::{AllocError, Global};
 
-/// Whose week is shown.
+/// The curriculum, teacher, course or room whose week is shown.
 #[derive(Clone, Copy, PartialEq, Eq)]
 pub enum Selection {
-    /// That of a curriculum: the lectures of its members.
+    /// The lectures of a curriculum's members.
     Curriculum(CurriculumNo),
-    /// That of a teacher: the lectures of his courses.
+    /// The lectures of a teacher's courses.
     Teacher(TeacherNo),
-    /// That of a course. The slots in which it is unavailable are marked.
+    /// The lectures of a course. The slots in which it is unavailable are marked.
     Course(CourseNo),
-    /// That of a room.
+    /// The lectures in a room.
     Room(RoomNo),
 }
 
-/// Whether a lecture is in a selection.
+/// Returns whether a lecture is in a selection.
 fn is_selected(instance: &Instance, selection: &Selection, lecture: &Placed) -> bool
     requires selection { SelectionFits instance.now selection.now }
     requires lecture { Fits instance.now lecture.now }
@@ -38,7 +38,7 @@ fn is_selected(instance: &Instance, selection: &Selection, lecture: &Placed) -> 
     }
 }
 
-/// Whether a course is selected that is unavailable in the slot.
+/// Returns whether the selection is a course that is unavailable in the slot.
 pub(crate) fn is_closed(instance: &Instance, selection: &Selection, slot: SlotNo) -> bool
     requires selection { SelectionFits instance.now selection.now }
     requires slot { slot < slot_count instance.now }
@@ -50,7 +50,7 @@ pub(crate) fn is_closed(instance: &Instance, selection: &Selection, slot: SlotNo
     }
 }
 
-/// The lectures of a timetable that are in a selection.
+/// Returns the lectures of a timetable that are in a selection.
 pub(crate) fn selected(
     alloc: Global,
     instance: &Instance,

@@ -11,7 +11,7 @@ use ctt_text::{Instance, NoMemory, Placed, RoomNo};
 use std::alloc::{AllocError, Global};
 use std::fmt::Write;
 
-/// Adds the line above a table: whose it is.
+/// Adds the line above a table, which names the selection.
 fn push_title(
     text: &mut String,
     instance: &Instance,
@@ -52,7 +52,7 @@ fn push_line(text: &mut String, columns: &[Column], place: usize) -> Result<(), 
     text.push_str("|\n")
 }
 
-/// Adds the first lines of a table.
+/// Adds the first `count` lines of a table.
 #[tactic(auto, using(crate::proofs::WeekLemmas::each_more))]
 fn push_lines(text: &mut String, columns: &[Column], count: usize) -> Result<(), AllocError>
     ensures { OnOk result (string_bytes text.new
@@ -93,7 +93,7 @@ fn push_gap(text: &mut String, number: u16) -> Result<(), AllocError>
     text.push_str("\n")
 }
 
-/// Adds the table of each room, with a blank line between two.
+/// Adds the table of each room, with blank lines between them.
 #[tactic(auto, using(crate::proofs::WeekLemmas::each_more))]
 fn push_tables(
     alloc: Global,
@@ -113,7 +113,7 @@ fn push_tables(
     Ok(())
 }
 
-/// Adds the week of a selection, or without one that of all rooms.
+/// Adds the week of a selection, or the weeks of all rooms if there is no selection.
 fn push_week(
     alloc: Global,
     text: &mut String,
@@ -132,8 +132,8 @@ fn push_week(
     }
 }
 
-/// The week of a timetable as a table: a column a day, a line a period, and in each cell the
-/// courses with their rooms. Without a selection there is a table for each room.
+/// Returns the week of a timetable as a table: a column for each day, a line for each period, and
+/// in each cell the courses with their rooms. Without a selection there is a table for each room.
 pub fn week_text(
     alloc: Global,
     instance: &Instance,

@@ -3,7 +3,7 @@ use Rattle.std.specs.Fmt.{decimal}
 use Rattle.ctt_findings.specs.ReportText.{barred_line, line, text_of}
 use Rattle.ctt_findings.proofs.report.text.Goals as goal
 
--- a line more
+-- the text with one more line
 adds : {new old text word value : List ℕ} (key : List ℕ) → new ≡ old ++ line key word → word ≡ value → old ≡ text → new ≡ text ++ line key value
 adds key e is was = e ∙ ap₂ (λ (s w : List ℕ). s ++ line key w) was is
 

@@ -16,7 +16,7 @@ count-requires-clause-few c =
     let known : AreMembers (course_count i) (members i c.new.result) = Each-at (AreMembers (course_count i)) i.curricula c.limits_hold.ensures.curricula c.new.result [] (omega arith) in
     omega (arith, few_members (course_count i) c.members-members.result.now (rw c.members-members.ensures.exact known), c.limits_hold.ensures.courses_few)
 
--- the members' lectures that stand alone in the window
+-- the members' lectures that are isolated in the window
 module _ (c : goal.After-count) where
   abbrev part : List Placed
   part = lectures_of c.members-members.result.now c.args.timetable.now

@@ -4,7 +4,7 @@ use Rattle.std.specs.Str.Iter.{chars_rest}
 use Rattle.ctt_page.specs.Escape.{escaped}
 use Rattle.ctt_page.proofs.escape.EscapedDisplay.fmt.Given as goal
 
--- what is left is text, and what is written is the rest
+-- the rest is text, and what is written, followed by the escaped rest, is the whole escaped text
 abbrev pub invariant-loop-letter : goal.invariant-loop-letter
 invariant-loop-letter g l =
     IsUtf8 (chars_rest l.letter-iterator)

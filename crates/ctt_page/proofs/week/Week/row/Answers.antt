@@ -4,7 +4,7 @@ use Rattle.ctt_page.proofs.WeekLemmas.{row_fits, row_read}
 use Rattle.ctt_page.proofs.week.Week.row.Goals as goal
 
 module _ (c : goal.After-deref) where
-  -- what is given are the lectures of the slot
+  -- the result is the lectures of the slot
   is : c.deref.result.now ≡ lectures_in c.args.self.now c.args.slot
   is = row_read (λ v. v.items) c.self.inside.slots.items c.args.self.now c.get.result c.args.slot c.index.result.now c.deref.result.now c.self.view_is c.get.ensures (omega (arith, c.requires.week.size, c.requires.slot)) c.index.ensures c.deref.ensures.value
 
