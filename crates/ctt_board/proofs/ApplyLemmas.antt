@@ -16,7 +16,7 @@ at c s r = record { course = c; slot = s; room = r }
 abbrev stays : ℕ → ℕ → Placed → Bool
 stays c s l = not (l.course == c && l.slot == s)
 
--- order is kept by each cell, whatever it says
+-- each cell preserves the order
 pub InOrder-at : (c s : ℕ) (r : Option ℕ) (t : List Placed) → InOrder t → InOrder (apply_at c s r t)
 InOrder-at c s None t h = InOrder-without c s t h
 InOrder-at c s (Some r) t h = InOrder-with (at c s r) t h
@@ -35,7 +35,7 @@ agree_apply p (x ∷ xs) t u h k e =
     agree_apply p xs (apply_at x.course x.slot x.room t) (apply_at x.course x.slot x.room u)
     (InOrder-at x.course x.slot x.room t h) (InOrder-at x.course x.slot x.room u k) (agree_at p x.course x.slot x.room t u h k e)
 
--- a part to which no lecture at a cell's place belongs is left as it is
+-- a part that contains no lecture of a cell's course and slot is unchanged
 outside_at : (p : Placed → Bool) (c s : ℕ) (r : Option ℕ) (t : List Placed) → ((l : Placed) → l.course ≡ c → l.slot ≡ s → p l ≡ false) → filter p (apply_at c s r t) ≡ filter p t
 outside_at p c s None t no' = filter_within p (stays c s) t keeps
   where

@@ -1,4 +1,4 @@
--- Each timetable on the way of a change that fits is lawful.
+-- Each intermediate timetable of a change that fits is lawful.
 use Rattle.std.proofs.Common.{◌≡◌, leb, ℕ, zero, suc, ◌+◌, ◌<◌, Bool, true, false, not, List, [], ◌∷◌, drop, take, length, get_or, Option, Some, None, is_some, refl, ◌∙◌, sym, ap, subst, arith, inl, inr, ◌⊎◌}
 use Rattle.std.specs.List.{find, AllByRecursion as Each}
 use Rattle.std.proofs.lemmas.Bool.{cases_Bool, eq-eqb, and_parts}
@@ -71,7 +71,7 @@ put_has P l (x ∷ xs) h = at (cases_Bool (before l x)) (λ k. put_has P l xs k)
     at (inl y) more = (let h' : Each P (l ∷ x ∷ xs) = (rw y at h) in h'.0)
     at (inr n) more = (let h' : Each P (x ∷ with l xs) = (rw n at h) in more h'.1)
 
--- the numbers of a lecture that comes, and of one that is there
+-- the numbers of a lecture that is added, and of one that is placed
 pub comes_fits : (i : Problem) (l : Placed) (t : List Placed) → Lawful i (with l t) → Fits i l
 comes_fits i l t h = put_has (Fits i) l t h.timetable.fits
 
@@ -117,7 +117,7 @@ courses_few i (x ∷ xs) t now turn fits after p =
     let known = (ready_at i x.course x.slot x.room t now fits.0 next).course in
     (omega (arith, known, p.courses_few), courses_few i xs (apply_at x.course x.slot x.room t) next (turn_rest x xs turn) fits.1 after p)
 
--- the way of a change, up to one of its cells
+-- a change, up to one of its cells
 pub record OnTheWay (i : Problem) (cells : List Cell) (t : List Placed) (k : ℕ) (x : Cell) : Type 0 where
   pub done : CellsFit (take k cells) t
   pub now : Lawful i (apply (take k cells) t)
@@ -138,6 +138,6 @@ pub way_of : (i p : Problem) (cells change : List Cell) (t : List Placed) (k : �
 way_of i p cells change t k x e same is h fits lt at =
     on_the_way i cells t k x lt at (subst (λ q. Lawful q t) (sym e) h) (rw same (and_parts (leb (length change) 4) (in_turn false change) is).1) (rw same fits.cells_fit) (rw (e, same) fits.lawful)
 
--- a lecture that leaves, by its room before the cells that are done
+-- a lecture that is removed, by its room before the cells already done
 pub left_there : (done : List Cell) (t : List Placed) (c s r : ℕ) (before last : Option ℕ) → last ≡ room_by done c s before → before ≡ room_at c s t → CellsFit done t → last ≡ Some r → room_at c s (apply done t) ≡ Some r
 left_there done t c s r before last e f fits some = rooms_after done t fits c s ∙ sym (e ∙ ap (room_by done c s) f) ∙ some

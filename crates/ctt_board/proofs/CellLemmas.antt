@@ -16,7 +16,7 @@ additions (x ∷ xs) t h = at x.room h (additions xs)
     at None h more = cc
     at (Some r) h more = omega (arith, more (apply_at x.course x.slot (Some r) t) h, length-put before (record { course = x.course; slot = x.slot; room = r }) t)
 
--- and so there was room for the first of them
+-- so there is capacity for the first of them
 pub room_for : (c s r : ℕ) (rest : List Cell) (t : List Placed) → in_turn true rest ≡ true → length t < length (apply rest (apply_at c s (Some r) t))
 room_for c s r rest t h = omega (arith, additions rest (apply_at c s (Some r) t) h, length-put before (record { course = c; slot = s; room = r }) t)
 
@@ -30,7 +30,7 @@ in_turn_later true (x ∷ xs) h = at x.room h
     at None h = cc
     at (Some r) h = h
 
--- the next cell of a list, and those behind it
+-- the next cell of a list, and those after it
 pub cell_at : (cells : List Cell) (k : ℕ) (x : Cell) → k < length cells → x ≡ get_or cells k x → drop k cells ≡ x ∷ drop (k + 1) cells
 cell_at cells k x lt is = drop_more cells k x lt ∙ ap (λ y. y ∷ drop (k + 1) cells) (sym is)
 
@@ -44,7 +44,7 @@ made_more cells k x t u lt is h = sym (ap (λ ys. apply ys t) (cell_at cells k x
 pub turn_more : (cells : List Cell) (k : ℕ) (x : Cell) → k < length cells → x ≡ get_or cells k x → in_turn false (drop k cells) ≡ true → in_turn false (drop (k + 1) cells) ≡ true
 turn_more cells k x lt is h = in_turn_later (is_some x.room) (drop (k + 1) cells) (turn_at cells k x lt is h)
 
--- there is room for an addition, if there is for what it leads to
+-- there is capacity for an addition if there is for the timetable at the end
 pub room_now : (cells : List Cell) (k : ℕ) (x : Cell) (r : ℕ) (t u : List Placed) → k < length cells → x ≡ get_or cells k x → x.room ≡ Some r → apply (drop k cells) t ≡ u → in_turn false (drop k cells) ≡ true → length t < length u
 room_now cells k x r t u lt is some h turn =
     let rest : List Cell = drop (k + 1) cells in

@@ -1,4 +1,4 @@
--- The courses that stand in a slot, and the first of them that clashes.
+-- The courses that have a lecture in a slot, and the first of them that clashes.
 use Rattle.std.proofs.Common.{◌≡◌, ℕ, zero, suc, ◌<◌, Bool, true, false, cond, ◌&&◌, ◌==◌, ltb, List, [], ◌∷◌, Option, Some, None, is_some, refl, ◌∙◌, sym, ap, ap₂, subst, arith, inl, inr}
 use Rattle.std.specs.List.{find, list_any}
 use Rattle.std.specs.Option.{option_or}
@@ -19,7 +19,7 @@ use Rattle.ctt_board.proofs.BetweenLemmas.{there_fits, some_room}
 use Rattle.ctt_board.proofs.GridLemmas.{slot_row_is}
 use Rattle.ctt_board.proofs.RoomLemmas.{is_at, room_is, room_after}
 
--- a course has a lecture in a slot where it has a room there
+-- a course has a lecture in a slot exactly if it has a room there
 pub stands_there : (c s : ℕ) (t : List Placed) → has_lecture c s t ≡ is_some (room_at c s t)
 stands_there c s t = any_found (is_at c s) t ∙ ap is_some (sym (room_is c s t))
   where
@@ -36,7 +36,7 @@ stands_by_room (x ∷ xs) c s o = ap (stands_by xs c s) (inside (x.course == c &
     inside true = refl
     inside false = refl
 
--- the table of those that stand, after a cell that fits, and of the empty timetable
+-- the table of the courses in each slot, after a cell that fits, and of the empty timetable
 pub standing_after_cell : (i : Problem) (t : List Placed) (old new : BitTable) (c s : ℕ) (o : Option ℕ) → AreStanding i t old → SetsMark old new s c (is_some o) → CellFits t c s o → AreStanding i (apply_at c s o t) new
 standing_after_cell i t old new c s o h w fits = record {
   size = (w.rows ∙ h.size.0, w.width ∙ h.size.1);
@@ -99,7 +99,7 @@ module _ (i : Problem) (t : List Placed) (h : Lawful i t) (c s : ℕ) where
   stands_fits : (n : ℕ) → is_some (room_at n s t) ≡ true → n < course_count i
   stands_fits n y = (let stood = some_room (room_at n s t) y in (there_fits i n s stood.0 t h stood.1).0)
 
-  -- marks of those that stand and of those that clash
+  -- marks on the courses in the slot and on those that clash
   same_test : (a b : ℕ → Bool) → ((n : ℕ) → a n ≡ is_some (room_at n s t)) → ((n : ℕ) → b n ≡ (ltb n (course_count i) && clash i c n)) → (n : ℕ) → (ltb n (course_count i) && (a n && b n)) ≡ here n
   same_test a b e f n = ap₂ (λ x y. ltb n (course_count i) && (x && y)) (e n) (f n) ∙ elim (cases_Bool (is_some (room_at n s t))) [
     | inl y ↦ rw (y, lt-ltb n (course_count i) (stands_fits n y)) refl

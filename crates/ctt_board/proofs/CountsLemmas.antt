@@ -1,4 +1,4 @@
--- The tables of counts after one lecture more, and after one less.
+-- The tables of counts after one lecture is added, and after one is removed.
 use Rattle.std.proofs.Common.{◌≡◌, ℕ, zero, suc, ◌+◌, ◌<◌, ◌≤◌, Bool, true, false, cond, ◌&&◌, ◌==◌, ltb, List, [], ◌∷◌, length, refl, ◌∙◌, sym, ap, ap₂, arith, inl, inr}
 use Rattle.std.specs.List.{count_by}
 use Rattle.std.proofs.lemmas.Bool.{cases_eq, eq-eqb, ne_eqb, lt-ltb, le-ltb}
@@ -16,7 +16,7 @@ use Rattle.ctt_board.specs.Counts.{HaveSizes, Counted, AreCounts, AddsLecture, H
 use Rattle.ctt_board.specs.declared.counts.Counts.{Counts}
 use Rattle.ctt_board.proofs.CountedLemmas.{counted_more}
 
--- each of the numbers that pass stands once among them
+-- each of the numbers that pass occurs once among them
 pub named_once : (p : ℕ → Bool) (r n : ℕ) → count_by (λ q. q == r) (below p n) ≡ cond (p r && ltb r n) 1 0
 named_once p r zero = rw (le-ltb r 0 (omega arith)) (by (p r))
   where
@@ -109,7 +109,7 @@ module _ (i : Problem) (l : Placed) (t u : List Placed) (more : IsMore l t u) (f
           curricula = counted_down a.curricula b.curricula _ _ _ _ _ adds.curricula (λ r k lr lk. curricula_step r k lr) h.curricula;
         }
 
-  -- a lecture that can come finds none of its curricula in its slot
+  -- if a lecture can be added, none of its curricula has one in its slot
   pub have_none : (a : Counts) → AreCounts i t a → ((q : ℕ) → q < curriculum_count i → count_by (in_slot (members i q) l.slot) u ≤ 1) → HaveNone i l a
   have_none a h few = λ q lt. omega (arith, h.curricula.counts q l.slot lt fits.1, curricula_step q l.slot lt, few q lt)
 
@@ -125,7 +125,7 @@ module _ (i : Problem) (l : Placed) (t u : List Placed) (more : IsMore l t u) (f
         curricula = λ q lt. omega (arith, h.curricula.counts q l.slot lt fits.1, curricula_step q l.slot lt);
       }
 
--- tables of nothing are the counts of the empty timetable
+-- tables of zeros are the counts of the empty timetable
 abbrev pub IsZero : Grid ℕ → ℕ → ℕ → Type 0
 IsZero g rows width = (r k : ℕ) → r < rows → k < width → at g r k 0 ≡ 0
 

@@ -44,7 +44,7 @@ module _ (i : Problem) (t : List Placed) (is : IsTimetable i t) (p : IsProblem i
   of_course : (q : Placed → Bool) (c : ℕ) → ((l : Placed) → q l ≡ true → (l.course == c) ≡ true) → count_by q t ≤ 2000
   of_course q c h = omega (arith, count_le q (λ l. l.course == c) t h, length-filter (λ l. l.course == c) t, course_short c)
 
--- so one more fits
+-- so adding one does not overflow
 pub have_room : (i : Problem) (t : List Placed) (c : Counts) → AreCounts i t c → IsTimetable i t → IsProblem i → HaveRoom c
 have_room i t c h is p = record {
   lectures = λ r k lr lk. omega (arith, h.lectures.counts r k (omega (arith, lr, h.lectures.size.0)) (omega (arith, lk, h.lectures.size.1)), course_short i t is p k);

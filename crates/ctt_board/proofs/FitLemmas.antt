@@ -1,4 +1,4 @@
--- A change fits where the test says so.
+-- A change fits exactly if the test says so.
 use Rattle.std.proofs.Common.{◌≡◌, ℕ, zero, suc, leb, take, ◌+◌, ◌<◌, ◌≤◌, Bool, true, false, cond, not, ltb, ◌&&◌, ◌||◌, ◌==◌, List, [], ◌∷◌, length, get_or, Option, Some, None, is_some, is_none, refl, ◌∙◌, sym, ap, ap₂, subst, arith, inl, inr, ◌⊎◌}
 use Rattle.std.specs.List.{filter, find, AllByRecursion as Each}
 use Rattle.std.proofs.lemmas.Bool.{cases_Bool, and_parts, le-leb, leb-true, eq-eqb, lt-ltb, ltb-true}
@@ -115,7 +115,7 @@ module _ (i : Problem) (t : List Placed) (l : Placed) where
     can_come_here : can_come i t l ≡ true
     can_come_here = rw (is_known_here, is_wanted_here, is_unhindered_here) refl
 
--- where a lecture stands in a lawful timetable, it can be placed once it has left
+-- a lecture of a lawful timetable can be placed again once it is removed
 pub was_free : (i : Problem) (t : List Placed) (c s r : ℕ) → Lawful i t → room_at c s t ≡ Some r → Free i (without c s t) c s r
 was_free i t c s r h e =
     let l : Placed = record { course = c; slot = s; room = r } in
@@ -177,7 +177,7 @@ change_take k cells h =
     let both = and_parts (leb (length cells) 4) (in_turn false cells) h in
     rw (le-leb (length (take k cells)) 4 (omega (arith, take_short k cells, leb-true (length cells) 4 both.0)), turn_take false k cells both.1) refl
 
--- a change of which some cell cannot be made, when its turn comes
+-- a change with a cell that cannot be made after the earlier ones
 pub refused : (i : Problem) (cells : List Cell) (k : ℕ) (x : Cell) (t : List Placed) → k < length cells → x ≡ get_or cells k x → cell_fits i (apply (take k cells) t) x.course x.slot x.room ≡ false → fits i cells t ≡ false
 refused i [] k x t lt is bad = absurd (omega (arith, lt))
 refused i (y ∷ ys) zero x t lt is bad = (let no' : cell_fits i t y.course y.slot y.room ≡ false = subst (λ z. cell_fits i t z.course z.slot z.room ≡ false) is bad in rw no' refl)
@@ -195,7 +195,7 @@ passed i (y ∷ ys) (suc k) x t lt is so_far good =
     let both = and_parts (cell_fits i t y.course y.slot y.room) (fits i (take k ys) (apply_at y.course y.slot y.room t)) so_far in
     rw both.0 (passed i ys k x (apply_at y.course y.slot y.room t) (omega (arith, lt)) is both.1 good)
 
--- nothing stands in a slot that is none
+-- no lecture is in a slot past the last
 pub no_slot : (i : Problem) (c s : ℕ) (t : List Placed) → Lawful i t → slot_count i ≤ s → is_some (room_at c s t) ≡ false
 no_slot i c s t h le = elim (cases_Bool (is_some (room_at c s t))) [
   | inl y ↦ (let stood = some_room (room_at c s t) y in let f = there_fits i c s stood.0 t h stood.1 in absurd (omega (arith, f.1, le)))

@@ -99,7 +99,7 @@ cost_with i t u j h = cost_same (with_joining (penalty i t) j) (penalty i u) (om
 pub cost_without : (i : Problem) (t u : List Placed) (j : Joining) → Joins i t u j → without_joining (penalty i u) j ≡ penalty i t
 cost_without i t u j h = cost_same (without_joining (penalty i u) j) (penalty i t) (omega (arith, h.capacity)) (omega (arith, h.days)) (omega (arith, h.compactness)) (omega (arith, h.stability))
 
--- nothing leaves and nothing comes
+-- no lecture is removed or added
 pub sees_now : (i : Problem) (t : List Placed) (v : Later) (c : Counts) → AreCounts i t c → v.counts.now ≡ c → v.removed.items ≡ [] → v.added.items ≡ [] → Sees i v t
 sees_now i t v c h e1 e2 e3 = record {
   base = t;

@@ -1,4 +1,4 @@
--- Which course has a room in a slot, after one lecture more and after one less.
+-- Which course has a room in a slot, after one lecture is added and after one is removed.
 use Rattle.std.proofs.Common.{◌≡◌, ◌<◌, ℕ, Bool, true, false, cond, not, ◌&&◌, ◌==◌, List, [], ◌∷◌, Option, Some, None, refl, ◌∙◌, sym, ap, ap₂, subst, inl, inr, ◌⊎◌, arith}
 use Rattle.std.specs.List.{find, AllByRecursion as Each}
 use Rattle.std.proofs.lemmas.Bool.{cases_Bool}
@@ -48,7 +48,7 @@ pub find_nowhere : {X : Type 0} (p : X → Bool) (xs : List X) → Each (λ x. p
 find_nowhere p [] h = refl
 find_nowhere p (x ∷ xs) h = rw h.0 (find_nowhere p xs h.1)
 
--- so nobody else has it
+-- so no other course has it
 pub free_else : (l : Placed) (s r : ℕ) (t : List Placed) → Apart (with l t) → is_in s r l ≡ true → find (is_in s r) t ≡ None
 free_else l s r t h y = find_nowhere (is_in s r) t (Each-map (λ x. share_room x l ≡ false) (λ x. is_in s r x ≡ false) (λ x k. grind (arith, nat_tests)) t (apart_put l t h))
 

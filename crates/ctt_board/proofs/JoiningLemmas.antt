@@ -1,4 +1,4 @@
--- What one lecture more does to the penalty.
+-- What adding one lecture does to the penalty.
 use Rattle.std.proofs.Common.{◌≡◌, ℕ, zero, suc, ◌+◌, ◌-◌, ◌*◌, ◌<◌, ◌≤◌, Bool, true, false, cond, ◌&&◌, ◌||◌, ◌==◌, ltb, List, [], ◌∷◌, length, take, get_or, refl, ◌∙◌, sym, ap, ap₂, arith, inl, inr}
 use Rattle.std.specs.List.{sum_by, count_by, list_any, AllByRecursion as Each}
 use Rattle.std.proofs.lemmas.Bool.{cases_Bool, cases_eq, eq-eqb, lt-ltb, ltb-true, ltb-false}
@@ -115,7 +115,7 @@ module _ (i : Problem) (l : Placed) (t u : List Placed) (more : IsMore l t u) (f
       each : (k : ℕ) → cond (ltb 0 (count_by (in_room d k) u)) 1 0 ≡ cond {A = ℕ} (ltb 0 (count_by (in_room d k) t)) 1 0
       each k = ap (λ n. cond {A = ℕ} (ltb 0 n) 1 0) (other_course (λ d x. x.room == k) d e)
 
-  -- a course has rooms where it has lectures
+  -- a course has rooms if it has lectures
   some_rooms : (ls : List Placed) → Each (λ (x : Placed). x.room < room_count i) ls → ltb 0 (rooms_of i ls) ≡ ltb 0 (length ls)
   some_rooms [] h = ap (ltb 0) (sum_below_zero (λ r. 0) (room_count i) (λ r lt. refl))
   some_rooms (x ∷ xs) h = lt-ltb 0 (rooms_of i (x ∷ xs)) (omega (arith, at_least (λ r. cond (list_any (λ y. y.room == r) (x ∷ xs)) 1 0) x.room (room_count i) h.0, one)) ∙ sym (lt-ltb 0 (length (x ∷ xs)) (omega arith))

@@ -1,4 +1,4 @@
--- One lecture more: sums over the lectures, and what is made of them.
+-- One more lecture: sums over the lectures, and what is computed from them.
 use Rattle.std.proofs.Common.{◌≡◌, ℕ, ◌+◌, Bool, true, not, List, [], ◌∷◌, Some, ◌∙◌, sym, ap, ap₂, arith, inl, inr}
 use Rattle.std.specs.List.{find, sum_by, AllByRecursion as Each}
 use Rattle.std.proofs.lemmas.Bool.{cases_Bool}
@@ -20,11 +20,11 @@ sum_put f lt l (x ∷ xs) = elim (cases_Bool (lt l x)) [
   | inr n ↦ rw n (omega (arith, sum_by-cons f x (put lt l xs), sum_by-cons f x xs, sum_put f lt l xs))
 ]
 
--- a lecture that comes
+-- a lecture that is added
 pub more_with : (l : Placed) (t : List Placed) → IsMore l t (with l t)
 more_with l t f = sum_put f before l t
 
--- no other lecture behind it is of that course and slot
+-- no lecture after it is of that course and slot
 pub only_one : (c s : ℕ) (x : Placed) (xs : List Placed) → is_at c s x ≡ true → Each (λ y. before x y ≡ true) xs → Each (λ y. not (is_at c s y) ≡ true) xs
 only_one c s x xs e h = Each-map (λ y. before x y ≡ true) (λ y. not (is_at c s y) ≡ true) (λ y k. grind (arith, nat_tests)) xs h
 
@@ -46,6 +46,6 @@ sum_without f c s r (x ∷ xs) h e = elim (cases_Bool (is_at c s x)) [
         let it : x.room ≡ r = cc in
         sym (ap₂ (λ a b. f (record { course = a; slot = b; room = x.room })) course slot ∙ ap (λ o. f (record { course = c; slot = s; room = o })) it)
 
--- and one that goes
+-- and one that is removed
 pub more_without : (c s r : ℕ) (t : List Placed) → Ascending t → room_at c s t ≡ Some r → IsMore (record { course = c; slot = s; room = r }) (without c s t) t
 more_without c s r t h e f = sum_without f c s r t h (sym (room_is c s t) ∙ e)

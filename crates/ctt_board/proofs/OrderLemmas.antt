@@ -1,4 +1,4 @@
--- The order of a timetable, and what keeps it.
+-- The order of a timetable, and what preserves it.
 use Rattle.std.proofs.Common.{◌≡◌, ℕ, ◌<◌, true, false, not, ◌&&◌, ◌==◌, List, [], ◌∷◌, length, get_or, sym, arith}
 use Rattle.std.specs.List.{insert, position_or_len, AllByRecursion as Each}
 use Rattle.std.proofs.lemmas.Bool.Decides.{nat_tests}

@@ -35,7 +35,7 @@ filter-put_yes p lt goes l (x ∷ xs) e h = elim (cases_Bool (lt l x)) [
   ])
 ]
 
--- an order is kept
+-- the order is preserved
 pub Pairwise-put : {X : Type 0} (R : X → X → Type 0) (lt : X → X → Bool) (l : X) (xs : List X) → ((y z : X) → lt l y ≡ true → R y z → R l z) → Each (λ y. lt l y ≡ true → R l y) xs → Each (λ y. lt l y ≡ false → R y l) xs → Pairwise R xs → Pairwise R (put lt l xs)
 Pairwise-put R lt l [] far up down h = (tt, tt)
 Pairwise-put R lt l (x ∷ xs) far up down h = elim (cases_Bool (lt l x)) [
@@ -43,7 +43,7 @@ Pairwise-put R lt l (x ∷ xs) far up down h = elim (cases_Bool (lt l x)) [
   | inr k ↦ rw k (Each-put (R x) lt l xs (down.0 k) h.0, Pairwise-put R lt l xs far up.1 down.1 h.1)
 ]
 
--- a relation both ways is kept
+-- a relation in both directions is preserved
 pub Pairwise-put_both : {X : Type 0} (R : X → X → Type 0) (lt : X → X → Bool) (l : X) (xs : List X) → Each (λ y. R l y × R y l) xs → Pairwise R xs → Pairwise R (put lt l xs)
 Pairwise-put_both R lt l [] both h = (tt, tt)
 Pairwise-put_both R lt l (x ∷ xs) both h = elim (cases_Bool (lt l x)) [
@@ -51,7 +51,7 @@ Pairwise-put_both R lt l (x ∷ xs) both h = elim (cases_Bool (lt l x)) [
   | inr k ↦ rw k (Each-put (R x) lt l xs both.0.1 h.0, Pairwise-put_both R lt l xs both.1 h.1)
 ]
 
--- the place of an element, by what stands before it
+-- the place of an element, by the elements before it
 pub put_is : {X : Type 0} (lt : X → X → Bool) (l : X) (xs : List X) → put lt l xs ≡ insert xs (position_or_len (lt l) xs) l
 put_is lt l [] = refl
 put_is lt l (x ∷ xs) = elim (cases_Bool (lt l x)) [

@@ -60,14 +60,14 @@ course_row_is i t c h =
     let slots : Each (λ (l : Placed). ltb l.slot (slot_count i) ≡ true) (course_row c t) = Each-map (Fits i) (λ (l : Placed). ltb l.slot (slot_count i) ≡ true) (λ l f. lt-ltb l.slot (slot_count i) f.1) (course_row c t) (row_fits i t c h) in
     sym (filter_every (λ (l : Placed). ltb l.slot (slot_count i)) (course_row c t) slots) ∙ row_is c (slot_count i) (course_row c t) (Each-filter_passes (λ l. l.course == c) t) (row_by_slot c t h.ascending)
 
--- a row is a timetable, and its own row
+-- a row is a timetable, whose row of that course is the row itself
 pub row_is_timetable : (i : Problem) (t : List Placed) (c : ℕ) → IsTimetable i t → IsTimetable i (course_row c t)
 row_is_timetable i t c h = record { ascending = Pairwise-filter (λ a b. before a b ≡ true) (λ l. l.course == c) t h.ascending; fits = row_fits i t c h }
 
 pub row_of_row : (t : List Placed) (c : ℕ) → course_row c (course_row c t) ≡ course_row c t
 row_of_row t c = filter_within (λ l. l.course == c) (λ l. l.course == c) t (λ l k. k)
 
--- one slot more of a row
+-- one more slot of a row
 pub row_more_some : (f : ℕ → Option ℕ) (c n r : ℕ) → f n ≡ Some r → row_below f c (n + 1) ≡ row_below f c n ++ record { course = c; slot = n; room = r } ∷ []
 row_more_some f c n r e = rw (add-one, e) refl
 

@@ -1,4 +1,4 @@
--- Rows that are the same are the same cell by cell.
+-- Equal rows are equal cell by cell.
 use Rattle.std.proofs.Common.{◌≡◌, ◌<◌, ◌==◌, ◌↔◌, IsTrue, true, false, not, ℕ, List, Option, Some, None, refl, ◌∙◌, sym, ap, arith}
 use Rattle.std.specs.Option.{option_eq}
 use Rattle.std.proofs.lemmas.Bool.Decides.{nat_tests}
@@ -33,7 +33,7 @@ module _ (i : Problem) (t u : List Placed) (h : IsTimetable i t) (k : IsTimetabl
 pub room_by_course_row : (t u : List Placed) (c s : ℕ) → course_row c t ≡ course_row c u → room_at c s t ≡ room_at c s u
 room_by_course_row t u c s e = ap (λ row. room_of (find (λ (l : Placed). l.slot == s) row)) e
 
--- the test whether two cells are the same
+-- the test whether two cells are equal
 pub same_cell : (a b : Option ℕ) → not (option_eq (λ (m n : ℕ). m == n) a b) ≡ false → a ≡ b
 same_cell None None e = refl
 same_cell None (Some n) e = cc

@@ -1,4 +1,4 @@
--- Counts that are seen through a change are those of the timetable after it.
+-- Counts corrected for a change are those of the timetable after it.
 use Rattle.std.proofs.Common.{◌≡◌, ℕ, ◌+◌, ◌-◌, ◌<◌, ◌≤◌, Bool, true, false, cond, ◌&&◌, ◌||◌, ◌==◌, ltb, List, [], ◌∷◌, ◌++◌, length, refl, ◌∙◌, sym, ap, ap₂, subst, arith, inl, inr}
 use Rattle.std.specs.List.{sum_by, count_by, AllByRecursion as Each}
 use Rattle.std.proofs.lemmas.Bool.{cases_lt, ne_eqb, lt-ltb, le-ltb}
@@ -26,7 +26,7 @@ turned_and true false = refl
 turned_and false true = refl
 turned_and false false = refl
 
--- functions that are the same give the same
+-- equal functions give equal results
 alone_same : (i : Problem) (f g : ℕ → ℕ) → ((k : ℕ) → f k ≡ g k) → (s : ℕ) → alone_at i f s ≡ alone_at i g s
 alone_same i f g e s = ap₂ (λ b m. cond b 0 m) (ap₂ (λ a b. (ltb 0 (period_of i s) && ltb 0 a) || (ltb (period_of i s + 1) i.periods && ltb 0 b)) (e (s - 1)) (e (s + 1))) (e s)
 
@@ -81,7 +81,7 @@ module _ (i : Problem) (v : Later) (t : List Placed) (h : Sees i v t) where
       let company = sum_by_each (λ q. alone_beside i (seen_curriculum i v q) l.slot) (λ q. alone_beside i (by_slot (members i q) t) l.slot) qs (Each-each (λ q. q < curriculum_count i) (λ q. alone_beside i (seen_curriculum i v q) l.slot ≡ alone_beside i (by_slot (members i q) t) l.slot) (λ q lt. beside_same i (seen_curriculum i v q) (by_slot (members i q) t) (curriculum_is fit q lt) l.slot) qs known) in
       rw (day_is l.course (day_of i l.slot) fits.0 (day_fits i l.slot fits.1), days_is l.course fits.0, lectures_is l.course fits.0, room_is l.course l.room fits.0 fits.2, alone, company) refl
 
--- a lecture comes
+-- a lecture is added
 pub sees_come : (i : Problem) (l : Placed) (t u : List Placed) (v w : Later) → IsMore l t u → Sees i v t → w.counts.now ≡ v.counts.now → w.removed.items ≡ v.removed.items → w.added.items ≡ v.added.items ++ l ∷ [] → Sees i w u
 sees_come i l t u v w more h counts removed added = record {
   base = h.base;
@@ -89,7 +89,7 @@ sees_come i l t u v w more h counts removed added = record {
   balance = λ f. omega (arith, more f, h.balance f, ap (sum_by f) removed, ap (sum_by f) added ∙ sum_by-append f v.added.items (l ∷ []), sum_by-cons f l []);
 }
 
--- a lecture leaves
+-- a lecture is removed
 pub sees_leave : (i : Problem) (l : Placed) (t u : List Placed) (v w : Later) → IsMore l u t → Sees i v t → w.counts.now ≡ v.counts.now → w.added.items ≡ v.added.items → w.removed.items ≡ v.removed.items ++ l ∷ [] → Sees i w u
 sees_leave i l t u v w more h counts added removed = record {
   base = h.base;

@@ -1,11 +1,11 @@
--- Changes that are being made, each in its turn.
+-- Changes that are made in order.
 use Rattle.std.proofs.Common.{◌≡◌, List}
 use Rattle.ctt_text.specs.Problem.{Problem}
 use Rattle.ctt_text.specs.declared.placed.Placed.{Placed}
 use Rattle.ctt_board.specs.declared.cell.Cell.{Cell}
 use Rattle.ctt_board.specs.Changes.{ChangesFit, apply_all}
 
--- of these changes on the timetable t the rest is still to be made, on the timetable u
+-- of these changes to the timetable t, the rest is still to be made, to the timetable u
 pub record Settling (i j : Problem) (t u : List Placed) (all rest : List (List Cell)) : Type 0 where
   pub same : j ≡ i
   pub fit : ChangesFit j rest u

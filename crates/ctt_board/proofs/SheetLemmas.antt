@@ -1,4 +1,4 @@
--- A sheet of tables after one lecture more, and after one less.
+-- A sheet of tables after one lecture is added, and after one is removed.
 use Rattle.std.proofs.Common.{◌≡◌, ◌≤◌, List, Some, ◌∙◌, sym, subst, ap, ap₂, arith}
 use Rattle.ctt_text.specs.Problem.{Problem, IsProblem}
 use Rattle.ctt_text.specs.Timetable.{Fits, without}
@@ -29,14 +29,14 @@ cost_small i g cost h p = omega (arith, ap total h.cost_is, penalty_small i p (l
 pub has_lecture : (i : Problem) (g : Tables) (l : Placed) → IsProblem i → AreTables i g → Fits i l → room_at l.course l.slot (listed i g.rooms) ≡ Some l.room → HaveLecture i l g.counts
 has_lecture i g l p h fits there = have_lecture i l (without l.course l.slot (listed i g.rooms)) (listed i g.rooms) (more_without l.course l.slot l.room (listed i g.rooms) h.lawful.timetable.ascending there) fits g.counts p h.counts_are
 
--- tables that say where the lectures are, with counts
+-- the look-up tables, with counts
 pub places : (i : Problem) (g : Tables) (k : Counts) → AreTables i g → ArePlaces i (listed i g.rooms) (record g { counts = k })
 places i g k h = record { rooms_are = h.rooms_are; courses_are = h.courses_are; standing_are = h.standing_are }
 
 pub made_of : (i : Problem) (u : List Placed) (g : Tables) (k : Counts) → Lawful i u → ArePlaces i u g → g.counts ≡ k → AreCounts i u k → AreTables i g × (listed i g.rooms ≡ u)
 made_of i u g k lawful h e counted = made i u g lawful h.rooms_are h.courses_are h.standing_are (subst (AreCounts i u) (sym e) counted)
 
--- the costs with a lecture more, and with one less
+-- the costs with one lecture more, and with one less
 module _ (i : Problem) (t u : List Placed) (l : Placed) (v : Later) (j : Joining) (more : IsMore l t u) (lawful : Lawful i t) (lawful' : Lawful i u) (fits : Fits i l) (sees : Sees i v t) (is : j ≡ seen_joining i v l) where
   same : j ≡ joining i t l
   same = is ∙ joining_is i v t sees l fits lawful.timetable.fits

@@ -7,7 +7,7 @@ use Rattle.ctt_board.specs.Tables.{Grid, at, Adds, one_at, in_column}
 use Rattle.std.proofs.lemmas.List.{get_or-set_same, get_or-set_other}
 use Rattle.std.proofs.Math.Nat.{mul-le-mul_right}
 
--- a place in a row before is another place
+-- a place in an earlier row is another place
 before_row : (w r r2 c c2 : ℕ) → c2 < w → r2 < r → r2 * w + c2 ≢ r * w + c
 before_row w r r2 c c2 lt less e = (let rows : suc r2 * w ≤ r * w = mul-le-mul_right w less in omega (arith, rows))
 
@@ -48,7 +48,7 @@ set_more old new row column n rows width is wrote = record { rows = rows; width 
       | inr no' ↦ rw no' (omega arith)
     ]
 
--- one row more of a column
+-- one more row of a column
 pub column_more : (rows : List ℕ) (n row column : ℕ) → n < length rows → row ≡ get_or rows n row → (r k : ℕ) → in_column (take (n + 1) rows) column r k ≡ one_at row column r k + in_column (take n rows) column r k
 column_more rows n row column lt is r k =
     ap (λ m. cond (k == column) m 0) (sum_by_more (λ q. cond (q == r) 1 0) rows n row lt ∙ ap (λ q. count_by (λ q. q == r) (take n rows) + cond (q == r) 1 0) (sym is))
@@ -60,7 +60,7 @@ column_more rows n row column lt is r k =
     by false m x true e = omega arith
     by false m x false e = omega arith
 
--- a row that comes next was not yet counted as often as in the end
+-- the next row has not yet been counted as often as at the end
 pub one_left : (rows : List ℕ) (n row column : ℕ) → n < length rows → row ≡ get_or rows n row → in_column (take n rows) column row column + 1 ≤ in_column rows column row column
 one_left rows n row column lt is =
     let more = column_more rows n row column lt is row column in

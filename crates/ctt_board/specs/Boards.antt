@@ -1,4 +1,4 @@
--- A sheet by its value.
+-- The value of a sheet, the penalty difference of a change, and the invariants of sheets and views.
 use Rattle.std.specs.Prelude.{◌≡◌, true, ℕ, ◌*◌, ◌≤◌, ℤ, pos, ◌-ℤ◌, List}
 use Rattle.ctt_text.specs.Problem.{Problem, course_count, slot_count}
 use Rattle.ctt_text.specs.declared.placed.Placed.{Placed}
@@ -7,21 +7,21 @@ use Rattle.ctt_rules.specs.Penalty.{penalty, total}
 use Rattle.ctt_board.specs.Changes.{apply, is_change, CellsFit}
 use Rattle.ctt_board.specs.declared.cell.Cell.{Cell}
 
--- a timetable of an instance
+-- an instance and a timetable of it
 pub record Board : Type 0 where
   pub problem : Problem
   pub list : List Placed
 
--- the penalty after the change minus that before
+-- the penalty after the change minus the penalty before it
 abbrev pub delta : Problem → List Placed → List Cell → ℤ
 delta i t cells = pos (total (penalty i (apply cells t))) -ℤ pos (total (penalty i t))
 
--- a lawful list, in a vector of this capacity
+-- a lawful timetable, in a vector with capacity for any lawful timetable
 pub record IsListSheet (i : Problem) (t : List Placed) (capacity : ℕ) : Type 0 where
   pub lawful : Lawful i t
   pub room : course_count i * slot_count i ≤ capacity
 
--- a change that fits the lawful list t of the problem j
+-- the cells fit the timetable t of the problem j, which is i, and leave it lawful
 pub record IsAfter (i j : Problem) (t : List Placed) (cells : List Cell) : Type 0 where
   pub same : j ≡ i
   pub change : is_change cells ≡ true

@@ -1,4 +1,4 @@
--- Cells of a timetable, and changes, which are made cell by cell.
+-- Cells, and changes, which are applied cell by cell.
 use Rattle.std.specs.Prelude.{ℕ, ◌+◌, ◌-◌, Bool, true, false, cond, not, ◌&&◌, ◌||◌, ◌==◌, List, [], ◌∷◌, length, count_by, nat_le, Option, Some, None, is_some, is_none, IsSome, IsNone}
 use Rattle.std.specs.Option.{option_map, option_eq}
 use Rattle.std.specs.List.{find}
@@ -8,30 +8,31 @@ use Rattle.ctt_text.specs.declared.placed.Placed.{Placed}
 use Rattle.ctt_rules.specs.Hard.{Lawful}
 use Rattle.ctt_board.specs.declared.cell.Cell.{Cell}
 
--- the room of a lecture that was looked for
+-- the room of the lecture that was found, if any
 abbrev pub room_of : Option Placed → Option ℕ
 room_of found = option_map (λ (l : Placed). l.room) found
 
--- the room of the lecture of a course in a slot
+-- the room of the lecture of course c in slot s, if there is one
 abbrev pub room_at : ℕ → ℕ → List Placed → Option ℕ
 room_at c s t = room_of (find (λ l. l.slot == s) (course_row c t))
 
--- the course of a lecture that was looked for
+-- the course of the lecture that was found, if any
 abbrev pub course_named : Option Placed → Option ℕ
 course_named found = option_map (λ (l : Placed). l.course) found
 
--- the course whose lecture has a room in a slot
+-- the course whose lecture has room r in slot s, if there is one
 abbrev pub holder_at : ℕ → ℕ → List Placed → Option ℕ
 holder_at s r t = course_named (find (λ l. l.room == r) (slot_row s t))
 
--- the first course with a lecture in the slot that clashes with this one
+-- the first course with a lecture in slot s that clashes with course c, if there is one
 abbrev pub clash_at : Problem → ℕ → ℕ → List Placed → Option ℕ
 clash_at i c s t = course_named (find (λ l. clash i c l.course) (slot_row s t))
 
+-- the cell of course c in slot s, with a room or without
 abbrev pub cell : ℕ → ℕ → Option ℕ → Cell
 cell c s r = record { course = c; slot = s; room = r }
 
--- no removal stands behind an addition, of which one may have come before
+-- no removal follows an addition; `added` says whether an addition came earlier
 abbrev pub in_turn : Bool → List Cell → Bool
 in_turn added [] = true
 in_turn added (x ∷ xs) = not (added && is_none x.room) && in_turn (added || is_some x.room) xs
@@ -40,6 +41,7 @@ in_turn added (x ∷ xs) = not (added && is_none x.room) && in_turn (added || is
 abbrev pub is_change : List Cell → Bool
 is_change cells = nat_le (length cells) 4 && in_turn false cells
 
+-- the cells, if they form a change
 abbrev pub change_of : List Cell → Option (List Cell)
 change_of cells = cond (is_change cells) (Some cells) None
 
@@ -53,17 +55,17 @@ abbrev pub apply : List Cell → List Placed → List Placed
 apply [] t = t
 apply (x ∷ xs) t = apply xs (apply_at x.course x.slot x.room t)
 
--- a removed cell holds a lecture, and an added cell is empty
+-- a removal needs a lecture in its place, and an addition needs none
 abbrev pub CellFits : List Placed → ℕ → ℕ → Option ℕ → Type 0
 CellFits t c s None = IsSome (room_at c s t)
 CellFits t c s (Some r) = IsNone (room_at c s t)
 
--- each when its turn comes
+-- each cell fits the timetable after the earlier cells
 abbrev pub CellsFit : List Cell → List Placed → Type 0
 CellsFit [] t = Unit {0}
 CellsFit (x ∷ xs) t = CellFits t x.course x.slot x.room × CellsFit xs (apply_at x.course x.slot x.room t)
 
--- a change fits a timetable: its cells do, and the timetable afterwards is lawful
+-- a change fits a timetable if its cells fit and the timetable after them is lawful
 pub record ChangeFits (i : Problem) (cells : List Cell) (t : List Placed) : Type 0 where
   pub cells_fit : CellsFit cells t
   pub lawful : Lawful i (apply cells t)
@@ -73,42 +75,43 @@ abbrev pub apply_all : List (List Cell) → List Placed → List Placed
 apply_all [] t = t
 apply_all (x ∷ xs) t = apply_all xs (apply x t)
 
--- each change fits when its turn comes
+-- each change fits the timetable after the earlier changes
 abbrev pub ChangesFit : Problem → List (List Cell) → List Placed → Type 0
 ChangesFit i [] t = Unit {0}
 ChangesFit i (x ∷ xs) t = ChangeFits i x t × ChangesFit i xs (apply x t)
 
--- the room at a place after these cells, where o is the room before them
+-- the room of course c in slot s after these cells, if o is the room before them
 abbrev pub room_by : List Cell → ℕ → ℕ → Option ℕ → Option ℕ
 room_by [] c s o = o
 room_by (x ∷ xs) c s o = room_by xs c s (cond (x.course == c && x.slot == s) x.room o)
 
--- the course that has a room after a cell of its slot, where h is the one before it
+-- the course, if any, that has room e after a cell of its slot, given h, the one before the cell
 abbrev pub held_here : ℕ → Option ℕ → ℕ → Option ℕ → Option ℕ
 held_here c None e h = cond (option_eq (λ (a b : ℕ). a == b) h (Some c)) None h
 held_here c (Some r) e h = cond (r == e) (Some c) h
 
--- and after a cell of any slot
+-- the course, if any, that has room e in slot d after a cell, given h, the one before the cell
 abbrev pub held_after : Cell → ℕ → ℕ → Option ℕ → Option ℕ
 held_after x d e h = cond (x.slot == d) (held_here x.course x.room e h) h
 
--- the course that has a room in a slot after these cells, where h is the one before them
+-- the course, if any, that has room e in slot d after these cells, given h, the one before them
 abbrev pub holder_by : List Cell → ℕ → ℕ → Option ℕ → Option ℕ
 holder_by [] d e h = h
 holder_by (x ∷ xs) d e h = holder_by xs d e (held_after x d e h)
 
--- whether a course stands in a slot after these cells, where b is whether it did before them
+-- whether course c has a lecture in slot s after these cells; b says whether it has one before
 abbrev pub stands_by : List Cell → ℕ → ℕ → Bool → Bool
 stands_by [] c s b = b
 stands_by (x ∷ xs) c s b = stands_by xs c s (cond (x.course == c && x.slot == s) (is_some x.room) b)
 
--- a lecture of a course that is added, and one that is removed
+-- the cell adds a lecture of course c
 abbrev pub is_added : ℕ → Cell → Bool
 is_added c x = x.course == c && is_some x.room
 
+-- the cell removes a lecture of course c
 abbrev pub is_removed : ℕ → Cell → Bool
 is_removed c x = x.course == c && is_none x.room
 
--- the number of lectures of a course after these cells, of n before them
+-- the number of lectures of course c after these cells, if it is n before them
 abbrev pub count_after : List Cell → ℕ → ℕ → ℕ
 count_after cells c n = (n + count_by (is_added c) cells) - count_by (is_removed c) cells

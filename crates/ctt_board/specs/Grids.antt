@@ -1,4 +1,4 @@
--- A sheet of tables.
+-- The tables of a sheet, by its timetable.
 use Rattle.std.specs.Prelude.{◌≡◌, ◌<◌, ℕ, zero, suc, List, [], ◌++◌, Option, None, is_some}
 use Rattle.ctt_text.specs.Problem.{Problem, course_count, slot_count, room_count}
 use Rattle.ctt_text.specs.declared.placed.Placed.{Placed}
@@ -12,51 +12,52 @@ use Rattle.ctt_text.specs.BitRows.{BitTable, is_marked_in}
 use Rattle.ctt_board.specs.Counts.{HasSize, AreCounts}
 use Rattle.ctt_board.specs.declared.tables.Tables.{Tables}
 
--- the lectures of the courses below n, in m slots
+-- the lectures of the courses below n in the slots below m, if f gives the rooms
 abbrev pub rows_below : (ℕ → ℕ → Option ℕ) → ℕ → ℕ → List Placed
 rows_below f m zero = []
 rows_below f m (suc n) = rows_below f m n ++ row_below (f n) n m
 
--- the lectures in a slot, of the courses below n
+-- the lectures in slot s of the courses below n, if f gives the rooms
 abbrev pub column_below : (ℕ → Option ℕ) → ℕ → ℕ → List Placed
 column_below f s zero = []
 column_below f s (suc n) = column_below f s n ++ lecture_at n s (f n)
 
--- the lectures that a table of rooms shows
+-- the timetable that a table of rooms represents
 abbrev pub listed : Problem → Grid (Option ℕ) → List Placed
 listed i rooms = rows_below (λ c s. at rooms c s None) (slot_count i) (course_count i)
 
--- the rooms by course and slot
+-- the table has the room of each course in each slot
 pub record AreRooms (i : Problem) (t : List Placed) (g : Grid (Option ℕ)) : Type 0 where
   pub size : HasSize g (course_count i) (slot_count i)
   pub rooms : (c s : ℕ) → c < course_count i → s < slot_count i → at g c s None ≡ room_at c s t
 
--- the courses by slot and room
+-- the table has the course in each slot and room
 pub record AreHolders (i : Problem) (t : List Placed) (g : Grid (Option ℕ)) : Type 0 where
   pub size : HasSize g (slot_count i) (room_count i)
   pub courses : (s r : ℕ) → s < slot_count i → r < room_count i → at g s r None ≡ holder_at s r t
 
--- there is a row of marks on the courses for each slot
+-- the table has a row for each slot and a bit for each course
 abbrev pub HaveRows : BitTable → Problem → Type 0
 HaveRows g i = (g.rows ≡ slot_count i) × (g.width ≡ course_count i)
 
--- the courses that stand in each slot
+-- the table marks the courses that have a lecture in each slot
 pub record AreStanding (i : Problem) (t : List Placed) (g : BitTable) : Type 0 where
   pub size : HaveRows g i
   pub courses : (s c : ℕ) → s < slot_count i → is_marked_in g s c ≡ is_some (room_at c s t)
 
--- the tables that say where the lectures are
+-- the look-up tables are those of the timetable t
 pub record ArePlaces (i : Problem) (t : List Placed) (g : Tables) : Type 0 where
   pub rooms_are : AreRooms i t g.rooms
   pub courses_are : AreHolders i t g.courses
   pub standing_are : AreStanding i t g.standing
 
+-- the look-up tables have the sizes of the instance
 pub record HavePlaceSizes (i : Problem) (g : Tables) : Type 0 where
   pub rooms : HasSize g.rooms (course_count i) (slot_count i)
   pub courses : HasSize g.courses (slot_count i) (room_count i)
   pub standing : HaveRows g.standing i
 
--- each table is what the timetable says that the rooms show
+-- all tables are those of the timetable that the rooms represent, which is lawful
 pub record AreTables (i : Problem) (g : Tables) : Type 0 where
   pub lawful : Lawful i (listed i g.rooms)
   pub rooms_are : AreRooms i (listed i g.rooms) g.rooms
@@ -64,7 +65,7 @@ pub record AreTables (i : Problem) (g : Tables) : Type 0 where
   pub standing_are : AreStanding i (listed i g.rooms) g.standing
   pub counts_are : AreCounts i (listed i g.rooms) g.counts
 
--- and so are the costs
+-- the tables and the costs are those of the timetable that the rooms represent
 pub record IsGridSheet (i : Problem) (g : Tables) (cost : Cost) : Type 0 where
   pub tables_are : AreTables i g
   pub cost_is : cost ≡ penalty i (listed i g.rooms)

@@ -1,4 +1,4 @@
--- What one lecture more does to the penalty, by counts over the lectures that are there before it.
+-- What adding one lecture does to the penalty, by counts of the lectures before it.
 use Rattle.std.specs.Prelude.{◌≡◌, ◌≤◌, ℕ, ℤ, pos, ◌-ℤ◌, ◌+◌, ◌-◌, ◌*◌, Bool, cond, List, length, sum_by, count_by, ◌==◌, ◌&&◌, nat_lt}
 use Rattle.ctt_text.specs.Lists.{has}
 use Rattle.ctt_text.specs.Belonging.{curricula_of}
@@ -10,45 +10,49 @@ use Rattle.ctt_rules.specs.declared.cost.Cost.{Cost}
 use Rattle.ctt_rules.specs.Penalty.{penalty, unseated, days_of}
 use Rattle.ctt_rules.specs.Neighbours.{is_beside}
 
--- u has the lectures of t, and l
+-- u has the lectures of t and l, in any order
 abbrev pub IsMore : Placed → List Placed → List Placed → Type 0
 IsMore l t u = (f : Placed → ℕ) → sum_by f u ≡ f l + sum_by f t
 
--- a lecture of a course on a day, of a course in a room, of some courses in a slot
+-- a lecture of course c on day d
 abbrev pub on_day : Problem → ℕ → ℕ → Placed → Bool
 on_day i c d l = l.course == c && day_of i l.slot == d
 
+-- a lecture of course c in room r
 abbrev pub in_room : ℕ → ℕ → Placed → Bool
 in_room c r l = l.course == c && l.room == r
 
+-- a lecture of one of the courses q in slot s
 abbrev pub in_slot : List ℕ → ℕ → Placed → Bool
 in_slot q s l = has l.course q && l.slot == s
 
--- of so many lectures in each slot, those in one slot that stand alone
+-- the number of lectures in slot s that stand alone, if slot k has f k lectures
 abbrev pub alone_at : Problem → (ℕ → ℕ) → ℕ → ℕ
 alone_at i f s = cond (is_beside i (λ k. nat_lt 0 (f k)) s) 0 (f s)
 
--- those in the slot before one, and in the slot after it, on its day
+-- the number of lectures in the slot before s on the same day, if slot k has f k lectures
 abbrev pub count_before : Problem → (ℕ → ℕ) → ℕ → ℕ
 count_before i f s = cond (nat_lt 0 (period_of i s)) (f (s - 1)) 0
 
+-- the number of lectures in the slot after s on the same day, if slot k has f k lectures
 abbrev pub count_after : Problem → (ℕ → ℕ) → ℕ → ℕ
 count_after i f s = cond (nat_lt (period_of i s + 1) i.periods) (f (s + 1)) 0
 
--- those in the slots beside one that stand alone
+-- the number of lectures in the slots beside s that stand alone
 abbrev pub alone_beside : Problem → (ℕ → ℕ) → ℕ → ℕ
 alone_beside i f s = cond (nat_lt 0 (period_of i s)) (alone_at i f (s - 1)) 0 + cond (nat_lt (period_of i s + 1) i.periods) (alone_at i f (s + 1)) 0
 
--- one more in the slot stands alone
+-- 1 if a further lecture in slot s would stand alone, else 0
 abbrev pub stands_alone : Problem → (ℕ → ℕ) → ℕ → ℕ
 stands_alone i f s = cond (is_beside i (λ k. nat_lt 0 (f k)) s) 0 1
 
--- the lectures of some courses, by slot
+-- the number of lectures of the courses q in slot s
 abbrev pub by_slot : List ℕ → List Placed → ℕ → ℕ
 by_slot q t s = count_by (in_slot q s) t
 
--- what a lecture adds and takes, by the counts of its course on its day, of the days of its course, of its course and
--- of its course in its room, and of the curricula by slot
+-- the increases and decreases in cost if lecture l is added, given the number of lectures of its
+-- course on its day, of days of its course, of lectures of its course and of those in its room, and
+-- the number of lectures of each curriculum by slot
 abbrev pub joining_by : Problem → Placed → ℕ → ℕ → ℕ → ℕ → (ℕ → ℕ → ℕ) → Joining
 joining_by i l on_its_day days lectures in_its_room curricula = record {
   seats = unseated i l;
@@ -58,17 +62,18 @@ joining_by i l on_its_day days lectures in_its_room curricula = record {
   room = cond (in_its_room == 0 && nat_lt 0 lectures) 1 0;
 }
 
+-- the increases and decreases in cost if lecture l is added to the timetable t
 abbrev pub joining : Problem → List Placed → Placed → Joining
 joining i t l = joining_by i l (count_by (on_day i l.course (day_of i l.slot)) t) (days_of i (course_row l.course t)) (length (course_row l.course t)) (count_by (in_room l.course l.room) t) (λ q. by_slot (members i q) t)
 
--- the costs with the lecture, by those without it
+-- the costs of u are those of t with the increases and decreases of j
 pub record Joins (i : Problem) (t u : List Placed) (j : Joining) : Type 0 where
   pub capacity : (penalty i u).capacity ≡ (penalty i t).capacity + j.seats
   pub days : (penalty i u).days + j.day ≡ (penalty i t).days
   pub compactness : (penalty i u).compactness + j.company ≡ (penalty i t).compactness + j.alone
   pub stability : (penalty i u).stability ≡ (penalty i t).stability + j.room
 
--- no part of it is large
+-- bounds of the parts
 pub record IsSmallJoining (j : Joining) : Type 0 where
   pub seats : j.seats ≤ 999999999
   pub day : j.day ≤ 5
@@ -76,6 +81,7 @@ pub record IsSmallJoining (j : Joining) : Type 0 where
   pub company : j.company ≤ 400000000000000
   pub room : j.room ≤ 1
 
+-- the costs with the lecture, given those without it
 abbrev pub with_joining : Cost → Joining → Cost
 with_joining cost j = record {
   capacity = cost.capacity + j.seats;
@@ -84,6 +90,7 @@ with_joining cost j = record {
   stability = cost.stability + j.room;
 }
 
+-- the costs without the lecture, given those with it
 abbrev pub without_joining : Cost → Joining → Cost
 without_joining cost j = record {
   capacity = cost.capacity - j.seats;
@@ -92,6 +99,6 @@ without_joining cost j = record {
   stability = cost.stability - j.room;
 }
 
--- what it adds to the penalty
+-- what the lecture adds to the penalty
 abbrev pub gain_of : Joining → ℤ
 gain_of j = pos (j.seats + j.alone + j.room) -ℤ pos (j.day + j.company)

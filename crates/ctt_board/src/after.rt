@@ -1,4 +1,5 @@
-//! A timetable as a change would leave it. The change is not made, and no memory is taken.
+//! A view of a timetable as a change would leave it. The change is not made, and nothing is
+//! allocated.
 
 ghost use Rattle.std.specs.Prelude.{◌≡◌, ◌<◌, ◌≤◌, true, length, count_by};
 ghost use Rattle.ctt_text.specs.Problem.{AreMembers, course_count};
@@ -15,7 +16,7 @@ use ctt_rules::{count_alone, mark_slots};
 use ctt_text::{CourseNo, Instance, Marks, Placed, RoomNo, SlotNo};
 use std::marker::Model;
 
-/// A timetable after these cells, seen as a timetable. It is lawful.
+/// A view of a timetable after some cells of a change. It is lawful.
 #[derive(Drop)]
 pub struct After<'a, R: Rooms> {
     instance: &'a Instance,
@@ -38,7 +39,7 @@ impl<'a, R: Rooms> Model for After<'a, R> {
         IsAfter a.instance.now (R.problem a.rooms.now) (R.list a.rooms.now) a.cells.now };
 }
 
-/// The room of a course in a slot after these cells, from the one before them.
+/// Returns the room of a course in a slot after these cells, given the room before them.
 pub(crate) fn last_room(
     cells: &[Cell],
     course: CourseNo,
@@ -56,7 +57,7 @@ pub(crate) fn last_room(
     last
 }
 
-/// The course that has a room in a slot after a cell, from the one before it.
+/// Returns the course that has a room in a slot after a cell, given the one before it.
 fn held_after(cell: &Cell, slot: SlotNo, room: RoomNo, holder: Option<CourseNo>) -> Option<CourseNo>
     ensures { result ≡ held_after cell.now slot room holder }
 {
@@ -70,7 +71,7 @@ fn held_after(cell: &Cell, slot: SlotNo, room: RoomNo, holder: Option<CourseNo>)
     }
 }
 
-/// The course that has a room in a slot after these cells, from the one before them.
+/// Returns the course that has a room in a slot after these cells, given the one before them.
 fn last_holder(
     cells: &[Cell],
     slot: SlotNo,
@@ -86,7 +87,7 @@ fn last_holder(
     last
 }
 
-/// How many lectures of a course are added.
+/// Returns how many lectures of a course these cells add.
 fn added(cells: &[Cell], course: CourseNo) -> u32
     requires { length cells.now ≤ 4 }
     ensures value { result ≡ count_by (is_added course) cells.now }
@@ -101,7 +102,7 @@ fn added(cells: &[Cell], course: CourseNo) -> u32
     count
 }
 
-/// How many lectures of a course are removed.
+/// Returns how many lectures of a course these cells remove.
 fn removed(cells: &[Cell], course: CourseNo) -> u32
     requires { length cells.now ≤ 4 }
     ensures value { result ≡ count_by (is_removed course) cells.now }
@@ -117,7 +118,7 @@ fn removed(cells: &[Cell], course: CourseNo) -> u32
 }
 
 impl<'a, R: Rooms> After<'a, R> {
-    /// The timetable after cells that fit it, where it is lawful then.
+    /// Returns a view of the timetable after these cells.
     pub fn new(instance: &'a Instance, rooms: &'a R, cells: &'a [Cell]) -> Self
         requires same { R.problem rooms.now ≡ instance.now }
         requires change { is_change cells.now ≡ true }
@@ -139,7 +140,7 @@ impl<'a, R: Rooms> After<'a, R> {
         self.instance
     }
 
-    /// The lectures of a course.
+    /// Returns the lectures of a course, by slot.
     fn row(&self, course: CourseNo) -> ArrayVec<Placed, 2000>
         requires { course < course_count self.now.problem }
         ensures { result.items ≡ course_row course self.now.list }
@@ -157,7 +158,7 @@ impl<'a, R: Rooms> After<'a, R> {
         row
     }
 
-    /// What the lectures of a course cost, but for the compactness of its curricula.
+    /// Returns what the lectures of a course cost, without the compactness of its curricula.
     pub(crate) fn course_cost(&self, course: CourseNo) -> u64
         requires { course < course_count self.now.problem }
         ensures value { result ≡ total (course_cost self.now.problem self.now.list course) }
@@ -170,7 +171,7 @@ impl<'a, R: Rooms> After<'a, R> {
         ctt_rules::course_cost(instance, row.as_slice(), course).total()
     }
 
-    /// What the lectures of these courses, the members of one curriculum, cost by its compactness.
+    /// Returns the compactness cost of the curriculum with these members.
     pub(crate) fn curriculum_cost(&self, members: &[CourseNo]) -> u64
         requires { AreMembers (course_count self.now.problem) members.now }
         ensures value { result

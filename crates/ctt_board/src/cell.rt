@@ -1,9 +1,8 @@
-//! A place in a timetable that changes.
+//! A cell: one lecture that a change adds or removes.
 
 use ctt_text::{CourseNo, RoomNo, SlotNo};
 
-/// A course in a slot: with a room, a lecture that is added there; without one, a lecture that is
-/// removed.
+/// A lecture of a course in a slot: with a room, it is added there; without one, it is removed.
 #[derive(Clone, Copy, Default, PartialEq, Eq)]
 pub struct Cell {
     pub course: CourseNo,

@@ -1,4 +1,4 @@
-//! What changes in a timetable.
+//! Changes to a timetable.
 
 ghost use Rattle.std.specs.Prelude.{◌≡◌, true, false};
 ghost use Rattle.ctt_board.specs.Changes.{in_turn, is_change, change_of};
@@ -7,7 +7,7 @@ use crate::cell::Cell;
 use arrayvec::ArrayVec;
 use std::marker::Model;
 
-/// At most four cells, removals before additions.
+/// A change to a timetable: at most four cells, removals before additions.
 #[derive(Drop)]
 pub struct Change {
     cells: ArrayVec<Cell, 4>,
@@ -26,7 +26,7 @@ impl Model for Change {
     ghost invariant = { λ c. is_change c.cells.items ≡ true };
 }
 
-/// Whether no removal stands behind an addition.
+/// Returns whether no removal follows an addition.
 fn are_in_turn(cells: &[Cell]) -> bool
     ensures { result ≡ in_turn false cells.now }
 {
@@ -41,8 +41,8 @@ fn are_in_turn(cells: &[Cell]) -> bool
 }
 
 impl Change {
-    /// The change of these cells, unless there are more than four or a removal stands behind an
-    /// addition.
+    /// Returns the change of these cells, or `None` if there are more than four or a removal
+    /// follows an addition.
     pub fn of(cells: &[Cell]) -> Option<Change>
         ensures { result ≡ change_of cells.now }
     {
@@ -56,7 +56,7 @@ impl Change {
         Some(Change { cells: kept })
     }
 
-    /// The cells, in order.
+    /// Returns the cells, in order.
     pub fn cells(&self) -> &[Cell]
         ensures value { result.now ≡ self.now }
         ensures in_turn { is_change self.now ≡ true }

@@ -1,4 +1,4 @@
-//! The clashes of a course with those that stand in a slot.
+//! The clashes of a course with the courses that have a lecture in a slot.
 
 ghost use Rattle.std.specs.Prelude.{◌≡◌, ◌<◌, ℕ, List, is_some, IsSome};
 ghost use Rattle.ctt_text.specs.Marks.{is_marked};
@@ -11,7 +11,8 @@ ghost use Rattle.ctt_board.specs.Changes.{clash_at, room_at};
 use crate::sheet::Rooms;
 use ctt_text::{CourseNo, Instance, Marks, SlotNo};
 
-/// The first of the courses that stand in a slot, which are marked, that clashes with this one.
+/// Returns the first marked course that clashes with this one. The marks are the courses with a
+/// lecture in one slot.
 fn first_clash_among(instance: &Instance, standing: &Marks, course: CourseNo) -> Option<CourseNo>
     requires { course < course_count instance.now }
     ensures { (slot : ℕ) (t : List Placed) → Lawful instance.now t
@@ -24,7 +25,7 @@ fn first_clash_among(instance: &Instance, standing: &Marks, course: CourseNo) ->
     Some(CourseNo::new(number as u16))
 }
 
-/// The first course with a lecture in a slot that clashes with this one.
+/// Returns the first course, by number, that has a lecture in a slot and clashes with this one.
 pub fn first_clash<R: Rooms>(
     instance: &Instance,
     rooms: &R,
@@ -41,7 +42,8 @@ pub fn first_clash<R: Rooms>(
     first_clash_among(instance, &standing, course)
 }
 
-/// The first course with a lecture in a slot that clashes with this one, once a lecture has left it.
+/// Returns the first course, by number, that has a lecture in a slot and clashes with this one,
+/// after the lecture of `leaving` has left the slot.
 pub fn first_clash_without<R: Rooms>(
     instance: &Instance,
     rooms: &R,

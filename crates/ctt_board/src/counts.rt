@@ -1,4 +1,4 @@
-//! The lectures of a timetable, counted.
+//! Counts of the lectures of a timetable.
 
 ghost use Rattle.std.specs.Prelude.{◌≡◌, ◌<◌, true, IfOk, []};
 ghost use Rattle.ctt_text.specs.Timetable.{Fits};
@@ -9,21 +9,21 @@ use crate::tally::{add_column, add_one, take_column, take_one};
 use ctt_text::{CourseNo, Instance, Placed, SlotNo};
 use std::alloc::{AllocError, Global};
 
-/// The counts of a timetable that its costs are made of.
+/// The counts from which the costs of a timetable are computed.
 #[derive(Drop)]
 pub(crate) struct Counts {
-    /// The lectures of each course, in one row.
+    /// The lectures of each course: a single row, with a column for each course.
     pub(crate) lectures: Table<u16>,
-    /// Those of each course on each day.
+    /// The lectures of each course (row) on each day (column).
     pub(crate) days: Table<u16>,
-    /// The lectures of each course in each room.
+    /// The lectures of each course (row) in each room (column).
     pub(crate) rooms: Table<u16>,
-    /// Those of each curriculum in each slot.
+    /// The lectures of each curriculum (row) in each slot (column).
     pub(crate) curricula: Table<u16>,
 }
 
 impl Counts {
-    /// The counts of the empty timetable.
+    /// Returns the counts of the empty timetable.
     #[tactic(auto, using(crate::proofs::CountsLemmas::none_counted))]
     pub(crate) fn new(alloc: Global, instance: &Instance) -> Result<Self, AllocError>
         ensures { IfOk result (AreCounts instance.now []) }
@@ -51,7 +51,7 @@ impl Counts {
         })
     }
 
-    /// Counts one lecture more.
+    /// Adds one lecture to the counts.
     pub(crate) fn add(&mut self, instance: &Instance, lecture: &Placed)
         requires fits { Fits instance.now lecture.now }
         requires sizes { HaveSizes instance.now self.old }
@@ -69,7 +69,7 @@ impl Counts {
         add_column(&mut self.curricula, curricula, lecture.slot.get() as usize);
     }
 
-    /// Counts one lecture less.
+    /// Removes one lecture from the counts.
     pub(crate) fn take(&mut self, instance: &Instance, lecture: &Placed)
         requires fits { Fits instance.now lecture.now }
         requires sizes { HaveSizes instance.now self.old }

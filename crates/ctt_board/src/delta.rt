@@ -12,21 +12,21 @@ use crate::change::Change;
 use crate::sheet::Rooms;
 use ctt_text::{CourseNo, CurriculumNo, Instance};
 
-/// Whether some cell is of the course.
+/// Returns whether some cell belongs to the course.
 fn touches(cells: &[Cell], course: CourseNo) -> bool
     ensures { result ≡ touches cells.now course }
 {
     cells.iter().any(|x| x.course == course)
 }
 
-/// Whether some cell is of a member of the curriculum.
+/// Returns whether some cell belongs to a member of the curriculum.
 fn touches_curriculum(cells: &[Cell], members: &[CourseNo]) -> bool
     ensures { result ≡ touches_curriculum cells.now members.now }
 {
     cells.iter().any(|x| members.contains(&x.course))
 }
 
-/// What the courses cost that some cell touches.
+/// Returns the cost, without compactness, of the courses that the cells touch.
 fn courses_cost<R: Rooms>(after: &After<R>, cells: &[Cell]) -> u64
     ensures value { result ≡ courses_cost after.now.problem cells.now after.now.list }
     ensures bound { result ≤ 2000 * 3000000000000 }
@@ -43,7 +43,7 @@ fn courses_cost<R: Rooms>(after: &After<R>, cells: &[Cell]) -> u64
     total
 }
 
-/// What the curricula cost that some cell touches.
+/// Returns the compactness cost of the curricula that the cells touch.
 fn curricula_cost<R: Rooms>(after: &After<R>, cells: &[Cell]) -> u64
     ensures value { result ≡ curricula_cost after.now.problem cells.now after.now.list }
     ensures bound { result ≤ 20000 * 8000000 }
@@ -60,7 +60,7 @@ fn curricula_cost<R: Rooms>(after: &After<R>, cells: &[Cell]) -> u64
     total
 }
 
-/// What the courses and curricula cost that some cell touches.
+/// Returns the cost of the courses and curricula that the cells touch.
 fn touched_cost<R: Rooms>(after: &After<R>, cells: &[Cell]) -> u64
     ensures value { result ≡ courses_cost after.now.problem cells.now after.now.list
         + curricula_cost after.now.problem cells.now after.now.list }
@@ -69,7 +69,7 @@ fn touched_cost<R: Rooms>(after: &After<R>, cells: &[Cell]) -> u64
     courses_cost(after, cells) + curricula_cost(after, cells)
 }
 
-/// The penalty after a change that fits, minus the one before it.
+/// Returns the penalty after a change that fits, minus the penalty before it.
 pub(crate) fn delta<R: Rooms>(instance: &Instance, rooms: &R, change: &Change) -> i64
     requires same { R.problem rooms.now ≡ instance.now }
     requires lawful { Lawful instance.now (R.list rooms.now) }

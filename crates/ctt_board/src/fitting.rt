@@ -1,4 +1,4 @@
-//! Whether a change fits.
+//! The test whether a change fits a lawful timetable.
 
 ghost use Rattle.std.specs.Prelude.{◌≡◌};
 ghost use Rattle.ctt_text.specs.Timetable.{Fits};
@@ -11,7 +11,7 @@ use crate::clashes::first_clash;
 use crate::sheet::Rooms;
 use ctt_text::{Instance, Placed};
 
-/// Whether the numbers of a lecture are those of the instance.
+/// Returns whether the course, slot and room of a lecture are numbers of the instance.
 fn is_known(instance: &Instance, lecture: &Placed) -> bool
     ensures { result ≡ is_known instance.now lecture.now }
 {
@@ -19,7 +19,7 @@ fn is_known(instance: &Instance, lecture: &Placed) -> bool
         && (lecture.slot.get() < instance.slots() && lecture.room.get() < instance.rooms())
 }
 
-/// Whether its course is available in the slot, and its room is not barred.
+/// Returns whether the course is available in the slot, and the room is not barred for it.
 fn is_allowed(instance: &Instance, lecture: &Placed) -> bool
     requires { Fits instance.now lecture.now }
     ensures { result ≡ is_allowed instance.now lecture.now }
@@ -28,7 +28,8 @@ fn is_allowed(instance: &Instance, lecture: &Placed) -> bool
         && !instance.barred(lecture.course, lecture.room)
 }
 
-/// Whether its course can have one more lecture, in this slot and room.
+/// Returns whether the course has lectures left to place and none in this slot, and slot and room
+/// are allowed.
 fn is_wanted<R: Rooms>(instance: &Instance, rooms: &R, lecture: &Placed) -> bool
     requires same { R.problem rooms.now ≡ instance.now }
     requires fits { Fits instance.now lecture.now }
@@ -40,7 +41,7 @@ fn is_wanted<R: Rooms>(instance: &Instance, rooms: &R, lecture: &Placed) -> bool
         && (rooms.count(course) < instance.lectures(course) && is_allowed(instance, lecture))
 }
 
-/// Whether nothing in the slot is against it.
+/// Returns whether no lecture in the slot clashes with this one or has its room.
 fn is_unhindered<R: Rooms>(instance: &Instance, rooms: &R, lecture: &Placed) -> bool
     requires same { R.problem rooms.now ≡ instance.now }
     requires fits { Fits instance.now lecture.now }
@@ -50,7 +51,7 @@ fn is_unhindered<R: Rooms>(instance: &Instance, rooms: &R, lecture: &Placed) -> 
         && rooms.holder(lecture.slot, lecture.room).is_none()
 }
 
-/// Whether a lecture can be added.
+/// Returns whether a lecture can be added.
 #[tactic(auto, using(crate::proofs::FitLemmas::fits_of))]
 fn can_come<R: Rooms>(instance: &Instance, rooms: &R, lecture: &Placed) -> bool
     requires same { R.problem rooms.now ≡ instance.now }
@@ -60,7 +61,7 @@ fn can_come<R: Rooms>(instance: &Instance, rooms: &R, lecture: &Placed) -> bool
         && (is_wanted(instance, rooms, lecture) && is_unhindered(instance, rooms, lecture))
 }
 
-/// Whether a cell can be made.
+/// Returns whether the lecture of a cell can be added or removed.
 fn cell_fits<R: Rooms>(instance: &Instance, rooms: &R, cell: &Cell) -> bool
     requires same { R.problem rooms.now ≡ instance.now }
     ensures { result
@@ -78,7 +79,7 @@ fn cell_fits<R: Rooms>(instance: &Instance, rooms: &R, cell: &Cell) -> bool
     }
 }
 
-/// Whether a change fits. It takes no memory.
+/// Returns whether each cell of a change can be made after the earlier ones. Allocates nothing.
 pub(crate) fn fits<R: Rooms>(instance: &Instance, rooms: &R, change: &Change) -> bool
     requires same { R.problem rooms.now ≡ instance.now }
     ensures { result ≡ fits instance.now change.now (R.list rooms.now) }

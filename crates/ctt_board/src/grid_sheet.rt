@@ -1,4 +1,4 @@
-//! A sheet that keeps tables of fixed size, and its costs.
+//! A sheet that stores its lectures in tables of fixed size, and its costs.
 
 ghost use Rattle.std.specs.Prelude.{◌≡◌, ◌<◌, ◌+◌, pos, ◌-ℤ◌, ◌++◌, ℕ, [], false, Some, is_some, length, OnOk};
 ghost use Rattle.ctt_text.specs.Problem.{course_count, slot_count};
@@ -24,8 +24,8 @@ use ctt_text::{CourseNo, Instance, Marks, NoMemory, Placed, RoomNo, SlotNo};
 use std::alloc::{AllocError, Global};
 use std::marker::Model;
 
-/// A sheet whose lectures lie in a table by course and slot, beside which lie the counts of which
-/// its costs are made, and the costs themselves. No change takes memory.
+/// A sheet that stores its lectures in a table by course and slot, the counts from which its costs
+/// are computed, and the costs themselves. Changes allocate nothing.
 pub struct GridSheet<'i> {
     instance: &'i Instance,
     tables: Tables,
@@ -33,7 +33,7 @@ pub struct GridSheet<'i> {
     alloc: Global,
 }
 
-// A derived `Drop` is proved anew in each crate above.
+// Written by hand because a derived `Drop` is proved again in each dependent crate.
 impl<'i> Drop for GridSheet<'i> {
     fn drop(self) {
         let GridSheet {
@@ -74,7 +74,6 @@ impl<'i> GridSheet<'i> {
         self.tables.add(self.instance, lecture);
     }
 
-    /// Removes a lecture that is there.
     fn remove(&mut self, lecture: &Placed)
         requires fits { Fits self.old.problem lecture.now }
         requires there { room_at lecture.now.course lecture.now.slot self.old.list
@@ -172,8 +171,8 @@ impl<'i> Rooms for GridSheet<'i> {
     }
 }
 
-/// Lets the counts see one cell more, behind those that are done. Answers what it adds to the
-/// penalty.
+/// Updates the counts by the next cell, after those already done, and returns what the cell adds to
+/// the penalty.
 fn step(
     instance: &Instance,
     sheet: &GridSheet,

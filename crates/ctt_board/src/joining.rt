@@ -1,4 +1,4 @@
-//! What one lecture more does to the penalty.
+//! What adding one lecture does to the penalty.
 
 ghost use Rattle.std.specs.Prelude.{◌≡◌, ◌<◌, ◌≤◌, ◌+◌, ◌-◌, ◌*◌, ◌&&◌, ◌==◌, nat_lt, cond};
 ghost use Rattle.ctt_text.specs.Problem.{course_of, day_of};
@@ -13,22 +13,22 @@ use crate::meeting::meetings;
 use ctt_rules::Cost;
 use ctt_text::{Instance, Placed};
 
-/// What a lecture adds to the costs of a timetable, and takes from them.
+/// The increases and decreases in the costs of a timetable if a lecture is added, in points.
 #[derive(Clone, Copy, Default, PartialEq, Eq)]
 pub(crate) struct Joining {
-    /// Its students above the capacity of its room.
+    /// The students beyond the capacity of its room.
     pub(crate) seats: u64,
-    /// What the days cost less, where it is the first of its course on a day that was missing.
+    /// The decrease in the cost of days: 5 if its course has too few days and it adds one, else 0.
     pub(crate) day: u64,
-    /// What the compactness costs more, since it stands alone.
+    /// The increase in the compactness cost, from the curricula in which it stands alone.
     pub(crate) alone: u64,
-    /// What the compactness costs less, since others stood alone beside it.
+    /// The decrease in the compactness cost, from the lectures beside it that stood alone.
     pub(crate) company: u64,
-    /// What the stability costs more, where it has a further room.
+    /// The increase in the stability cost: 1 if its course gets a further room, else 0.
     pub(crate) room: u64,
 }
 
-/// Five, if a lecture would be the first of its course on a day that was missing.
+/// Returns 5 if a lecture would add a day to a course that has too few, else 0.
 fn missing_day(later: &Later, instance: &Instance, lecture: &Placed) -> u64
     requires fits { Fits instance.now lecture.now }
     requires sizes { HaveSizes instance.now later.now.counts.now }
@@ -49,7 +49,7 @@ fn missing_day(later: &Later, instance: &Instance, lecture: &Placed) -> u64
     }
 }
 
-/// One, if a lecture would give its course a further room.
+/// Returns 1 if a lecture would give its course a further room, else 0.
 fn further_room(later: &Later, instance: &Instance, lecture: &Placed) -> u64
     requires fits { Fits instance.now lecture.now }
     requires sizes { HaveSizes instance.now later.now.counts.now }
@@ -64,7 +64,7 @@ fn further_room(later: &Later, instance: &Instance, lecture: &Placed) -> u64
     if is_new && has_others { 1 } else { 0 }
 }
 
-/// What a lecture would add to the costs, and take from them.
+/// Returns the increases and decreases in the costs if a lecture is added.
 pub(crate) fn joining_of(later: &Later, instance: &Instance, lecture: &Placed) -> Joining
     requires fits { Fits instance.now lecture.now }
     requires sizes { HaveSizes instance.now later.now.counts.now }
@@ -86,7 +86,7 @@ pub(crate) fn joining_of(later: &Later, instance: &Instance, lecture: &Placed) -
     }
 }
 
-/// The costs with a lecture.
+/// Returns the costs with a lecture, given the costs without it.
 pub(crate) fn with_lecture(cost: Cost, joining: &Joining) -> Cost
     requires small { total cost ≤ 7000000000000000 }
     requires joining { IsSmallJoining joining.now }
@@ -100,7 +100,7 @@ pub(crate) fn with_lecture(cost: Cost, joining: &Joining) -> Cost
     }
 }
 
-/// The costs without a lecture.
+/// Returns the costs without a lecture, given the costs with it.
 pub(crate) fn without_lecture(cost: Cost, joining: &Joining) -> Cost
     requires small { total cost ≤ 7000000000000000 }
     requires joining { IsSmallJoining joining.now }
@@ -114,7 +114,7 @@ pub(crate) fn without_lecture(cost: Cost, joining: &Joining) -> Cost
     }
 }
 
-/// What a lecture adds to the penalty.
+/// Returns what a lecture adds to the penalty, which may be negative.
 pub(crate) fn gain(joining: &Joining) -> i64
     requires { IsSmallJoining joining.now }
     ensures { result ≡ gain_of joining.now }

@@ -1,5 +1,5 @@
-//! The counts of a timetable as a change would leave them. Nothing is changed, and no memory is
-//! taken.
+//! The counts of a timetable as a change would leave them. The timetable is unchanged, and nothing
+//! is allocated.
 
 ghost use Rattle.std.specs.Prelude.{◌≡◌, ◌<◌, ◌≤◌, ◌+◌, ◌-◌, [], count_by, length, cond, ◌==◌, ◌||◌, ◌++◌, ◌∷◌};
 ghost use Rattle.std.specs.List.{list_any};
@@ -14,7 +14,7 @@ use crate::joining::{gain, joining_of};
 use arrayvec::ArrayVec;
 use ctt_text::{CourseNo, CurriculumNo, Instance, Placed, RoomNo, SlotNo};
 
-/// Counts, with lectures that leave and lectures that come.
+/// The counts of a timetable, with the lectures that a change removes and adds.
 #[derive(Drop)]
 pub(crate) struct Later<'a> {
     pub(crate) counts: &'a Counts,
@@ -22,7 +22,7 @@ pub(crate) struct Later<'a> {
     pub(crate) added: ArrayVec<Placed, 4>,
 }
 
-/// How many of the lectures are of a course on a day.
+/// Returns how many of the lectures are of a course on a day.
 fn on_day(instance: &Instance, lectures: &[Placed], course: CourseNo, day: u16) -> u64
     requires few { length lectures.now ≤ 4 }
     requires some { 0 < instance.now.periods }
@@ -38,7 +38,7 @@ fn on_day(instance: &Instance, lectures: &[Placed], course: CourseNo, day: u16) 
     count
 }
 
-/// How many of the lectures are of a course in a room.
+/// Returns how many of the lectures are of a course in a room.
 fn in_room(lectures: &[Placed], course: CourseNo, room: RoomNo) -> u64
     requires { length lectures.now ≤ 4 }
     ensures value { result ≡ count_by (in_room course room) lectures.now }
@@ -53,7 +53,7 @@ fn in_room(lectures: &[Placed], course: CourseNo, room: RoomNo) -> u64
     count
 }
 
-/// How many of the lectures are of a course.
+/// Returns how many of the lectures are of a course.
 fn of_course(lectures: &[Placed], course: CourseNo) -> u64
     requires { length lectures.now ≤ 4 }
     ensures value { result ≡ count_by (λ l. l.course == course) lectures.now }
@@ -68,7 +68,7 @@ fn of_course(lectures: &[Placed], course: CourseNo) -> u64
     count
 }
 
-/// Whether a lecture is of a curriculum, in a slot.
+/// Returns whether a lecture is in a slot and its course belongs to a curriculum.
 #[tactic(auto, using(crate::proofs::SeenLemmas::turned_and))]
 fn is_in_slot(instance: &Instance, lecture: &Placed, curriculum: CurriculumNo, slot: SlotNo) -> bool
     requires { curriculum < curriculum_count instance.now }
@@ -77,7 +77,7 @@ fn is_in_slot(instance: &Instance, lecture: &Placed, curriculum: CurriculumNo, s
     lecture.slot == slot && instance.members(curriculum).contains(&lecture.course)
 }
 
-/// How many of the lectures are of a curriculum in a slot.
+/// Returns how many of the lectures are of a curriculum in a slot.
 fn in_slot(instance: &Instance, lectures: &[Placed], curriculum: CurriculumNo, slot: SlotNo) -> u64
     requires few { length lectures.now ≤ 4 }
     requires curriculum { curriculum < curriculum_count instance.now }
@@ -95,7 +95,7 @@ fn in_slot(instance: &Instance, lectures: &[Placed], curriculum: CurriculumNo, s
 }
 
 impl<'a> Later<'a> {
-    /// The counts as they are.
+    /// Returns the counts with no lecture removed or added.
     pub(crate) fn now(counts: &'a Counts) -> Self
         ensures counts { result.counts.now ≡ counts.now }
         ensures removed { result.removed.items ≡ [] }
@@ -108,7 +108,7 @@ impl<'a> Later<'a> {
         }
     }
 
-    /// The lectures of a course on a day.
+    /// Returns the number of lectures of a course on a day.
     pub(crate) fn on_day(&self, instance: &Instance, course: CourseNo, day: u16) -> u64
         requires course { course < course_count instance.now }
         requires day { day < instance.now.days }
@@ -122,7 +122,7 @@ impl<'a> Later<'a> {
         (u64::from(count) + more).saturating_sub(less)
     }
 
-    /// The lectures of a course in a room.
+    /// Returns the number of lectures of a course in a room.
     pub(crate) fn in_room(&self, instance: &Instance, course: CourseNo, room: RoomNo) -> u64
         requires course { course < course_count instance.now }
         requires room { room < room_count instance.now }
@@ -138,7 +138,7 @@ impl<'a> Later<'a> {
         (u64::from(count) + more).saturating_sub(less)
     }
 
-    /// The lectures of a course.
+    /// Returns the number of lectures of a course.
     pub(crate) fn lectures(&self, instance: &Instance, course: CourseNo) -> u64
         requires course { course < course_count instance.now }
         requires sizes { HaveSizes instance.now self.now.counts.now }
@@ -150,7 +150,7 @@ impl<'a> Later<'a> {
         (u64::from(count) + more).saturating_sub(less)
     }
 
-    /// The days of a course.
+    /// Returns the number of days on which a course has a lecture.
     pub(crate) fn days(&self, instance: &Instance, course: CourseNo) -> u64
         requires course { course < course_count instance.now }
         requires some { 0 < instance.now.periods }
@@ -166,7 +166,7 @@ impl<'a> Later<'a> {
         count
     }
 
-    /// The lectures of a curriculum in a slot.
+    /// Returns the number of lectures of a curriculum in a slot.
     pub(crate) fn in_slot(&self, instance: &Instance, curriculum: CurriculumNo, slot: SlotNo) -> u64
         requires curriculum { curriculum < curriculum_count instance.now }
         requires slot { slot < slot_count instance.now }
@@ -183,7 +183,7 @@ impl<'a> Later<'a> {
         (u64::from(count) + more).saturating_sub(less)
     }
 
-    /// Lets a lecture come. Answers what it adds to the penalty.
+    /// Adds a lecture and returns what it adds to the penalty.
     pub(crate) fn come(&mut self, instance: &Instance, lecture: &Placed) -> i64
         requires fits { Fits instance.now lecture.now }
         requires sizes { HaveSizes instance.now self.old.counts.now }
@@ -199,7 +199,7 @@ impl<'a> Later<'a> {
         gain(&joining)
     }
 
-    /// Lets a lecture leave. Answers what it would add again.
+    /// Removes a lecture and returns what adding it again would add to the penalty.
     pub(crate) fn leave(&mut self, instance: &Instance, lecture: &Placed) -> i64
         requires fits { Fits instance.now lecture.now }
         requires sizes { HaveSizes instance.now self.old.counts.now }

@@ -1,4 +1,4 @@
-//! Sheets: lawful timetables with their costs, and the changes that are made to them.
+//! Sheets: lawful timetables with their costs, and changes to them.
 #![tactic(auto)]
 
 mod after;

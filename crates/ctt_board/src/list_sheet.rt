@@ -1,4 +1,4 @@
-//! A sheet that keeps the list of its lectures.
+//! A sheet that stores its lectures in a list.
 
 ghost use Rattle.std.specs.Prelude.{◌≡◌, ◌==◌, ◌&&◌, ◌≤◌, ◌<◌, ◌*◌, ◌++◌, true, false, length, IfOk, OnOk, []};
 ghost use Rattle.std.specs.List.{position_or_len};
@@ -19,14 +19,14 @@ use ctt_text::{CourseNo, Instance, Marks, NoMemory, Placed, RoomNo, SlotNo, is_b
 use std::alloc::{AllocError, Global};
 use std::marker::Model;
 
-/// A sheet whose lectures lie in a vector with room for each lawful timetable, so that no change
-/// takes memory. Its costs are computed anew whenever they are asked for.
+/// A sheet that stores its lectures in a vector with capacity for any lawful timetable, so that
+/// changes allocate nothing. Its costs are computed on every request.
 pub struct ListSheet<'i> {
     instance: &'i Instance,
     lectures: Vec<Placed>,
 }
 
-// A derived `Drop` is proved anew in each crate above.
+// Written by hand because a derived `Drop` is proved again in each dependent crate.
 impl<'i> Drop for ListSheet<'i> {
     fn drop(self) {
         let ListSheet {
@@ -48,7 +48,7 @@ impl<'i> Model for ListSheet<'i> {
         IsListSheet s.instance.now s.lectures.items (vec_capacity s.lectures) };
 }
 
-/// The place of a lecture among others in order.
+/// Returns the index at which a lecture belongs in an ordered list.
 #[tactic(auto, using(crate::proofs::OrderLemmas::found_at, crate::proofs::OrderLemmas::found_nowhere))]
 fn place_of(lectures: &[Placed], lecture: &Placed) -> usize
     ensures place { result ≡ position_or_len (before lecture.now) lectures.now }
@@ -62,7 +62,7 @@ fn place_of(lectures: &[Placed], lecture: &Placed) -> usize
     lectures.len()
 }
 
-/// Adds a lecture in its place. There is room for it.
+/// Inserts a lecture in its place in the order. The vector has capacity for it.
 #[tactic(auto, using(crate::proofs::OrderLemmas::with_is))]
 fn add(lectures: &mut Vec<Placed>, lecture: Placed)
     requires { vec_len lectures.old < vec_capacity lectures.old }
@@ -73,7 +73,7 @@ fn add(lectures: &mut Vec<Placed>, lecture: Placed)
     lectures.insert(place, lecture).unwrap();
 }
 
-/// Removes the lecture of a course in a slot.
+/// Removes the lecture of a course in a slot, if there is one.
 fn remove(lectures: &mut Vec<Placed>, course: CourseNo, slot: SlotNo)
     ensures items { lectures.new.items ≡ without course slot lectures.old.items }
     ensures capacity { vec_capacity lectures.old ≤ vec_capacity lectures.new }
@@ -81,7 +81,7 @@ fn remove(lectures: &mut Vec<Placed>, course: CourseNo, slot: SlotNo)
     lectures.retain(|l| !(l.course == course && l.slot == slot));
 }
 
-/// Makes each cell in turn. There is room for the lectures that are there in the end.
+/// Makes the cells in order. The vector has capacity for the lectures after the last cell.
 fn make(lectures: &mut Vec<Placed>, cells: &[Cell])
     requires turn { in_turn false cells.now ≡ true }
     requires room { length (apply cells.now lectures.old.items) ≤ vec_capacity lectures.old }
@@ -103,7 +103,7 @@ fn make(lectures: &mut Vec<Placed>, cells: &[Cell])
     }
 }
 
-/// No lecture, and room for as many as a lawful timetable can have.
+/// Returns an empty vector with capacity for as many lectures as a lawful timetable can have.
 fn reserved(alloc: Global, instance: &Instance) -> Result<Vec<Placed>, AllocError>
     ensures items { IfOk result (λ v. v.items ≡ []) }
     ensures room { IfOk result
@@ -114,7 +114,7 @@ fn reserved(alloc: Global, instance: &Instance) -> Result<Vec<Placed>, AllocErro
     Vec::with_capacity(alloc, places)
 }
 
-/// The course whose lecture has a room in a slot.
+/// Returns the course whose lecture has a room in a slot, if there is one.
 fn holder_in(lectures: &[Placed], slot: SlotNo, room: RoomNo) -> Option<CourseNo>
     ensures { result ≡ holder_at slot room lectures.now }
 {
@@ -126,7 +126,7 @@ fn holder_in(lectures: &[Placed], slot: SlotNo, room: RoomNo) -> Option<CourseNo
     None
 }
 
-/// Appends those of the lectures that are in a slot.
+/// Appends to a list the lectures that are in a slot.
 fn append_in_slot(
     list: &mut Vec<Placed>,
     lectures: &[Placed],

@@ -1,5 +1,5 @@
-//! What one lecture more does to the compactness of its curricula. They have no other lecture in its
-//! slot, so only those in the two slots beside it count, and in the two beyond.
+//! What adding a lecture does to the compactness of its curricula. They have no other lecture in
+//! its slot, so only lectures at most two slots away count.
 
 ghost use Rattle.std.specs.Prelude.{◌≡◌, ◌<◌, ◌≤◌, ◌+◌, ◌-◌, ◌*◌, nat_lt, cond, sum_by, length};
 ghost use Rattle.std.specs.List.{AllByRecursion as Each};
@@ -11,16 +11,16 @@ ghost use Rattle.ctt_board.specs.Seen.{seen_curriculum};
 use crate::later::Later;
 use ctt_text::{CurriculumNo, Instance, SlotNo};
 
-/// What a lecture in a slot does to the compactness of a curriculum.
+/// What adding a lecture in a slot does to the compactness of a curriculum, or of several in sum.
 #[derive(Clone, Copy, Default, PartialEq, Eq)]
 pub(crate) struct Meeting {
-    /// One, if it stands alone there.
+    /// The number of curricula in which it stands alone.
     pub(crate) alone: u64,
-    /// The lectures beside it that stood alone.
+    /// The number of lectures beside it that stood alone.
     pub(crate) company: u64,
 }
 
-/// The lectures of a curriculum in the slot before this one, on its day.
+/// Returns the number of lectures of a curriculum in the slot before this one, on the same day.
 #[tactic(auto, using(crate::proofs::SlotFacts::later_slot, crate::proofs::SlotFacts::earlier_fits))]
 fn before(
     later: &Later,
@@ -44,7 +44,7 @@ fn before(
     }
 }
 
-/// Those in the slot after this one.
+/// Returns the number of lectures of a curriculum in the slot after this one, on the same day.
 #[tactic(auto, using(crate::proofs::SlotFacts::next_slot))]
 fn after(
     later: &Later,
@@ -69,7 +69,7 @@ fn after(
     }
 }
 
-/// Of the lectures in the slot before this one, which are so many, those that stand alone.
+/// Returns how many of the `count` lectures in the slot before this one stand alone.
 fn alone_before(
     later: &Later,
     instance: &Instance,
@@ -101,7 +101,7 @@ fn alone_before(
     }
 }
 
-/// Of those in the slot after this one.
+/// Returns how many of the `count` lectures in the slot after this one stand alone.
 fn alone_after(
     later: &Later,
     instance: &Instance,
@@ -134,7 +134,6 @@ fn alone_after(
     }
 }
 
-/// One, if there are none.
 fn one_if_none(count: u64) -> u64
     ensures value { result ≡ cond (nat_lt 0 count) 0 1 }
     ensures bound { result ≤ 1 }
@@ -142,7 +141,7 @@ fn one_if_none(count: u64) -> u64
     if count > 0 { 0 } else { 1 }
 }
 
-/// What a lecture does to a curriculum that has none in its slot.
+/// Returns what adding a lecture does to a curriculum that has none in its slot.
 fn meeting_of(
     later: &Later,
     instance: &Instance,
@@ -172,7 +171,7 @@ fn meeting_of(
     }
 }
 
-/// What a lecture does to these curricula together.
+/// Returns what adding a lecture does to these curricula in sum.
 pub(crate) fn meetings(
     later: &Later,
     instance: &Instance,

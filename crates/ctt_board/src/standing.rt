@@ -1,4 +1,4 @@
-//! Which courses stand in a slot.
+//! Marks on the courses that have a lecture in a slot.
 
 ghost use Rattle.std.specs.Prelude.{◌≡◌, ◌<◌, ◌==◌, ◌&&◌, ◌||◌, ℕ, cond, is_some};
 ghost use Rattle.std.specs.List.{AllByRecursion as Each};
@@ -9,7 +9,7 @@ ghost use Rattle.ctt_board.specs.Changes.{stands_by};
 use crate::cell::Cell;
 use ctt_text::{CourseNo, Marks, Placed, SlotNo};
 
-/// Marks the course of a lecture, if it is in the slot.
+/// Marks the course of a lecture if the lecture is in the slot.
 fn mark_if_there(standing: &mut Marks, lecture: &Placed, slot: SlotNo)
     requires { lecture.now.course < 2000 }
     ensures { (course : ℕ)
@@ -22,7 +22,7 @@ fn mark_if_there(standing: &mut Marks, lecture: &Placed, slot: SlotNo)
     }
 }
 
-/// The courses of which some of these lectures are in a slot.
+/// Returns marks on the courses of those lectures that are in a slot.
 pub(crate) fn standing_in(lectures: &[Placed], slot: SlotNo) -> Marks
     requires { Each (λ l. l.course < 2000) lectures.now }
     ensures { (course : ℕ) → is_marked result course ≡ has_lecture course slot lectures.now }
@@ -34,7 +34,7 @@ pub(crate) fn standing_in(lectures: &[Placed], slot: SlotNo) -> Marks
     standing
 }
 
-/// Lets the course of a cell come or leave, if the cell is in the slot.
+/// Marks or unmarks the course of a cell if the cell is in the slot.
 fn change_if_there(standing: &mut Marks, cell: &Cell, slot: SlotNo)
     requires { cell.now.course < 2000 }
     ensures { (course : ℕ)
@@ -51,7 +51,7 @@ fn change_if_there(standing: &mut Marks, cell: &Cell, slot: SlotNo)
     }
 }
 
-/// Lets the courses of these cells come into a slot and leave it.
+/// Updates the marks on the courses in a slot by these cells.
 pub(crate) fn change_standing(standing: &mut Marks, cells: &[Cell], slot: SlotNo)
     requires { Each (λ x. x.course < 2000) cells.now }
     ensures { (course : ℕ)

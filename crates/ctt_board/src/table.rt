@@ -1,11 +1,11 @@
-//! A table of a fixed size.
+//! A two-dimensional table of a fixed size.
 ghost use Rattle.std.specs.Prelude.{◌≡◌, ℕ, ◌<◌, ◌≤◌, ◌*◌, ◌==◌, ◌&&◌, cond, length, IfOk};
 ghost use Rattle.ctt_board.specs.Tables.{at};
 
 use std::alloc::{AllocError, Global};
 use std::marker::Model;
 
-/// A value for each row and column.
+/// A value for each row and column, stored row by row.
 #[derive(Drop)]
 pub(crate) struct Table<T> {
     rows: usize,
@@ -27,7 +27,7 @@ impl<T> Model for Table<T> {
 }
 
 impl<T: Copy> Table<T> {
-    /// The same value everywhere.
+    /// Returns a table of this size with the same value everywhere.
     pub(crate) fn new(
         alloc: Global,
         rows: usize,
@@ -45,7 +45,7 @@ impl<T: Copy> Table<T> {
         Ok(Table { rows, width, cells })
     }
 
-    /// What stands in a row and a column.
+    /// Returns the value in a row and a column.
     pub(crate) fn get(&self, row: usize, column: usize) -> T
         requires row { row < self.now.rows }
         requires column { column < self.now.width }
@@ -54,7 +54,7 @@ impl<T: Copy> Table<T> {
         self.cells[row * self.width + column]
     }
 
-    /// Lets a value stand in a row and a column.
+    /// Writes a value into a row and a column.
     pub(crate) fn set(&mut self, row: usize, column: usize, value: T)
         requires row { row < self.old.rows }
         requires column { column < self.old.width }
@@ -66,7 +66,7 @@ impl<T: Copy> Table<T> {
         self.cells[row * self.width + column] = value;
     }
 
-    /// An equal table.
+    /// Returns an equal table from the same allocator.
     pub(crate) fn copy(&self) -> Result<Self, AllocError>
         ensures { IfOk result (λ t. t ≡ self.now) }
     {

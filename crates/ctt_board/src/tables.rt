@@ -13,21 +13,21 @@ use crate::table::Table;
 use ctt_text::{BitRows, Compact, CourseNo, Instance, Placed, RoomNo, SlotNo};
 use std::alloc::{AllocError, Global};
 
-/// The lectures of a timetable in a table by course and slot, beside which lie others that say the same
-/// the other way round, and the counts of which its costs are made.
+/// The lectures of a timetable in a table by course and slot, with tables for look-ups by slot and
+/// the counts from which its costs are computed.
 #[derive(Drop)]
 pub(crate) struct Tables {
-    /// The rooms by course and slot.
+    /// The room of each course (row) in each slot (column).
     pub(crate) rooms: Table<Compact>,
-    /// The courses by slot and room.
+    /// The course in each slot (row) and room (column).
     pub(crate) courses: Table<Compact>,
-    /// The courses that stand in each slot, a row a slot.
+    /// The courses that have a lecture in each slot: a row for each slot.
     pub(crate) standing: BitRows,
     pub(crate) counts: Counts,
 }
 
 impl Tables {
-    /// The tables of the empty timetable.
+    /// Returns the tables of the empty timetable.
     pub(crate) fn new(alloc: Global, instance: &Instance) -> Result<Self, AllocError>
         ensures tables { IfOk result (AreTables instance.now) }
         ensures list { IfOk result (λ tables. listed instance.now tables.rooms ≡ []) }
@@ -55,7 +55,7 @@ impl Tables {
         })
     }
 
-    /// The room of the lecture of a course in a slot, if there is one.
+    /// Returns the room of the lecture of a course in a slot, if there is one.
     pub(crate) fn room_at(
         &self,
         instance: &Instance,
@@ -71,7 +71,7 @@ impl Tables {
         here.room()
     }
 
-    /// Writes a lecture where lectures are looked up.
+    /// Writes a lecture into the look-up tables, not into the counts.
     #[inline(always)]
     fn lay(&mut self, instance: &Instance, lecture: &Placed)
         requires fits { Fits instance.now lecture.now }
@@ -92,7 +92,7 @@ impl Tables {
         self.standing.mark(slot, course);
     }
 
-    /// Takes a lecture away from there.
+    /// Removes a lecture from the look-up tables, not from the counts.
     #[inline(always)]
     fn lift(&mut self, instance: &Instance, lecture: &Placed)
         requires fits { Fits instance.now lecture.now }
@@ -131,7 +131,6 @@ impl Tables {
         self.lay(instance, lecture);
     }
 
-    /// Removes a lecture that is there.
     #[inline(always)]
     pub(crate) fn remove(&mut self, instance: &Instance, lecture: &Placed)
         requires tables { AreTables instance.now self.old }

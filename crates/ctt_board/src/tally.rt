@@ -1,4 +1,4 @@
-//! Tables of counts.
+//! Updates of tables of counts.
 
 ghost use Rattle.std.specs.Prelude.{◌≡◌, ℕ, ◌+◌, ◌<◌, ◌≤◌, true};
 ghost use Rattle.std.specs.List.{AllByRecursion as Each};
@@ -7,7 +7,7 @@ ghost use Rattle.ctt_board.specs.Tables.{at, Adds, one_at, in_column};
 use crate::table::Table;
 use ctt_text::CurriculumNo;
 
-/// Counts one more at a place.
+/// Adds 1 to the count in a row and a column.
 pub(crate) fn add_one(counts: &mut Table<u16>, row: usize, column: usize)
     requires row { row < counts.old.rows }
     requires column { column < counts.old.width }
@@ -18,7 +18,7 @@ pub(crate) fn add_one(counts: &mut Table<u16>, row: usize, column: usize)
     counts.set(row, column, count + 1);
 }
 
-/// Counts one less at a place.
+/// Subtracts 1 from the count in a row and a column.
 pub(crate) fn take_one(counts: &mut Table<u16>, row: usize, column: usize)
     requires row { row < counts.old.rows }
     requires column { column < counts.old.width }
@@ -29,7 +29,7 @@ pub(crate) fn take_one(counts: &mut Table<u16>, row: usize, column: usize)
     counts.set(row, column, count - 1);
 }
 
-/// Counts one more in one column of each of these rows.
+/// Adds 1 in one column of each of these rows.
 pub(crate) fn add_column(counts: &mut Table<u16>, rows: &[CurriculumNo], column: usize)
     requires rows { Each (λ r. r < counts.old.rows) rows.now }
     requires column { column < counts.old.width }
@@ -42,7 +42,7 @@ pub(crate) fn add_column(counts: &mut Table<u16>, rows: &[CurriculumNo], column:
     }
 }
 
-/// Counts one less there.
+/// Subtracts 1 in one column of each of these rows.
 pub(crate) fn take_column(counts: &mut Table<u16>, rows: &[CurriculumNo], column: usize)
     requires rows { Each (λ r. r < counts.old.rows) rows.now }
     requires column { column < counts.old.width }

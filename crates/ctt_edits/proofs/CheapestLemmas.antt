@@ -1,4 +1,4 @@
--- The edits of a pattern one by one, and the cheapest of those that came so far.
+-- The edits of a pattern one by one, and the cheapest of those so far.
 use Rattle.std.proofs.Common.{◌≡◌, ℕ, zero, suc, ◌+◌, ◌-◌, ◌<◌, ◌≤◌, Bool, List, [], ◌∷◌, ◌++◌, map, take, is_none, Option, Some, None, refl, ◌∙◌, sym, ap, ap₂, subst, arith, inl, inr}
 use Rattle.std.specs.List.{flat_map, insert, position_or_len, range_with_len, AllByRecursion as Each}
 use Rattle.std.proofs.lemmas.Bool.{cases_Bool}
@@ -24,7 +24,7 @@ use Rattle.ctt_edits.specs.declared.priced_edit.PricedEdit.{PricedEdit}
 pub inserted_is : (x : PricedEdit) (xs : List PricedEdit) → insert xs (position_or_len (is_cheaper x) xs) x ≡ put is_cheaper x xs
 inserted_is x xs = sym (put_is is_cheaper x xs)
 
--- what is cut off a list makes no difference to a shorter front
+-- what is cut off a list makes no difference to a shorter prefix
 take_again : {X : Type 0} (n : ℕ) (xs : List X) → take n (take (suc n) xs) ≡ take n xs
 take_again zero xs = refl
 take_again (suc n) [] = refl
@@ -34,7 +34,7 @@ take_cons : {X : Type 0} (n : ℕ) (y : X) (ys : List X) → take n (y ∷ take 
 take_cons zero y ys = refl
 take_cons (suc n) y ys = ap (λ zs. y ∷ zs) (take_again n ys)
 
--- nor to the front of the list once more is put in
+-- nor to the prefix of the list after more is inserted
 put_front : {X : Type 0} (lt : X → X → Bool) (x : X) (n : ℕ) (xs : List X) → take n (put lt x (take n xs)) ≡ take n (put lt x xs)
 put_front lt x zero xs = refl
 put_front lt x (suc n) [] = refl

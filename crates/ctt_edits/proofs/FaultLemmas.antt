@@ -1,4 +1,4 @@
--- What no fault says.
+-- What the absence of a fault implies.
 use Rattle.std.proofs.Common.{◌≡◌, ℕ, ℤ, Bool, true, false, leb, ◌==◌, List, length, Option, Some, None, is_some, Result, Ok, refl, ap}
 use Rattle.std.specs.List.{find}
 use Rattle.std.specs.Option.{option_map}

@@ -45,7 +45,7 @@ change_same (Swap c s d s2) t u h =
 change_same (Reroom c s r) t u h = refl
 change_same (Drop c s) t u h = refl
 
--- a fault where the lecture that is there is taken out first
+-- a fault after the lecture that is placed is removed
 moved_same : (i : Problem) (c s s2 r : ℕ) (t u : List Placed) → InOrder t → InOrder u → course_row c t ≡ course_row c u → slot_row s2 t ≡ slot_row s2 u → try_fault i (without c s t) c s2 r ≡ try_fault i (without c s u) c s2 r
 moved_same i c s s2 r t u o q row slot = try_same i c s2 r (without c s t) (without c s u) (agree_at (λ l. l.course == c) c s None t u o q row) (agree_at (λ l. l.slot == s2) c s None t u o q slot)
 

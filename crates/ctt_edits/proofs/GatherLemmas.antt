@@ -41,7 +41,7 @@ behind x y n h le = grind (arith, nat_tests)
 none_below : (p : ℕ → Bool) (n : ℕ) (t : List Placed) → Each (λ (l : Placed). n ≤ l.course) t → part_below p n t ≡ []
 none_below p n t h = filter_none (λ (l : Placed). ltb l.course n && p l.course) t (Each-map (λ (l : Placed). n ≤ l.course) (λ (l : Placed). (ltb l.course n && p l.course) ≡ false) (λ l le. rw (le-ltb l.course n le) refl) t h)
 
--- one course more
+-- one more course
 part_one : (p : ℕ → Bool) (c : ℕ) (t : List Placed) → Ascending t → p c ≡ true → part_below p (c + 1) t ≡ part_below p c t ++ course_row c t
 part_one p c [] h y = refl
 part_one p c (x ∷ xs) h y = elim (cases_lt x.course c) [

@@ -1,4 +1,4 @@
--- The clash that is named has the least number.
+-- The clashing course that is named has the lowest number.
 use Rattle.std.proofs.Common.{◌≡◌, ℕ, ◌≤◌, Bool, true, false, leb, ◌==◌, List, [], ◌∷◌, length, Option, Some, None, is_some, refl, ◌∙◌, sym, subst, arith, inl, inr}
 use Rattle.std.specs.List.{find, AllByRecursion as Each}
 use Rattle.std.specs.Option.{option_map}
@@ -20,7 +20,7 @@ use Rattle.ctt_board.proofs.LawfulLemmas.{Each-from_filter}
 not_above : (a b : Placed) → before a b ≡ true → a.course ≤ b.course
 not_above a b lt = grind (arith, nat_tests)
 
--- a later fault, where the first is not the one
+-- a later fault, if the first is another one
 later : (b : Bool) (f g : EditFault) (rest : Option EditFault) → (f ≡ g → ⊥) → or_else (fault_if b f) rest ≡ Some g → rest ≡ Some g
 later true f g rest n e = absurd (n cc)
 later false f g rest n e = e

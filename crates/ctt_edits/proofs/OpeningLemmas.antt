@@ -43,7 +43,7 @@ empty_lawful i = record { timetable = record { ascending = tt; fits = tt }; conf
 pub opening_is_lawful : OpeningIsLawful
 opening_is_lawful i ls t f e = all_placed i [] t 1 ls (empty_lawful i) f e
 
--- one lecture that is refused, or one behind it
+-- one lecture that is refused, or one after it
 one_refused : (i : Problem) (t : List Placed) (l : Placed) (n at : ℕ) (fault : EditFault) (others : Opened) (o : Option EditFault) → Lawful i t → Fits i l → edit_fault i t (Place l.course l.slot l.room) ≡ o → MayFit i o
     → (Lawful i (edited t (Place l.course l.slot l.room)) → others ≡ Err (at, fault) → FaultFits i fault) → or_rest o n others ≡ Err (at, fault) → FaultFits i fault
 one_refused i t l n at fault others None h f k may next e = next (edits_keep_lawful i t (Place l.course l.slot l.room) h f k) e

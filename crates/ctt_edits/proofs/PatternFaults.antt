@@ -1,4 +1,4 @@
--- What stands against a pattern stands against each of its edits.
+-- If a pattern has a fault, each of its edits is refused.
 use Rattle.std.proofs.Common.{◌≡◌, ℕ, Bool, true, false, ◌==◌, List, length, nat_le, Some, is_none, is_some, refl, ◌∙◌, ap, inl, inr}
 use Rattle.std.specs.List.{find}
 use Rattle.std.proofs.lemmas.Bool.{cases_Bool, or_left}

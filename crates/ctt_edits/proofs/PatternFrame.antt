@@ -49,7 +49,7 @@ agree_priced i (AnyMove c s s2 r) t u x y f a = record { courses = a.courses; sl
 agree_priced i (AnySwap c s) t u x y f a = record { courses = λ d e. a.courses d refl; slots = λ z e. a.slots z refl }
 agree_priced i (AnyReroom c s r) t u x y f a = record { courses = a.courses; slots = λ z e. a.slots z (ap (λ w. has z (w ∷ [])) (sym f) ∙ e) }
 
--- an edit is told the same of both
+-- an edit has the same fault on both, and the same price
 pub record SameTold (i : Problem) (t u : List Placed) (e : Edit) : Type 0 where
   pub fault : edit_fault i t e ≡ edit_fault i u e
   pub price : price i t e ≡ price i u e

@@ -22,7 +22,7 @@ none_passes f (x ∷ xs) h = elim (cases_Bool (f x)) [
   | inr b ↦ rw b (none_passes f xs h.1)
 ]
 
--- a test that holds where one of them passes, and only there
+-- a test that holds exactly if one of them passes
 equal_any : {X : Type 0} (b : Bool) (f : X → Bool) (xs : List X) → Each (λ x. f x ≡ true → b ≡ true) xs → (b ≡ true → list_any f xs ≡ true) → b ≡ list_any f xs
 equal_any true f xs h k = sym (k refl)
 equal_any false f xs h k = sym (none_passes f xs h)
@@ -34,7 +34,7 @@ any_front f xs ys h = list_any-append f xs ys ∙ or_left (list_any f xs) (list_
 any_back : {X : Type 0} (f : X → Bool) (xs ys : List X) → list_any f ys ≡ true → list_any f (xs ++ ys) ≡ true
 any_back f xs ys h = list_any-append f xs ys ∙ or_right (list_any f xs) (list_any f ys) h
 
--- a number that is there, and is not the first, is behind it
+-- a number of the list that is not the first comes after it
 has_rest : (z y : ℕ) (zs : List ℕ) → (z ≡ y → ⊥) → has y (z ∷ zs) ≡ true → has y zs ≡ true
 has_rest z y zs other h = rw (ne_eqb z y other) at h
 

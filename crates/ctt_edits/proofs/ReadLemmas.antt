@@ -18,7 +18,7 @@ use Rattle.ctt_edits.specs.Laws.{ReadsAscend}
 use Rattle.ctt_edits.specs.declared.row.Row.{Row}
 use Rattle.ctt_edits.specs.declared.row.Row.TheVariants.{Course as CourseRow, Slot as SlotRow}
 
--- two lists behind one another, and a list made from one
+-- two lists one after the other, and a list made from one
 Each-append : {X : Type 0} (P : X → Type 0) (xs ys : List X) → Each P xs → Each P ys → Each P (xs ++ ys)
 Each-append P [] ys h k = k
 Each-append P (x ∷ xs) ys h k = (h.0, Each-append P xs ys h.1 k)
@@ -105,7 +105,7 @@ agree_on i p q t u h k a =
       slots = at_each SlotRow q (slot_count i) t u (Each-rest (λ r. row r t ≡ row r u) courses slots each) (λ s past. none_past (λ l. l.slot) (slot_count i) s t (slots_fit i t h.fits) past ∙ sym (none_past (λ l. l.slot) (slot_count i) s u (slots_fit i u k.fits) past));
     }
 
--- what is looked for in a part stands in the row of a course of the part
+-- what is found in a part is in the row of a course of the part
 in_row : (C : Type 0) (p : ℕ → Bool) (wanted : Placed → Bool) (t : List Placed) → list_any wanted (filter (λ l. p l.course) t) ≡ true → ((c : ℕ) → p c ≡ true → list_any wanted (course_row c t) ≡ true → C) → C
 in_row C p wanted [] e then = cc
 in_row C p wanted (x ∷ xs) e then = elim (cases_Bool (p x.course)) [
@@ -124,7 +124,7 @@ in_row C p wanted (x ∷ xs) e then = elim (cases_Bool (p x.course)) [
     longer : (c : ℕ) → list_any wanted (course_row c xs) ≡ true → list_any wanted (course_row c (x ∷ xs)) ≡ true
     longer c found = elim (cases_Bool (eqb x.course c)) [ inl b ↦ rw b (or_right (wanted x) (list_any wanted (course_row c xs)) found) | inr b ↦ rw b found ]
 
--- and what stands in such a row stands in the part
+-- and what is in such a row is in the part
 in_whole : (wanted test : Placed → Bool) (ls : List Placed) → list_any wanted (filter test ls) ≡ true → list_any wanted ls ≡ true
 in_whole wanted test [] e = e
 in_whole wanted test (x ∷ xs) e = elim (cases_Bool (test x)) [

@@ -1,4 +1,4 @@
--- What a call is told on a lawful timetable fits, and is short.
+-- The reply to a call on a lawful timetable fits and is short.
 use Rattle.std.proofs.Common.{◌≡◌, ℕ, zero, suc, pos, ◌-ℤ◌, ◌<◌, ◌≤◌, Bool, true, false, List, [], ◌∷◌, length, map, take, Option, Some, None, is_none, refl, arith, inl, inr}
 use Rattle.std.proofs.lemmas.List.{append-nil, map-append, length-map, length-append, length-take}
 use Rattle.std.proofs.lemmas.Int.{ints}

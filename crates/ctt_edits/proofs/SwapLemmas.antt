@@ -32,12 +32,12 @@ by_parts : (there full : Bool) (closed : Option EditFault) (clashing taken : Opt
     ≡ or_else (fault_if there AlreadyThere) (or_else closed (option_map Clash clashing))
 by_parts there full closed clashing taken e h = rw (e, h) (ap (λ o. or_else (fault_if there AlreadyThere) (or_else closed o)) (or_none (option_map Clash clashing)))
 
--- the first fault in a room that nobody has, of a course that lacks a lecture
+-- the first fault of placing a lecture in a free room, of a course with missing lectures
 in_free_room : (i : Problem) (t : List Placed) (c s r : ℕ) → length (course_row c t) < (course_of i c).lectures → holder_at s r t ≡ None →
     try_fault i t c s r ≡ or_else (fault_if (is_some (room_at c s t)) AlreadyThere) (or_else (fault_alone i c s r) (option_map Clash (clash_at i c s t)))
 in_free_room i t c s r fewer free = by_parts (is_some (room_at c s t)) (leb (course_of i c).lectures (length (course_row c t))) (fault_alone i c s r) (clash_at i c s t) (holder_at s r t) (lt-leb (course_of i c).lectures (length (course_row c t)) fewer) free
 
--- where nothing else is against it, the room may be barred
+-- if there is no other fault, the room may be barred
 only_barred : (i : Problem) (t : List Placed) (c s r : ℕ) → length (course_row c t) < (course_of i c).lectures → holder_at s r t ≡ None → room_at c s t ≡ None → is_unavailable i c s ≡ false → clash_at i c s t ≡ None → try_fault i t c s r ≡ fault_if (is_barred i c r) Barred
 only_barred i t c s r fewer free empty available clear = in_free_room i t c s r fewer free ∙ rw (empty, available, clear) (or_none (fault_if (is_barred i c r) Barred))
 
@@ -140,7 +140,7 @@ module _ (i : Problem) (t : List Placed) (c s r d e q : ℕ) (lawful : Lawful i 
     first_barred : try_fault i gone c e q ≡ fault_if (is_barred i c q) Barred
     first_barred = only_barred i gone c e q own_fewer nobody own_empty (rw same free.allowed.0) own_clear
 
-    -- what none in the slot passes, nor the lecture that has come, none passes now
+    -- if no lecture in the slot passes, nor the one that was added, none passes now
     with_first : (p : Placed → Bool) → p (record { course = c; slot = e; room = q }) ≡ false → find p (slot_row s gone) ≡ None → find p (slot_row s first) ≡ None
     with_first p own none =
         find-filter (λ l. l.slot == s) p first

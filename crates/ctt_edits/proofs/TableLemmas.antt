@@ -20,7 +20,7 @@ last_fault : (b : Bool) (f : EditFault) (t : List Placed) → unless (fault_if b
 last_fault true f t = refl
 last_fault false f t = refl
 
--- one trial after another
+-- one trial after another one
 both_tries : (i : Problem) (f g : Option EditFault) (t u : List Placed) (c s r : ℕ) → g ≡ try_fault i t c s r → u ≡ with (record { course = c; slot = s; room = r }) t → unless (or_else f g) u ≡ then_try i (unless f t) c s r
 both_tries i None g t u c s r e k = ap₂ unless e k
 both_tries i (Some f) g t u c s r e k = refl

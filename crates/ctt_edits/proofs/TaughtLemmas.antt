@@ -7,7 +7,7 @@ use Rattle.ctt_text.specs.Lists.{below, has}
 use Rattle.ctt_text.proofs.NumberListLemmas.{below_fit}
 use Rattle.ctt_edits.proofs.PastLemmas.{has_past, no_more}
 
--- a number below the end is in the list exactly where it passes
+-- a number below the end is in the list exactly if it passes
 pub has_below : (p : ℕ → Bool) (m n : ℕ) → n < m → has n (below p m) ≡ p n
 has_below p zero n lt = absurd (omega (arith, lt))
 has_below p (suc m) n lt = list_any-append (λ x. x == n) (below p m) (cond (p m) (m ∷ []) []) ∙ ap (λ b. has n (below p m) || b) (last (p m)) ∙ elim (cases_eq m n) [

@@ -1,4 +1,4 @@
--- Calls: edits and looks. What is answered, what changes, and the rows that are read for it.
+-- Calls, that is edits and looks: the reply, the cells that change, and the rows that are read.
 use Rattle.std.specs.Prelude.{ℕ, ◌≡◌, ◌<◌, Bool, true, false, ◌==◌, ◌||◌, List, [], ◌∷◌, ◌++◌, map, Option, Some, None, All}
 use Rattle.std.specs.List.{list_any}
 use Rattle.ctt_text.specs.Lists.{below, has}
@@ -28,11 +28,12 @@ abbrev pub CallFits : Problem → Call → Type 0
 CallFits i (Looks look) = LookFits i look
 CallFits i (Edits e) = EditFits i e
 
--- what a planner is told
+-- the reply to a call
 abbrev pub reply : Problem → List Placed → Call → Reply
 reply i t (Looks look) = shown i t look
 reply i t (Edits e) = told_or (edit_fault i t e) Done
 
+-- the cells, unless there is a fault
 abbrev pub cells_if : Option EditFault → List Cell → List Cell
 cells_if None cells = cells
 cells_if (Some f) cells = []
@@ -42,7 +43,7 @@ abbrev pub cells_of : Problem → List Placed → Call → List Cell
 cells_of i t (Looks look) = []
 cells_of i t (Edits e) = cells_if (edit_fault i t e) (change t e)
 
--- the courses and the slots whose rows an edit reads
+-- the courses whose rows an edit reads
 abbrev pub edit_courses : Edit → List ℕ
 edit_courses (Place c s r) = c ∷ []
 edit_courses (Move c s s2 r) = c ∷ []
@@ -50,6 +51,7 @@ edit_courses (Swap c s d s2) = c ∷ d ∷ []
 edit_courses (Reroom c s r) = c ∷ []
 edit_courses (Drop c s) = c ∷ []
 
+-- the slots whose rows an edit reads
 abbrev pub edit_slots : Edit → List ℕ
 edit_slots (Place c s r) = s ∷ []
 edit_slots (Move c s s2 r) = s2 ∷ []
@@ -57,29 +59,30 @@ edit_slots (Swap c s d s2) = s ∷ s2 ∷ []
 edit_slots (Reroom c s r) = s ∷ []
 edit_slots (Drop c s) = []
 
--- courses with their curriculum mates
+-- x is one of the courses or a curriculum mate of one
 abbrev pub with_mates : Problem → List ℕ → ℕ → Bool
 with_mates i cs x = has x cs || list_any (λ c. mates i c x) cs
 
--- the courses and the slots whose rows the prices of a pattern's edits read
+-- x is a course whose row the prices of a pattern's edits read
 abbrev pub pattern_reads_course : Problem → Pattern → ℕ → Bool
 pattern_reads_course i (AnyPlace c s r) x = with_mates i (c ∷ []) x
 pattern_reads_course i (AnyMove c s s2 r) x = with_mates i (c ∷ []) x
 pattern_reads_course i (AnySwap c s) x = true
 pattern_reads_course i (AnyReroom c s r) x = with_mates i (c ∷ []) x
 
--- the given number, or each number if none is given
+-- x is the given number, or none is given
 abbrev pub is_choice : Option ℕ → ℕ → Bool
 is_choice None x = true
 is_choice (Some y) x = has x (y ∷ [])
 
+-- x is a slot whose row the prices of a pattern's edits read
 abbrev pub pattern_reads_slot : Pattern → ℕ → Bool
 pattern_reads_slot (AnyPlace c s r) x = is_choice s x
 pattern_reads_slot (AnyMove c s s2 r) x = is_choice s2 x
 pattern_reads_slot (AnySwap c s) x = true
 pattern_reads_slot (AnyReroom c s r) x = is_choice (Some s) x
 
--- the courses and the slots whose rows a look reads
+-- x is a course whose row a look reads
 abbrev pub look_reads_course : Problem → Look → ℕ → Bool
 look_reads_course i (Course c) x = x == c
 look_reads_course i (Slot s) x = false
@@ -91,6 +94,7 @@ look_reads_course i (Price e) x = with_mates i (edit_courses e) x
 look_reads_course i Missing x = true
 look_reads_course i (Cheapest n p) x = pattern_reads_course i p x
 
+-- x is a slot whose row a look reads
 abbrev pub look_reads_slot : Look → ℕ → Bool
 look_reads_slot (Course c) x = false
 look_reads_slot (Slot s) x = x == s
@@ -102,15 +106,17 @@ look_reads_slot (Price e) x = has x (edit_slots e)
 look_reads_slot Missing x = false
 look_reads_slot (Cheapest n p) x = pattern_reads_slot p x
 
+-- x is a course whose row a call reads
 abbrev pub reads_course : Problem → Call → ℕ → Bool
 reads_course i (Looks look) x = look_reads_course i look x
 reads_course i (Edits e) x = has x (edit_courses e)
 
+-- x is a slot whose row a call reads
 abbrev pub reads_slot : Call → ℕ → Bool
 reads_slot (Looks look) x = look_reads_slot look x
 reads_slot (Edits e) x = has x (edit_slots e)
 
--- rows in order: courses by number, then slots by number
+-- the rows of the courses that pass p and of the slots that pass q, in order
 abbrev pub rows_where : Problem → (ℕ → Bool) → (ℕ → Bool) → List Row
 rows_where i p q = map CourseRow (below p (course_count i)) ++ map SlotRow (below q (slot_count i))
 
@@ -123,11 +129,11 @@ abbrev pub row : Row → List Placed → List Placed
 row (CourseRow c) t = course_row c t
 row (SlotRow s) t = slot_row s t
 
--- two timetables have equal rows there
+-- two timetables agree on these rows
 abbrev pub Agree : List Placed → List Placed → List Row → Type 0
 Agree t u rows = All (λ r. row r t ≡ row r u) rows
 
--- the order of rows
+-- the order of rows: courses by number, then slots by number
 abbrev pub RowBefore : Row → Row → Type 0
 RowBefore (CourseRow c) (CourseRow d) = c < d
 RowBefore (CourseRow c) (SlotRow s) = Unit {0}

@@ -10,7 +10,7 @@ use Rattle.ctt_edits.specs.declared.pattern.Pattern.{Pattern}
 use Rattle.ctt_edits.specs.declared.pattern.Pattern.TheVariants.{Place as AnyPlace, Move as AnyMove, Swap as AnySwap, Reroom as AnyReroom}
 use Rattle.ctt_edits.specs.declared.priced_edit.PricedEdit.{PricedEdit}
 
--- the numbers from a on and below b
+-- the numbers from a up to, not including, b
 abbrev pub from_to : ℕ → ℕ → List ℕ
 from_to a b = range_with_len a (b - a)
 
@@ -35,13 +35,14 @@ edit_by (AnyMove c s s2 r) x y = Move c s x y
 edit_by (AnySwap c s) x y = Swap c s x y
 edit_by (AnyReroom c s r) x y = Reroom c x y
 
--- the edits with one first choice, and with a list of them
+-- the edits with the first choice x and each of the second choices ys
 abbrev pub edits_with : Pattern → List ℕ → ℕ → List Edit
 edits_with p ys x = map (edit_by p x) ys
 
+-- the edits with each of the first choices xs and each of the second choices ys
 abbrev pub edits_by : Pattern → List ℕ → List ℕ → List Edit
 edits_by p xs ys = flat_map (edits_with p ys) xs
 
--- the n cheapest of a list and of more edits, which are inserted one by one
+-- the n cheapest edits of a list, after more edits are inserted one by one
 abbrev pub n_cheapest : ℕ → List PricedEdit → List PricedEdit → List PricedEdit
 n_cheapest n list more = fold (λ cheapest x. take n (put is_cheaper x cheapest)) list more

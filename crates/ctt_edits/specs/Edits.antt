@@ -1,4 +1,4 @@
--- Edits: the first fault that holds, and else the change.
+-- Edits: the first fault that holds, or else the change.
 use Rattle.std.specs.Prelude.{ℕ, ◌<◌, Bool, cond, ◌||◌, List, [], ◌∷◌, length, ◌==◌, nat_le, Option, Some, None, is_none, is_some, Result, Ok, Err}
 use Rattle.std.specs.List.{find}
 use Rattle.std.specs.Option.{option_map}
@@ -20,11 +20,12 @@ EditFits i (Swap c s d s2) = (c < course_count i) × (s < slot_count i) × (d < 
 EditFits i (Reroom c s r) = (c < course_count i) × (s < slot_count i) × (r < room_count i)
 EditFits i (Drop c s) = (c < course_count i) × (s < slot_count i)
 
--- the fault that stands first
+-- the first fault, or else the second
 abbrev pub or_else : Option EditFault → Option EditFault → Option EditFault
 or_else None g = g
 or_else (Some f) g = Some f
 
+-- the fault f, if b holds
 abbrev pub fault_if : Bool → EditFault → Option EditFault
 fault_if b f = cond b (Some f) None
 
@@ -32,11 +33,11 @@ fault_if b f = cond b (Some f) None
 abbrev pub first_course : (Placed → Bool) → List Placed → Option ℕ
 first_course p ls = option_map (λ (l : Placed). l.course) (find p ls)
 
--- the first fault of a lecture by itself, which no row has a part in
+-- the first fault of a lecture by itself, which depends on no row
 abbrev pub fault_alone : Problem → ℕ → ℕ → ℕ → Option EditFault
 fault_alone i c s r = or_else (fault_if (is_unavailable i c s) Unavailable) (fault_if (is_barred i c r) Barred)
 
--- the first fault of placing a lecture, by the course's row and the slot's row
+-- the first fault of placing a lecture, given the row of its course and the row of its slot
 abbrev pub try_in : Problem → ℕ → ℕ → ℕ → List Placed → List Placed → Option EditFault
 try_in i c s r course slot =
     or_else (fault_if (is_some (room_of (find (λ l. l.slot == s) course))) AlreadyThere)
@@ -45,22 +46,24 @@ try_in i c s r course slot =
     (or_else (option_map Clash (first_course (λ l. clash i c l.course) slot))
     (option_map RoomTaken (first_course (λ l. l.room == r) slot)))))
 
+-- the first fault of placing a lecture of course c in slot s and room r
 abbrev pub try_fault : Problem → List Placed → ℕ → ℕ → ℕ → Option EditFault
 try_fault i t c s r = try_in i c s r (course_row c t) (slot_row s t)
 
--- the same in the room of another lecture, if that one is there
+-- the first fault of placing a lecture in a room, if a room is given
 abbrev pub try_room_of : Problem → List Placed → ℕ → ℕ → Option ℕ → Option EditFault
 try_room_of i t c s None = None
 try_room_of i t c s (Some r) = try_fault i t c s r
 
--- the first fault of placing a course's lecture in the slot and room of another course's, which leaves
+-- the first fault of placing a lecture of course c in the slot and room of lecture l, which leaves;
+-- the course is not full, and the room is free
 abbrev pub fault_in_place_of : Problem → List Placed → ℕ → Placed → Option EditFault
 fault_in_place_of i t c l =
     or_else (fault_if (is_some (room_at c l.slot t)) AlreadyThere)
     (or_else (fault_alone i c l.slot l.room)
     (option_map Clash (clash_at i c l.slot (without l.course l.slot t))))
 
--- the cells that an edit removes, then the cells that it adds
+-- the change of an edit: its removals, then its additions
 abbrev pub change : List Placed → Edit → List Cell
 change t (Place c s r) = cell c s (Some r) ∷ []
 change t (Move c s s2 r) = cell c s None ∷ cell c s2 (Some r) ∷ []
@@ -89,6 +92,7 @@ edit_fault i t (Drop c s) = fault_if (is_none (room_at c s t)) NotPlaced
 abbrev pub edited : List Placed → Edit → List Placed
 edited t e = apply (change t e) t
 
+-- the cells, or the fault if there is one
 abbrev pub checked_by : Option EditFault → List Cell → Result (List Cell) EditFault
 checked_by None cells = Ok cells
 checked_by (Some f) cells = Err f

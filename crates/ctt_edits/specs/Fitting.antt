@@ -1,4 +1,4 @@
--- Which faults and replies fit an instance, and can be written.
+-- Faults and replies that fit an instance, with numbers within the limits of files.
 use Rattle.std.specs.Prelude.{ℕ, ◌<◌, ◌≤◌, List, length, unsigned_abs}
 use Rattle.std.specs.List.{AllByRecursion as Each}
 use Rattle.ctt_text.specs.Problem.{Problem, course_count}
@@ -12,17 +12,17 @@ use Rattle.ctt_edits.specs.declared.reply.Reply.{Reply}
 use Rattle.ctt_edits.specs.declared.reply.Reply.TheVariants.{Done, Refused, Lectures, Costs, Price, Missing, Edits}
 use Rattle.ctt_edits.specs.declared.shortfall.Shortfall.{Shortfall}
 
--- the course that it names, if it names one, is one of the instance
+-- the course that it names, if any, is one of the instance
 abbrev pub FaultFits : Problem → EditFault → Type 0
 FaultFits i (Clash c) = c < course_count i
 FaultFits i (RoomTaken c) = c < course_count i
 FaultFits i fault = Unit {0}
 
--- a number of 63 bits
+-- a number below 2^63
 abbrev pub IsAmount : ℕ → Type 0
 IsAmount n = n ≤ 9223372036854775807
 
--- each of the four costs is such a number
+-- each of the four costs is below 2^63
 abbrev pub CostFits : Cost → Type 0
 CostFits c = IsAmount c.capacity × IsAmount c.days × IsAmount c.compactness × IsAmount c.stability
 
@@ -30,11 +30,11 @@ CostFits c = IsAmount c.capacity × IsAmount c.days × IsAmount c.compactness ×
 abbrev pub ShortfallFits : Problem → Shortfall → Type 0
 ShortfallFits i s = (s.course < course_count i) × (s.missing ≤ 999999999)
 
--- an edit of the instance, with a price of 63 bits without its sign
+-- an edit of the instance, with an absolute price below 2^63
 abbrev pub PricedFits : Problem → PricedEdit → Type 0
 PricedFits i p = EditFits i p.edit × IsAmount (unsigned_abs p.price)
 
--- its numbers are those of the instance, and its amounts have 63 bits, a price without its sign
+-- its numbers are those of the instance, and its costs and absolute prices are below 2^63
 abbrev pub ReplyFits : Problem → Reply → Type 0
 ReplyFits i Done = Unit {0}
 ReplyFits i (Refused f) = FaultFits i f
@@ -44,10 +44,11 @@ ReplyFits i (Price p) = IsAmount (unsigned_abs p)
 ReplyFits i (Missing courses) = Each (ShortfallFits i) courses
 ReplyFits i (Edits edits) = Each (PricedFits i) edits
 
--- so few that a file can give their number
+-- at most 999,999,999 elements, so that a file can state their number
 abbrev pub AreFew : {A : Type 0} → List A → Type 0
 AreFew list = length list ≤ 999999999
 
+-- the list of a reply, if it has one, is that short
 abbrev pub IsShortReply : Reply → Type 0
 IsShortReply (Lectures ls) = AreFew ls
 IsShortReply (Missing courses) = AreFew courses

@@ -1,4 +1,4 @@
--- What layers above rest on.
+-- Laws for the crates above.
 use Rattle.std.specs.Prelude.{ℕ, ℤ, ◌≡◌, ◌<◌, ◌≤◌, true, false, List, filter, Some, None, is_none, Ok, Err}
 use Rattle.std.specs.Ordering.{int_eq}
 use Rattle.std.specs.List.{list_any, AllByRecursion as Each}
@@ -21,7 +21,8 @@ use Rattle.ctt_edits.specs.Table.{outcome, by_table}
 use Rattle.ctt_edits.specs.declared.pattern.Pattern.{Pattern}
 use Rattle.ctt_edits.specs.declared.priced_edit.PricedEdit.{PricedEdit}
 
--- the order by price is a stable sort: prices ascend, and the edits of one price are those of the list, in its order
+-- the order by price is a stable sort: prices ascend, and edits of equal price are those of the
+-- list, in its order
 abbrev pub PricesAscend : Type 0
 PricesAscend = (list : List PricedEdit) → Pairwise (λ x y. is_cheaper y x ≡ false) (by_price list)
     × ((price : ℤ) → filter (λ x. int_eq x.price price) (by_price list) ≡ filter (λ x. int_eq x.price price) list)
@@ -39,17 +40,19 @@ EditsKeepLawful = (i : Problem) (t : List Placed) (e : Edit) → Lawful i t → 
 abbrev pub EditsFit : Type 0
 EditsFit = (i : Problem) (t : List Placed) (e : Edit) → Lawful i t → EditFits i e → edit_fault i t e ≡ None → ChangeFits i (change t e) t
 
--- wherever a lecture is placed: a clash that is named is a clash, and no course that clashes and stands in the slot comes before it
+-- if placing a lecture is refused for a clash, the course named clashes, and no clashing course
+-- with a lecture in the slot has a lower number
 abbrev pub ClashIsLeast : Type 0
 ClashIsLeast = (i : Problem) (t : List Placed) (c s r d : ℕ) → Ascending t → try_fault i t c s r ≡ Some (Clash d)
     → (clash i c d ≡ true) × Each (λ (l : Placed). l.slot ≡ s → clash i c l.course ≡ true → d ≤ l.course) t
 
--- on two lawful timetables with equal rows where a call reads, the answer is the same, and so is what changes
+-- on two lawful timetables that agree on the rows that a call reads, the reply and the changed
+-- cells are the same
 abbrev pub CallFrame : Type 0
 CallFrame = (i : Problem) (t u : List Placed) (call : Call) → Lawful i t → Lawful i u → CallFits i call → Agree t u (reads i call)
     → (reply i t call ≡ reply i u call) × (cells_of i t call ≡ cells_of i u call)
 
--- if there is a room and a slot, a pattern reads the rows that the prices of its edits read, and no others
+-- if there is a room and a slot, a pattern reads exactly the rows that the prices of its edits read
 abbrev pub PatternReads : Type 0
 PatternReads = (i : Problem) (p : Pattern) → PatternFits i p → 0 < room_count i → 0 < slot_count i
     → ((c : ℕ) → c < course_count i → pattern_reads_course i p c ≡ list_any (λ e. with_mates i (edit_courses e) c) (edits_of i p))
@@ -59,22 +62,22 @@ PatternReads = (i : Problem) (p : Pattern) → PatternFits i p → 0 < room_coun
 abbrev pub ReadsAscend : Type 0
 ReadsAscend = (i : Problem) (call : Call) → Pairwise RowBefore (reads i call)
 
--- what a call is told on a lawful timetable fits, and is short
+-- the reply to a call on a lawful timetable fits and is short
 abbrev pub RepliesFit : Type 0
 RepliesFit = (i : Problem) (t : List Placed) (call : Call) → IsProblem i → Lawful i t → CallFits i call → IsReply i (reply i t call)
 
--- the fault and the change give what the table of edits gives
+-- the fault and the change of an edit give the outcome that the table of edits defines
 abbrev pub EditIsTable : Type 0
 EditIsTable = (i : Problem) (t : List Placed) (e : Edit) → outcome i t e ≡ by_table i t e
 
--- the timetable that lectures make is lawful
+-- the timetable made by placing lectures in order is lawful
 abbrev pub OpeningIsLawful : Type 0
 OpeningIsLawful = (i : Problem) (ls t : List Placed) → Each (Fits i) ls → opening i ls ≡ Ok t → Lawful i t
 
--- what stands against a lecture that cannot be placed names a course of the instance, if it names one
+-- if the fault of a lecture that cannot be placed names a course, it is one of the instance
 abbrev pub OpeningFaultsFit : Type 0
 OpeningFaultsFit = (i : Problem) (ls : List Placed) (at : ℕ) (fault : EditFault) → Each (Fits i) ls → opening i ls ≡ Err (at, fault) → FaultFits i fault
 
--- two timetables with the same rooms are the same
+-- two timetables are equal if each course has the same room, or none, in each slot
 abbrev pub RoomsDetermine : Type 0
 RoomsDetermine = (i : Problem) (t u : List Placed) → IsTimetable i t → IsTimetable i u → ((c s : ℕ) → c < course_count i → s < slot_count i → room_at c s t ≡ room_at c s u) → t ≡ u

@@ -1,4 +1,4 @@
--- What the looks show.
+-- The replies to looks.
 use Rattle.std.specs.Prelude.{ℕ, ◌<◌, ◌≤◌, ℤ, List, filter, ◌==◌, Option, Some, None, Result, Ok, Err}
 use Rattle.ctt_text.specs.Problem.{Problem, course_of, members, course_count, slot_count, teacher_count, curriculum_count}
 use Rattle.ctt_text.specs.Timetable.{course_row, slot_row}
@@ -16,12 +16,12 @@ use Rattle.ctt_edits.specs.declared.looks.Look.{Look}
 use Rattle.ctt_edits.specs.declared.looks.Look.TheVariants.{Course, Slot, Teacher, Curriculum, CourseCost, Price, Missing, Cheapest}
 use Rattle.ctt_edits.specs.declared.looks.Look.TheVariants.{Cost as WholeCost}
 
--- refused where there is a fault
+-- the answer, or a refusal if there is a fault
 abbrev pub told_or : Option EditFault → Reply → Reply
 told_or None answer = answer
 told_or (Some f) answer = Refused f
 
--- its numbers are those of the instance, and at most 1,000 edits are asked for
+-- its numbers are those of the instance, and it requests at most 1,000 edits
 abbrev pub LookFits : Problem → Look → Type 0
 LookFits i (Course c) = c < course_count i
 LookFits i (Slot s) = s < slot_count i
@@ -37,10 +37,11 @@ LookFits i (Cheapest n p) = (n ≤ 1000) × PatternFits i p
 abbrev pub teacher_row : Problem → ℕ → List Placed → List Placed
 teacher_row i h t = filter (λ l. (course_of i l.course).teacher == h) t
 
--- the penalty after an edit minus that before
+-- the penalty after an edit minus the penalty before it
 abbrev pub price : Problem → List Placed → Edit → ℤ
 price i t e = delta i t (change t e)
 
+-- the price, or the fault if there is one
 abbrev pub priced_by : Option EditFault → ℤ → Result ℤ EditFault
 priced_by None p = Ok p
 priced_by (Some f) p = Err f
@@ -49,6 +50,7 @@ priced_by (Some f) p = Err f
 abbrev pub priced : Problem → List Placed → Edit → Result ℤ EditFault
 priced i t e = priced_by (edit_fault i t e) (price i t e)
 
+-- the reply to a look
 abbrev pub shown : Problem → List Placed → Look → Reply
 shown i t (Course c) = Lectures (course_row c t)
 shown i t (Slot s) = Lectures (slot_row s t)

@@ -14,10 +14,10 @@ missing_of i t c = (course_of i c).lectures - length (course_row c t)
 abbrev pub is_short : Problem → List Placed → ℕ → Bool
 is_short i t c = nat_lt (length (course_row c t)) (course_of i c).lectures
 
--- the course with how many of its lectures are missing
+-- the course and how many of its lectures are missing
 abbrev pub shortfall : Problem → List Placed → ℕ → Shortfall
 shortfall i t c = record { course = c; missing = missing_of i t c }
 
--- the courses of which lectures are missing, ascending
+-- the courses with missing lectures, ascending
 abbrev pub missing : Problem → List Placed → List Shortfall
 missing i t = map (shortfall i t) (below (is_short i t) (course_count i))

@@ -23,7 +23,7 @@ abbrev pub FitsIfGiven : ℕ → Option ℕ → Type 0
 FitsIfGiven n None = Unit {0}
 FitsIfGiven n (Some x) = x < n
 
--- none, or a room of the instance whose name does not stand for any room
+-- none, or a room of the instance that is not named *
 abbrev pub IsRoomIfGiven : Problem → Option ℕ → Type 0
 IsRoomIfGiven i None = Unit {0}
 IsRoomIfGiven i (Some r) = (r < room_count i) × (bytes_eq (slice_index_or i.room_names r []) (codes "*") ≡ false)
@@ -47,14 +47,15 @@ edits_of i (AnyMove c s s2 r) = flat_map (λ x. map (λ y. Move c s x y) (choice
 edits_of i (AnySwap c s) = flat_map (λ x. map (λ y. Swap c s x y) (choices (slot_count i) None)) (choices (course_count i) None)
 edits_of i (AnyReroom c s r) = map (λ y. Reroom c s y) (choices (room_count i) r)
 
--- why each edit of a pattern is refused, if one reason holds for all: the lecture that it names is not there, or all lectures of its course are placed
+-- why each edit of a pattern is refused, if one reason holds for all: the lecture that it names is
+-- not placed, or all lectures of its course are
 abbrev pub pattern_fault : Problem → List Placed → Pattern → Option EditFault
 pattern_fault i t (AnyPlace c s r) = fault_if (nat_le (course_of i c).lectures (length (course_row c t))) CourseFull
 pattern_fault i t (AnyMove c s s2 r) = fault_if (is_none (room_at c s t)) NotPlaced
 pattern_fault i t (AnySwap c s) = fault_if (is_none (room_at c s t)) NotPlaced
 pattern_fault i t (AnyReroom c s r) = fault_if (is_none (room_at c s t)) NotPlaced
 
--- an edit with its price: the penalty after it minus that before
+-- an edit with its price: the penalty after it minus the penalty before it
 abbrev pub with_price : Problem → List Placed → Edit → PricedEdit
 with_price i t e = record { edit = e; price = delta i t (change t e) }
 
@@ -62,10 +63,12 @@ with_price i t e = record { edit = e; price = delta i t (change t e) }
 abbrev pub feasible : Problem → List Placed → List Edit → List PricedEdit
 feasible i t es = map (with_price i t) (filter (λ e. is_none (edit_fault i t e)) es)
 
+-- x costs less than y
 abbrev pub is_cheaper : PricedEdit → PricedEdit → Bool
 is_cheaper x y = lt_z x.price y.price
 
--- each edit inserted before the first that is dearer: so prices ascend, and edits of one price stay in order
+-- the edits sorted by price: each is inserted before the first dearer one, so edits of equal price
+-- stay in order
 abbrev pub by_price : List PricedEdit → List PricedEdit
 by_price edits = fold (λ list x. put is_cheaper x list) [] edits
 

@@ -1,4 +1,4 @@
-//! A call: whatever a planner asks.
+//! Calls: the requests of a planner.
 
 ghost use Rattle.std.specs.Prelude.{◌↔◌, IsTrue};
 ghost use Rattle.ctt_edits.specs.Calls.{CallFits};
@@ -10,14 +10,14 @@ use ctt_text::Instance;
 /// A look or an edit.
 #[derive(Clone, Copy, PartialEq, Eq)]
 pub enum Call {
-    /// Something is looked at; nothing changes.
+    /// A request that changes nothing.
     Look(Look),
-    /// Something is to change.
+    /// A request to change the timetable.
     Edit(Edit),
 }
 
 impl Call {
-    /// Whether its numbers are those of the instance.
+    /// Returns whether its numbers are those of the instance.
     pub fn fits(&self, instance: &Instance) -> bool
         ensures { IsTrue result ↔ CallFits instance.now self.now }
     {

@@ -17,8 +17,8 @@ use ctt_text::NoMemory;
 use std::alloc::Global;
 use std::ops::Range;
 
-/// Why each edit of a pattern is refused, if one reason holds for all of them: the lecture that it
-/// names is not there, or all lectures of its course are placed.
+/// Returns why each edit of a pattern is refused, if one reason holds for all of them: the lecture
+/// that it names is not placed, or all lectures of its course are.
 pub(crate) fn pattern_fault<'i, S: Sheet<'i>>(sheet: &S, pattern: &Pattern) -> Option<EditFault>
     requires { PatternFits (S.problem sheet.now) pattern.now }
     ensures { result ≡ pattern_fault (S.problem sheet.now) (S.list sheet.now) pattern.now }
@@ -37,21 +37,20 @@ pub(crate) fn pattern_fault<'i, S: Sheet<'i>>(sheet: &S, pattern: &Pattern) -> O
     }
 }
 
-/// Whether an edit is cheaper than another.
 fn is_cheaper(edit: &PricedEdit, other: &PricedEdit) -> bool
     ensures { result ≡ is_cheaper edit.now other.now }
 {
     edit.price < other.price
 }
 
-/// The index of the first edit that is dearer than a new one.
+/// Returns the index of the first edit that is dearer than a new one.
 fn first_dearer(list: &[PricedEdit], new: &PricedEdit) -> Option<usize>
     ensures { result ≡ position (is_cheaper new.now) list.now }
 {
     list.iter().position(|other| is_cheaper(new, other))
 }
 
-/// The index at which a new edit is inserted: that of the first that is dearer, or the end.
+/// Returns the index at which a new edit is inserted: that of the first dearer edit, or the end.
 fn insertion_point(list: &[PricedEdit], new: &PricedEdit) -> usize
     ensures index { result ≡ position_or_len (is_cheaper new.now) list.now }
     ensures within { result ≤ length list.now }
@@ -62,7 +61,7 @@ fn insertion_point(list: &[PricedEdit], new: &PricedEdit) -> usize
     }
 }
 
-/// Inserts an edit before the first that is dearer, and cuts the list to the count.
+/// Inserts an edit before the first dearer one, and truncates the list to `count` edits.
 #[tactic(auto, using(crate::proofs::CheapestLemmas::inserted_is))]
 fn insert_by_price(list: &mut Vec<PricedEdit>, count: u16, new: PricedEdit) -> Result<(), NoMemory>
     ensures { OnOk result (list.new.items ≡ take count (put is_cheaper new list.old.items)) }
@@ -73,7 +72,7 @@ fn insert_by_price(list: &mut Vec<PricedEdit>, count: u16, new: PricedEdit) -> R
     Ok(())
 }
 
-/// Inserts an edit, if it has no fault.
+/// Inserts an edit if it has no fault.
 fn add_edit<'i, S: Sheet<'i>>(
     list: &mut Vec<PricedEdit>,
     sheet: &S,
@@ -91,7 +90,7 @@ fn add_edit<'i, S: Sheet<'i>>(
     }
 }
 
-/// Inserts the edits of a pattern that have one first choice.
+/// Inserts the edits of a pattern that have this first choice and no fault.
 fn add_edits_with<'i, S: Sheet<'i>>(
     list: &mut Vec<PricedEdit>,
     sheet: &S,
@@ -113,7 +112,7 @@ fn add_edits_with<'i, S: Sheet<'i>>(
     Ok(())
 }
 
-/// Inserts the edits of a pattern.
+/// Inserts the edits of a pattern that have no fault.
 fn add_edits<'i, S: Sheet<'i>>(
     list: &mut Vec<PricedEdit>,
     sheet: &S,
@@ -137,8 +136,8 @@ fn add_edits<'i, S: Sheet<'i>>(
     Ok(())
 }
 
-/// The cheapest of the edits that a pattern stands for and that have no fault, at most `count`, the
-/// cheapest first. The list never holds more than `count + 1` edits.
+/// Returns the cheapest edits of a pattern that have no fault, at most `count`, the cheapest first.
+/// The list never holds more than `count + 1` edits.
 pub(crate) fn cheapest<'i, S: Sheet<'i>>(
     alloc: Global,
     sheet: &S,

@@ -1,4 +1,4 @@
-//! Whether an edit can be made.
+//! The check whether an edit can be made.
 
 ghost use Rattle.std.specs.Prelude.{◌≡◌, ◌<◌, ◌==◌, false, Some, None, IfOk, IsSome};
 ghost use Rattle.ctt_text.specs.Problem.{course_count, slot_count, room_count, is_barred};
@@ -14,7 +14,7 @@ use crate::laws;
 use ctt_board::{After, Cell, Change, Rooms, Sheet, first_clash, first_clash_without};
 use ctt_text::{CourseNo, Instance, Placed, RoomNo, SlotNo};
 
-/// The first fault that holds of placing a lecture.
+/// Returns the first fault of placing a lecture, if there is one.
 fn place_fault<R: Rooms>(
     instance: &Instance,
     rooms: &R,
@@ -49,7 +49,7 @@ fn place_fault<R: Rooms>(
     None
 }
 
-/// The cell of a lecture that goes.
+/// Returns the cell that removes a lecture.
 fn removal(course: CourseNo, slot: SlotNo) -> Cell
     ensures { result ≡ cell course slot None }
 {
@@ -60,7 +60,7 @@ fn removal(course: CourseNo, slot: SlotNo) -> Cell
     }
 }
 
-/// The cell of a lecture that comes.
+/// Returns the cell that adds a lecture.
 fn addition(course: CourseNo, slot: SlotNo, room: RoomNo) -> Cell
     ensures { result ≡ cell course slot (Some room) }
 {
@@ -71,7 +71,7 @@ fn addition(course: CourseNo, slot: SlotNo, room: RoomNo) -> Cell
     }
 }
 
-/// The first fault that holds of placing a lecture anew, once it has left its slot.
+/// Returns the first fault of placing a lecture again after it has left its slot.
 fn replace_fault<'i, S: Sheet<'i>>(
     sheet: &S,
     course: CourseNo,
@@ -94,8 +94,8 @@ fn replace_fault<'i, S: Sheet<'i>>(
     place_fault(instance, &after, course, target, room)
 }
 
-/// The first fault that holds of placing a course's lecture in the slot and room of another one, which leaves.
-/// The course has one lecture less than before.
+/// Returns the first fault of placing a course's lecture in the slot and room of another one, which
+/// leaves. The course is not full, since a lecture of its own has left too.
 fn fault_in_place_of<'i, S: Sheet<'i>>(
     sheet: &S,
     course: CourseNo,
@@ -121,7 +121,7 @@ fn fault_in_place_of<'i, S: Sheet<'i>>(
     Some(EditFault::Clash(other))
 }
 
-/// The fault of a room that is barred for a course.
+/// Returns a fault if the room is barred for the course.
 fn barred_fault(instance: &Instance, course: CourseNo, room: RoomNo) -> Option<EditFault>
     requires course { course < course_count instance.now }
     requires room { room < room_count instance.now }
@@ -133,8 +133,8 @@ fn barred_fault(instance: &Instance, course: CourseNo, room: RoomNo) -> Option<E
     Some(EditFault::Barred)
 }
 
-/// The first fault that holds of swapping two lectures of two courses. In one slot they only change
-/// rooms, and what can stand against it is that a room is barred.
+/// Returns the first fault of swapping lectures of two courses. In one slot they only exchange
+/// rooms, so the only possible fault is a barred room.
 fn exchange_fault<'i, S: Sheet<'i>>(
     sheet: &S,
     lecture: &Placed,
@@ -165,7 +165,7 @@ fn exchange_fault<'i, S: Sheet<'i>>(
     fault_in_place_of(sheet, other.course, lecture)
 }
 
-/// The first fault that holds of a swap.
+/// Returns the first fault of a swap.
 fn swap_fault<'i, S: Sheet<'i>>(
     sheet: &S,
     course: CourseNo,
@@ -196,7 +196,7 @@ fn swap_fault<'i, S: Sheet<'i>>(
     exchange_fault(sheet, &lecture, &other)
 }
 
-/// The first fault that holds of a move.
+/// Returns the first fault of a move.
 fn move_fault<'i, S: Sheet<'i>>(
     sheet: &S,
     course: CourseNo,
@@ -217,7 +217,7 @@ fn move_fault<'i, S: Sheet<'i>>(
     replace_fault(sheet, course, slot, target, room)
 }
 
-/// The first fault that holds of taking another room.
+/// Returns the first fault of moving a lecture to another room.
 fn reroom_fault<'i, S: Sheet<'i>>(
     sheet: &S,
     course: CourseNo,
@@ -234,7 +234,7 @@ fn reroom_fault<'i, S: Sheet<'i>>(
     replace_fault(sheet, course, slot, slot, room)
 }
 
-/// The fault of dropping a lecture that is not there.
+/// Returns a fault if the lecture to drop is not placed.
 fn drop_fault<'i, S: Sheet<'i>>(sheet: &S, course: CourseNo, slot: SlotNo) -> Option<EditFault>
     requires { EditFits (S.problem sheet.now) (Drop course slot) }
     ensures { result ≡ edit_fault (S.problem sheet.now) (S.list sheet.now) (Drop course slot) }
@@ -245,7 +245,7 @@ fn drop_fault<'i, S: Sheet<'i>>(sheet: &S, course: CourseNo, slot: SlotNo) -> Op
     None
 }
 
-/// The first fault that holds of an edit.
+/// Returns the first fault of an edit.
 fn fault_of<'i, S: Sheet<'i>>(sheet: &S, edit: &Edit) -> Option<EditFault>
     requires { EditFits (S.problem sheet.now) edit.now }
     ensures { result ≡ edit_fault (S.problem sheet.now) (S.list sheet.now) edit.now }
@@ -263,7 +263,7 @@ fn fault_of<'i, S: Sheet<'i>>(sheet: &S, edit: &Edit) -> Option<EditFault>
     }
 }
 
-/// The change of an edit that has no fault.
+/// Returns the change of an edit that has no fault.
 fn change_of<'i, S: Sheet<'i>>(sheet: &S, edit: &Edit) -> Change
     requires fits { EditFits (S.problem sheet.now) edit.now }
     requires accepted { edit_fault (S.problem sheet.now) (S.list sheet.now) edit.now ≡ None }
@@ -296,7 +296,7 @@ fn change_of<'i, S: Sheet<'i>>(sheet: &S, edit: &Edit) -> Change
     change.unwrap()
 }
 
-/// The change of an edit, or the first fault that holds. It takes no memory.
+/// Returns the change of an edit, or its first fault. Allocates nothing.
 pub fn check<'i, S: Sheet<'i>>(sheet: &S, edit: &Edit) -> Result<Change, EditFault>
     requires { EditFits (S.problem sheet.now) edit.now }
     ensures change { result ≡ checked (S.problem sheet.now) (S.list sheet.now) edit.now }

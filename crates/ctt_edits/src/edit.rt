@@ -1,28 +1,28 @@
-//! What a planner asks to be changed.
+//! Edits: a planner's requests to change a timetable.
 
 ghost use Rattle.std.specs.Prelude.{◌↔◌, IsTrue};
 ghost use Rattle.ctt_edits.specs.Edits.{EditFits};
 
 use ctt_text::{CourseNo, Instance, RoomNo, SlotNo};
 
-/// One step of planning.
+/// A request to change one lecture, or to swap two.
 #[derive(Clone, Copy, PartialEq, Eq)]
 pub enum Edit {
-    /// A lecture of the course comes into the slot and the room.
+    /// Places a lecture of the course in the slot and the room.
     Place(CourseNo, SlotNo, RoomNo),
-    /// The lecture of the course in the first slot comes into the second slot and the room.
+    /// Moves the lecture of the course in the first slot to the second slot and the room.
     Move(CourseNo, SlotNo, SlotNo, RoomNo),
-    /// The lecture of the first course and slot and the lecture of the second course and slot take
-    /// each other's slot and room.
+    /// Exchanges slot and room between the lecture of the first course and slot and the lecture of
+    /// the second course and slot.
     Swap(CourseNo, SlotNo, CourseNo, SlotNo),
-    /// The lecture of the course in the slot comes into the room.
+    /// Moves the lecture of the course in the slot to the room, in the same slot.
     Reroom(CourseNo, SlotNo, RoomNo),
-    /// The lecture of the course in the slot goes.
+    /// Removes the lecture of the course in the slot.
     Drop(CourseNo, SlotNo),
 }
 
 impl Edit {
-    /// Whether its numbers are those of the instance.
+    /// Returns whether its numbers are those of the instance.
     pub fn fits(&self, instance: &Instance) -> bool
         ensures { IsTrue result ↔ EditFits instance.now self.now }
     {

@@ -5,32 +5,31 @@ ghost use Rattle.ctt_edits.specs.Fitting.{FaultFits};
 
 use ctt_text::{CourseNo, Instance};
 
-/// What stands against an edit.
+/// The reason why an edit is refused.
 #[derive(Clone, Copy, PartialEq, Eq)]
 pub enum EditFault {
-    /// A lecture that is named is not there.
+    /// A lecture that the edit names is not placed.
     NotPlaced,
-    /// A lecture is to be moved to its own slot.
+    /// The edit moves a lecture to its own slot.
     SameSlot,
-    /// Two lectures of one course are to be swapped.
+    /// The edit swaps two lectures of one course.
     SameCourse,
-    /// The course has a lecture in the slot already.
+    /// The course already has a lecture in the slot.
     AlreadyThere,
-    /// All lectures of the course are placed.
+    /// All lectures of the course are already placed.
     CourseFull,
     /// The course is unavailable in the slot.
     Unavailable,
     /// The room is barred for the course.
     Barred,
-    /// A course that clashes has a lecture in the slot: of all such courses, the one with the
-    /// least number.
+    /// A clashing course has a lecture in the slot; of several, the one with the lowest number.
     Clash(CourseNo),
-    /// A lecture of this course has the room in the slot.
+    /// A lecture of this course is in the room in that slot.
     RoomTaken(CourseNo),
 }
 
 impl EditFault {
-    /// Whether the course that it names, if it names one, is one of the instance.
+    /// Returns whether the course that it names, if any, is one of the instance.
     pub fn fits(&self, instance: &Instance) -> bool
         ensures { IsTrue result ↔ FaultFits instance.now self.now }
     {

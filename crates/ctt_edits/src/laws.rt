@@ -1,75 +1,77 @@
-//! Laws of edits, for the layers above. None of these functions computes anything.
+//! Laws of edits, for the crates above. None of these functions computes anything.
 
 ghost use Rattle.ctt_edits.specs.Laws.{EditsKeepLawful, EditsFit, ClashIsLeast, CallFrame, PricesAscend, PatternFaultStands, PatternReads, ReadsAscend, RepliesFit, EditIsTable, OpeningIsLawful, OpeningFaultsFit, RoomsDetermine};
 
-/// An edit that has no fault keeps a timetable lawful.
+/// States that an edit without a fault keeps a timetable lawful.
 pub fn edits_keep_lawful()
     ensures { EditsKeepLawful }
 {}
 
-/// The change of an edit that has no fault fits.
+/// States that the change of an edit without a fault fits.
 pub fn edits_fit()
     ensures { EditsFit }
 {}
 
-/// Wherever a lecture is placed, by which edit ever: of the courses that clash with its course and
-/// stand in the slot, the one with the least number is named.
+/// States that if a lecture cannot be placed because of a clash, the fault names the
+/// lowest-numbered clashing course with a lecture in the slot.
 pub fn clash_is_least()
     ensures { ClashIsLeast }
 {}
 
-/// What a call answers, and what it changes, depends on the rows that it reads, and on nothing else.
+/// States that the reply to a call, and what the call changes, depend only on the rows that it
+/// reads.
 pub fn call_frame()
     ensures { CallFrame }
 {}
 
-/// The order by price is a stable sort: prices ascend, and the edits of one price are those of the
-/// list, in its order.
+/// States that the order by price is a stable sort: prices ascend, and edits of equal price are
+/// those of the list, in its order.
 pub fn prices_ascend()
     ensures { PricesAscend }
 {}
 
-/// If a pattern has a fault, each of its edits is refused.
+/// States that if a pattern has a fault, each of its edits is refused.
 pub fn pattern_fault_stands()
     ensures { PatternFaultStands }
 {}
 
-/// A look at the cheapest edits of a pattern reads the rows that the prices of its edits read, and
-/// no others.
+/// States that a look at the cheapest edits of a pattern reads exactly the rows that the prices of
+/// its edits read, if the instance has a room and a slot.
 pub fn pattern_reads()
     ensures { PatternReads }
 {}
 
-/// The rows that a call reads ascend, each once.
+/// States that the rows that a call reads ascend, each once.
 pub fn reads_ascend()
     ensures { ReadsAscend }
 {}
 
-/// What a call is told on a lawful timetable fits: its numbers are those of the instance, each cost,
-/// and each price without its sign, is at most 9,223,372,036,854,775,807, and there are at most
-/// 999,999,999 lectures.
+/// States that the reply to a call on a lawful timetable fits: its numbers are those of the
+/// instance, each cost and each absolute price is at most 9,223,372,036,854,775,807, and its lists
+/// have at most 999,999,999 elements.
 pub fn replies_fit()
     ensures { RepliesFit }
 {}
 
-/// The fault and the change of an edit give what the table of edits gives, read literally, with trials.
+/// States that the fault and the change of an edit give the outcome that the table of edits defines
+/// by trials.
 pub fn edit_is_table()
     ensures { EditIsTable }
 {}
 
-/// The timetable that lectures make, placed in the order of their list, is lawful.
+/// States that the timetable made by placing the lectures of a list in order is lawful.
 pub fn opening_is_lawful()
     ensures { OpeningIsLawful }
 {}
 
-/// What stands against the first lecture of a list that cannot be placed names, if it names a course,
-/// one of the instance.
+/// States that if the fault of the first lecture of a list that cannot be placed names a course, it
+/// is one of the instance.
 pub fn opening_faults_fit()
     ensures { OpeningFaultsFit }
 {}
 
-/// Two timetables of one instance that have the same room, or none, for each course in each slot are
-/// the same.
+/// States that two timetables of one instance are equal if they have the same room, or none, for
+/// each course in each slot.
 pub fn rooms_determine()
     ensures { RoomsDetermine }
 {}

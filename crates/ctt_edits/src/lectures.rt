@@ -1,16 +1,16 @@
-//! Lectures that are told.
+//! The lectures in a reply.
 
 ghost use Rattle.std.specs.Prelude.{◌≡◌, ◌↔◌, IfOk, IsTrue};
 
 use ctt_text::{NoMemory, Placed};
 use std::marker::Model;
 
-/// Lectures in a list, seen as this list.
+/// A list of lectures; contracts see the list.
 pub struct Lectures {
     list: Vec<Placed>,
 }
 
-// A derived `Drop` is proved anew in each crate above.
+// Written by hand because a derived `Drop` is proved again in each dependent crate.
 impl Drop for Lectures {
     fn drop(self) {
         let Lectures { list: _ } = self;
@@ -27,21 +27,21 @@ impl Model for Lectures {
 }
 
 impl Lectures {
-    /// The lectures of a list.
+    /// Returns the lectures of a list.
     pub fn new(list: Vec<Placed>) -> Self
         ensures { result ≡ list.items }
     {
         Lectures { list }
     }
 
-    /// The list.
+    /// Returns the list.
     pub fn as_slice(&self) -> &[Placed]
         ensures { result.now ≡ self.now }
     {
         self.list.as_slice()
     }
 
-    /// Equal lectures.
+    /// Returns equal lectures.
     pub(crate) fn copy(&self) -> Result<Self, NoMemory>
         ensures { IfOk result (λ lectures. lectures ≡ self.now) }
     {
@@ -49,7 +49,7 @@ impl Lectures {
         Ok(Lectures { list })
     }
 
-    /// Whether these are the same lectures.
+    /// Returns whether the lectures are equal.
     pub(crate) fn is_same(&self, other: &Lectures) -> bool
         ensures { IsTrue result ↔ (self.now ≡ other.now) }
     {

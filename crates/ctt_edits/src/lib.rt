@@ -1,4 +1,4 @@
-//! Edits and looks: what a planner asks of a timetable, and what he is told.
+//! Edits and looks: a planner's requests to a timetable, and the replies to them.
 #![tactic(auto)]
 
 mod call;

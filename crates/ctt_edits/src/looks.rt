@@ -1,4 +1,4 @@
-//! What a planner asks to see.
+//! Looks: a planner's requests to see something.
 
 ghost use Rattle.std.specs.Prelude.{◌↔◌, IsTrue};
 ghost use Rattle.ctt_edits.specs.Looks.{LookFits};
@@ -7,10 +7,10 @@ use crate::edit::Edit;
 use crate::pattern::Pattern;
 use ctt_text::{CourseNo, CurriculumNo, Instance, SlotNo, TeacherNo};
 
-/// The greatest number of edits that may be asked for.
+/// The maximum number of edits that a look can request.
 const MOST_EDITS: u16 = 1000;
 
-/// A part of a timetable, or its costs.
+/// A request to see a part of a timetable, its costs, or the prices of edits.
 #[derive(Clone, Copy, PartialEq, Eq)]
 pub enum Look {
     /// The lectures of a course.
@@ -21,20 +21,20 @@ pub enum Look {
     Teacher(TeacherNo),
     /// The lectures of all members of a curriculum.
     Curriculum(CurriculumNo),
-    /// What a course costs by its rooms' capacity, its days and its stability.
+    /// The costs of a course by room capacity, days and stability.
     CourseCost(CourseNo),
     /// The four costs of the timetable.
     Cost,
     /// What an edit would add to the penalty.
     Price(Edit),
-    /// The courses with fewer lectures placed than they have.
+    /// The courses with missing lectures.
     Missing,
-    /// The cheapest edits that a pattern stands for and that can be made, at most this many.
+    /// The cheapest edits of a pattern that can be made, at most this many.
     Cheapest(u16, Pattern),
 }
 
 impl Look {
-    /// Whether its numbers are those of the instance, and at most 1,000 edits are asked for.
+    /// Returns whether its numbers are those of the instance, and it requests at most 1,000 edits.
     pub fn fits(&self, instance: &Instance) -> bool
         ensures { IsTrue result ↔ LookFits instance.now self.now }
     {

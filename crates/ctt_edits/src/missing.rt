@@ -1,4 +1,4 @@
-//! The courses of which lectures are missing.
+//! The courses with missing lectures.
 
 ghost use Rattle.std.specs.Prelude.{◌≡◌, ◌<◌, IfOk};
 ghost use Rattle.ctt_text.specs.Problem.{course_count};
@@ -9,7 +9,7 @@ use ctt_board::Sheet;
 use ctt_text::{CourseNo, NoMemory};
 use std::alloc::Global;
 
-/// How many lectures of a course are not placed.
+/// Returns how many lectures of a course are not placed.
 fn missing_of<'i, S: Sheet<'i>>(sheet: &S, course: CourseNo) -> u32
     requires { course < course_count (S.problem sheet.now) }
     ensures { result ≡ missing_of (S.problem sheet.now) (S.list sheet.now) course }
@@ -18,7 +18,7 @@ fn missing_of<'i, S: Sheet<'i>>(sheet: &S, course: CourseNo) -> u32
     lectures.saturating_sub(sheet.count(course))
 }
 
-/// The courses with fewer lectures placed than they have, ascending, with how many are missing.
+/// Returns the courses with missing lectures, ascending, and how many each is missing.
 pub(crate) fn missing<'i, S: Sheet<'i>>(alloc: Global, sheet: &S) -> Result<Shortfalls, NoMemory>
     ensures { IfOk result (λ courses.
         courses ≡ missing (S.problem sheet.now) (S.list sheet.now)) }

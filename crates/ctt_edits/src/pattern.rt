@@ -1,4 +1,4 @@
-//! Edits in which a part is left open.
+//! Patterns: edits in which a part is left open.
 
 ghost use Rattle.std.specs.Prelude.{◌≡◌, ◌↔◌, ◌-◌, IsTrue};
 ghost use Rattle.ctt_text.specs.Problem.{slot_count, room_count};
@@ -9,25 +9,25 @@ use crate::edit::Edit;
 use ctt_text::{CourseNo, Instance, RoomNo, SlotNo};
 use std::ops::Range;
 
-/// The word of a pattern's text that stands for any room, or for any slot or lecture.
+/// The word that stands for any room, slot or lecture in the text of a pattern.
 const ANY: &str = "*";
 
 /// An edit in which the new slot, the room or the other lecture may be left open. It stands for all
-/// edits that fill it in.
+/// edits that fill in the open parts.
 #[derive(Clone, Copy, PartialEq, Eq)]
 pub enum Pattern {
-    /// A lecture of the course comes into the slot, or any slot, and the room, or any room.
+    /// Places a lecture of the course in the slot, or any slot, and the room, or any room.
     Place(CourseNo, Option<SlotNo>, Option<RoomNo>),
-    /// The lecture of the course in the first slot comes into the second slot, or any slot, and the
+    /// Moves the lecture of the course in the first slot to the second slot, or any slot, and the
     /// room, or any room.
     Move(CourseNo, SlotNo, Option<SlotNo>, Option<RoomNo>),
-    /// The lecture of the course in the slot and any other lecture take each other's slot and room.
+    /// Exchanges slot and room between the lecture of the course in the slot and any other lecture.
     Swap(CourseNo, SlotNo),
-    /// The lecture of the course in the slot comes into the room, or any room.
+    /// Moves the lecture of the course in the slot to the room, or any room, in the same slot.
     Reroom(CourseNo, SlotNo, Option<RoomNo>),
 }
 
-/// Whether a slot, if it is given, is one of the instance.
+/// Returns whether a slot, if it is given, is one of the instance.
 fn slot_fits(instance: &Instance, slot: &Option<SlotNo>) -> bool
     ensures { IsTrue result ↔ FitsIfGiven (slot_count instance.now) slot.now }
 {
@@ -37,7 +37,7 @@ fn slot_fits(instance: &Instance, slot: &Option<SlotNo>) -> bool
     }
 }
 
-/// Whether a room, if it is given, is one of the instance and not named `*`.
+/// Returns whether a room, if it is given, is one of the instance and not named `*`.
 fn room_fits(instance: &Instance, room: &Option<RoomNo>) -> bool
     ensures { IsTrue result ↔ IsRoomIfGiven instance.now room.now }
 {
@@ -47,7 +47,7 @@ fn room_fits(instance: &Instance, room: &Option<RoomNo>) -> bool
     }
 }
 
-/// The given slot, or all slots if none is given.
+/// Returns the number of the given slot, or those of all slots if none is given.
 fn slot_choices(instance: &Instance, slot: Option<SlotNo>) -> Range<u16>
     requires { FitsIfGiven (slot_count instance.now) slot }
     ensures { from_to result.start result.end ≡ choices (slot_count instance.now) slot }
@@ -59,7 +59,7 @@ fn slot_choices(instance: &Instance, slot: Option<SlotNo>) -> Range<u16>
     }
 }
 
-/// The given room, or all rooms if none is given.
+/// Returns the number of the given room, or those of all rooms if none is given.
 fn room_choices(instance: &Instance, room: Option<RoomNo>) -> Range<u16>
     requires { IsRoomIfGiven instance.now room }
     ensures { from_to result.start result.end ≡ choices (room_count instance.now) room }
@@ -72,7 +72,7 @@ fn room_choices(instance: &Instance, room: Option<RoomNo>) -> Range<u16>
 }
 
 impl Pattern {
-    /// Whether its numbers are those of the instance, and a given room is not named `*`.
+    /// Returns whether its numbers are those of the instance, and a given room is not named `*`.
     pub fn fits(&self, instance: &Instance) -> bool
         ensures { IsTrue result ↔ PatternFits instance.now self.now }
     {
@@ -93,7 +93,7 @@ impl Pattern {
         }
     }
 
-    /// The numbers of the new slots, or of a swap's other courses.
+    /// Returns the numbers of the slots, or of a swap's other courses.
     pub(crate) fn first_choices(&self, instance: &Instance) -> Range<u16>
         requires { PatternFits instance.now self.now }
         ensures { from_to result.start result.end ≡ first_choices instance.now self.now }
@@ -107,7 +107,7 @@ impl Pattern {
         }
     }
 
-    /// The numbers of the rooms, or of a swap's other slots.
+    /// Returns the numbers of the rooms, or of a swap's other slots.
     pub(crate) fn second_choices(&self, instance: &Instance) -> Range<u16>
         requires { PatternFits instance.now self.now }
         ensures { from_to result.start result.end ≡ second_choices instance.now self.now }
@@ -120,7 +120,7 @@ impl Pattern {
         }
     }
 
-    /// The edit that fills it in with these choices.
+    /// Returns the edit that fills it in with these choices.
     pub(crate) fn edit(&self, first: u16, second: u16) -> Edit
         ensures { result ≡ edit_by self.now first second }
     {

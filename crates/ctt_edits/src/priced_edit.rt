@@ -19,7 +19,7 @@ pub struct PricedEdit {
 }
 
 impl PricedEdit {
-    /// Whether its edit is of the instance, and its price without its sign is at most
+    /// Returns whether its edit is of the instance, and its absolute price is at most
     /// 9,223,372,036,854,775,807.
     pub fn fits(&self, instance: &Instance) -> bool
         ensures { IsTrue result ↔ PricedFits instance.now self.now }
@@ -28,7 +28,7 @@ impl PricedEdit {
     }
 }
 
-/// Adds an element to a list.
+/// Appends an element to a list.
 fn add<T: Copy>(list: &mut Vec<T>, one: &T) -> Result<(), NoMemory>
     ensures { OnOk result (list.new.items ≡ list.old.items ++ one.now ∷ []) }
 {
@@ -41,7 +41,7 @@ pub struct PricedEdits {
     list: Vec<PricedEdit>,
 }
 
-// A derived `Drop` is proved anew in each crate above.
+// Written by hand because a derived `Drop` is proved again in each dependent crate.
 impl Drop for PricedEdits {
     fn drop(self) {
         let PricedEdits { list: _ } = self;
@@ -58,14 +58,14 @@ impl Model for PricedEdits {
 }
 
 impl PricedEdits {
-    /// The edits of a list.
+    /// Returns the edits of a list.
     pub fn new(list: Vec<PricedEdit>) -> Self
         ensures { result ≡ list.items }
     {
         PricedEdits { list }
     }
 
-    /// No edits.
+    /// Returns the empty list.
     pub fn none(alloc: Global) -> Self
         ensures { result ≡ [] }
     {
@@ -74,21 +74,21 @@ impl PricedEdits {
         }
     }
 
-    /// Adds an edit with its price.
+    /// Appends an edit with its price.
     pub fn push(&mut self, priced: &PricedEdit) -> Result<(), NoMemory>
         ensures { OnOk result (self.new ≡ self.old ++ priced.now ∷ []) }
     {
         add(&mut self.list, priced)
     }
 
-    /// The list.
+    /// Returns the list.
     pub fn as_slice(&self) -> &[PricedEdit]
         ensures { result.now ≡ self.now }
     {
         self.list.as_slice()
     }
 
-    /// The same edits.
+    /// Returns an equal list.
     pub(crate) fn copy(&self) -> Result<Self, NoMemory>
         ensures { IfOk result (λ edits. edits ≡ self.now) }
     {
@@ -96,7 +96,7 @@ impl PricedEdits {
         Ok(PricedEdits { list })
     }
 
-    /// Whether these are the same edits with the same prices.
+    /// Returns whether the edits and their prices are equal.
     pub(crate) fn is_same(&self, other: &PricedEdits) -> bool
         ensures { IsTrue result ↔ (self.now ≡ other.now) }
     {

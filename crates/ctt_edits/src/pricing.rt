@@ -1,4 +1,4 @@
-//! What an edit would add to the penalty.
+//! The price of an edit: what it would add to the penalty.
 
 ghost use Rattle.std.specs.Prelude.{◌≡◌};
 ghost use Rattle.ctt_edits.specs.Edits.{EditFits};
@@ -9,8 +9,8 @@ use crate::edit::Edit;
 use crate::fault::EditFault;
 use ctt_board::Sheet;
 
-/// The penalty after an edit minus the penalty before it, or the first fault that holds. It takes
-/// no memory.
+/// Returns the penalty after an edit minus the penalty before it, or the first fault of the edit.
+/// Allocates nothing.
 pub fn price<'i, S: Sheet<'i>>(sheet: &S, edit: &Edit) -> Result<i64, EditFault>
     requires { EditFits (S.problem sheet.now) edit.now }
     ensures { result ≡ priced (S.problem sheet.now) (S.list sheet.now) edit.now }

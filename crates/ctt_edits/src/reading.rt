@@ -1,4 +1,4 @@
-//! The rows that calls read: each call marks its own.
+//! The rows that calls read, as marks on courses and slots.
 
 ghost use Rattle.std.specs.Prelude.{◌≡◌, ◌<◌, ◌≤◌, ◌==◌, ◌||◌, ◌∷◌, [], ℕ, true, IfOk};
 ghost use Rattle.std.specs.List.{list_any, AllByRecursion as Each};
@@ -35,7 +35,7 @@ fn mark_slot(instance: &Instance, slot: SlotNo, marks: &mut Marks)
     marks.mark(slot.get() as usize);
 }
 
-/// Marks some courses.
+/// Marks these courses.
 pub(crate) fn mark_courses(instance: &Instance, courses: &[CourseNo], marks: &mut Marks)
     requires { Each (λ c. c < course_count instance.now) courses.now }
     ensures { (n : ℕ) → is_marked marks.new n ≡ (is_marked marks.old n || has n courses.now) }
@@ -280,7 +280,7 @@ pub(crate) fn mark_reads(instance: &Instance, call: &Call, courses: &mut Marks, 
     }
 }
 
-/// The rows that a call reads, ascending, each once.
+/// Returns the rows that a call reads, ascending, each once.
 pub fn reads(alloc: Global, instance: &Instance, call: &Call) -> Result<Vec<Row>, NoMemory>
     requires { CallFits instance.now call.now }
     ensures { IfOk result (λ rows. rows.items ≡ reads instance.now call.now) }

@@ -1,4 +1,4 @@
-//! What a planner is told.
+//! Replies to edits and looks.
 
 ghost use Rattle.std.specs.Prelude.{◌≡◌, ◌↔◌, IfOk, IsTrue};
 ghost use Rattle.std.specs.List.{AllByRecursion as Each};
@@ -12,27 +12,27 @@ use crate::shortfall::{Shortfall, Shortfalls};
 use ctt_rules::Cost;
 use ctt_text::{Instance, NoMemory, Placed};
 
-/// The answer to an edit or a look.
+/// The reply to an edit or a look.
 #[derive(Drop)]
 pub enum Reply {
-    /// The edit is made.
+    /// The edit was made.
     Done,
-    /// The edit is not made, or has no price.
+    /// The edit was not made, has no price, or is a pattern whose edits are all refused.
     Refused(EditFault),
-    /// The lectures that were asked for, by course and slot.
+    /// The lectures requested, by course and slot.
     Lectures(Lectures),
-    /// The costs that were asked for.
+    /// The costs requested.
     Costs(Cost),
     /// What the edit would add to the penalty.
     Price(i64),
-    /// The courses of which lectures are missing, ascending.
+    /// The courses with missing lectures, ascending.
     Missing(Shortfalls),
-    /// The edits that were asked for, the cheapest first.
+    /// The edits requested, the cheapest first.
     Edits(PricedEdits),
 }
 
 impl Reply {
-    /// An equal reply.
+    /// Returns an equal reply.
     pub fn copy(&self) -> Result<Reply, NoMemory>
         ensures { IfOk result (λ reply. reply ≡ self.now) }
     {
@@ -47,7 +47,7 @@ impl Reply {
         }
     }
 
-    /// Whether it is the same reply.
+    /// Returns whether the replies are equal.
     pub fn is_same(&self, other: &Reply) -> bool
         ensures { IsTrue result ↔ (self.now ≡ other.now) }
     {
@@ -63,8 +63,8 @@ impl Reply {
         }
     }
 
-    /// Whether its numbers are those of the instance, and each cost, and a price without its sign, is
-    /// at most 9,223,372,036,854,775,807.
+    /// Returns whether its numbers are those of the instance, each cost and each absolute price is
+    /// at most 9,223,372,036,854,775,807, and at most 999,999,999 lectures of a course are missing.
     pub fn fits(&self, instance: &Instance) -> bool
         ensures { IsTrue result ↔ ReplyFits instance.now self.now }
     {
@@ -80,32 +80,32 @@ impl Reply {
     }
 }
 
-/// The greatest amount that a reply may tell.
+/// The maximum of a cost or an absolute price in a reply: 2^63 - 1.
 pub(crate) const GREATEST: u64 = 9_223_372_036_854_775_807;
 
-/// Whether all lectures are of the instance.
+/// Returns whether all lectures are of the instance.
 fn all_fit(instance: &Instance, lectures: &[Placed]) -> bool
     ensures { IsTrue result ↔ Each (Fits instance.now) lectures.now }
 {
     lectures.iter().all(|lecture| lecture.fits(instance))
 }
 
-/// Whether all courses are of the instance, and at most 999,999,999 lectures of each are missing.
+/// Returns whether all courses are of the instance, and at most 999,999,999 lectures of each are
+/// missing.
 fn shortfalls_fit(instance: &Instance, courses: &[Shortfall]) -> bool
     ensures { IsTrue result ↔ Each (ShortfallFits instance.now) courses.now }
 {
     courses.iter().all(|short| short.fits(instance))
 }
 
-/// Whether all edits are of the instance, and no price without its sign is above the greatest
-/// amount.
+/// Returns whether all edits are of the instance, and no absolute price is above the maximum.
 fn priced_fit(instance: &Instance, edits: &[PricedEdit]) -> bool
     ensures { IsTrue result ↔ Each (PricedFits instance.now) edits.now }
 {
     edits.iter().all(|priced| priced.fits(instance))
 }
 
-/// Whether each of the four costs is at most the greatest amount.
+/// Returns whether each of the four costs is at most the maximum.
 fn cost_fits(cost: &Cost) -> bool
     ensures { IsTrue result ↔ CostFits cost.now }
 {

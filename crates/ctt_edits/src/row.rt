@@ -1,4 +1,4 @@
-//! The rows of a timetable, which calls read.
+//! The rows of a timetable, the units in which calls read it.
 
 ghost use Rattle.std.specs.Prelude.{◌↔◌, IsTrue};
 ghost use Rattle.ctt_edits.specs.Calls.{RowBefore};
@@ -15,7 +15,7 @@ pub enum Row {
 }
 
 impl Row {
-    /// Whether it comes before another row.
+    /// Returns whether it comes before another row.
     pub fn is_before(self, other: Row) -> bool
         ensures { IsTrue result ↔ RowBefore self other }
     {

@@ -1,4 +1,4 @@
-//! The rows that some calls read, as one value.
+//! The set of rows that some calls read.
 
 ghost use Rattle.std.specs.Prelude.{◌≡◌, ◌≤◌, ◌++◌, map, false, IfOk, OnOk};
 ghost use Rattle.ctt_text.specs.Lists.{below};
@@ -15,7 +15,7 @@ use ctt_text::{CourseNo, Instance, Marks, NoMemory, SlotNo};
 use std::alloc::Global;
 use std::marker::Model;
 
-/// A set of rows: those that the calls read which were added to it. It takes no memory.
+/// A set of rows: those read by the calls that were added to it. Allocates nothing.
 #[derive(Drop)]
 pub struct RowsRead {
     courses: Marks,
@@ -31,7 +31,7 @@ impl Model for RowsRead {
 }
 
 impl RowsRead {
-    /// No rows.
+    /// Returns the empty set.
     pub fn new() -> Self
         ensures { (row : _) → is_in result row ≡ false }
     {
@@ -49,7 +49,7 @@ impl RowsRead {
         mark_reads(instance, call, &mut self.courses, &mut self.slots);
     }
 
-    /// Whether a row is one of them.
+    /// Returns whether a row is in the set.
     pub fn contains(&self, row: Row) -> bool
         ensures { result ≡ is_in self.now row }
     {
@@ -59,7 +59,7 @@ impl RowsRead {
         }
     }
 
-    /// The first course of the instance from a number on whose row is one of them.
+    /// Returns the first course of the instance, from a number on, whose row is in the set.
     pub fn next_course(&self, instance: &Instance, from: u16) -> Option<CourseNo>
         ensures { IsLeast (between from (course_count instance.now) (has_course self.now)) result }
     {
@@ -67,7 +67,7 @@ impl RowsRead {
         Some(CourseNo::new(number))
     }
 
-    /// The first slot of the instance from a number on whose row is one of them.
+    /// Returns the first slot of the instance, from a number on, whose row is in the set.
     pub fn next_slot(&self, instance: &Instance, from: u16) -> Option<SlotNo>
         ensures { IsLeast (between from (slot_count instance.now) (has_slot self.now)) result }
     {
@@ -75,7 +75,7 @@ impl RowsRead {
         Some(SlotNo::new(number))
     }
 
-    /// The rows, ascending, each once. The instance is the one of the calls.
+    /// Returns the rows of the instance in the set, ascending, each once.
     pub fn list(&self, alloc: Global, instance: &Instance) -> Result<Vec<Row>, NoMemory>
         ensures { IfOk result (λ rows. rows.items ≡ rows_of instance.now self.now) }
     {
@@ -85,7 +85,7 @@ impl RowsRead {
         Ok(rows)
     }
 
-    /// Adds the rows of courses to a list.
+    /// Appends the rows of courses to a list.
     fn list_courses(&self, instance: &Instance, rows: &mut Vec<Row>) -> Result<(), NoMemory>
         ensures { OnOk result (rows.new.items
             ≡ rows.old.items
@@ -100,7 +100,7 @@ impl RowsRead {
         Ok(())
     }
 
-    /// Adds the rows of slots to a list.
+    /// Appends the rows of slots to a list.
     fn list_slots(&self, instance: &Instance, rows: &mut Vec<Row>) -> Result<(), NoMemory>
         ensures { OnOk result (rows.new.items
             ≡ rows.old.items ++ map SlotRow (below (has_slot self.now) (slot_count instance.now))) }
@@ -115,7 +115,7 @@ impl RowsRead {
     }
 }
 
-/// The first marked number from a number on, and below another one.
+/// Returns the first marked number that is at least `from` and below `end`.
 pub(crate) fn next_marked(marks: &Marks, from: u16, end: u16) -> Option<u16>
     requires { end ≤ 2000 }
     ensures { IsLeast (between from end (is_marked marks.now)) result }

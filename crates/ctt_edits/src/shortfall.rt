@@ -1,4 +1,4 @@
-//! Courses of which lectures are missing.
+//! Courses with missing lectures.
 
 ghost use Rattle.std.specs.Prelude.{◌≡◌, ◌↔◌, IfOk, IsTrue};
 ghost use Rattle.ctt_edits.specs.Fitting.{ShortfallFits};
@@ -6,7 +6,7 @@ ghost use Rattle.ctt_edits.specs.Fitting.{ShortfallFits};
 use ctt_text::{CourseNo, Instance, NoMemory};
 use std::marker::Model;
 
-/// A course with fewer lectures placed than it has.
+/// A course with missing lectures.
 #[derive(Clone, Copy, PartialEq, Eq)]
 pub struct Shortfall {
     /// The course.
@@ -16,7 +16,8 @@ pub struct Shortfall {
 }
 
 impl Shortfall {
-    /// Whether its course is one of the instance, and at most 999,999,999 lectures are missing.
+    /// Returns whether its course is one of the instance, and at most 999,999,999 lectures are
+    /// missing.
     pub fn fits(&self, instance: &Instance) -> bool
         ensures { IsTrue result ↔ ShortfallFits instance.now self.now }
     {
@@ -24,12 +25,12 @@ impl Shortfall {
     }
 }
 
-/// A list of courses of which lectures are missing; contracts see the list.
+/// A list of courses with missing lectures; contracts see the list.
 pub struct Shortfalls {
     list: Vec<Shortfall>,
 }
 
-// A derived `Drop` is proved anew in each crate above.
+// Written by hand because a derived `Drop` is proved again in each dependent crate.
 impl Drop for Shortfalls {
     fn drop(self) {
         let Shortfalls { list: _ } = self;
@@ -46,21 +47,21 @@ impl Model for Shortfalls {
 }
 
 impl Shortfalls {
-    /// The courses of a list.
+    /// Returns the courses of a list.
     pub fn new(list: Vec<Shortfall>) -> Self
         ensures { result ≡ list.items }
     {
         Shortfalls { list }
     }
 
-    /// The list.
+    /// Returns the list.
     pub fn as_slice(&self) -> &[Shortfall]
         ensures { result.now ≡ self.now }
     {
         self.list.as_slice()
     }
 
-    /// The same courses.
+    /// Returns an equal list.
     pub(crate) fn copy(&self) -> Result<Self, NoMemory>
         ensures { IfOk result (λ courses. courses ≡ self.now) }
     {
@@ -68,7 +69,7 @@ impl Shortfalls {
         Ok(Shortfalls { list })
     }
 
-    /// Whether these are the same courses, with equally many lectures missing of each.
+    /// Returns whether the courses are equal, and as many lectures of each are missing.
     pub(crate) fn is_same(&self, other: &Shortfalls) -> bool
         ensures { IsTrue result ↔ (self.now ≡ other.now) }
     {

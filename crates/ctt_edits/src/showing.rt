@@ -1,4 +1,4 @@
-//! What a look shows.
+//! Replies to looks.
 
 ghost use Rattle.std.specs.Prelude.{◌≡◌, ◌<◌, IfOk, filter};
 ghost use Rattle.ctt_text.specs.Marks.{is_marked};
@@ -24,7 +24,7 @@ use ctt_rules::Cost;
 use ctt_text::{CourseNo, CurriculumNo, Marks, NoMemory, Placed, TeacherNo};
 use std::alloc::Global;
 
-/// The lectures of the courses that are marked, course by course.
+/// Returns the lectures of the marked courses, course by course.
 fn gather<'i, S: Sheet<'i>>(
     alloc: Global,
     sheet: &S,
@@ -44,7 +44,7 @@ fn gather<'i, S: Sheet<'i>>(
     Ok(list)
 }
 
-/// The lectures of a teacher's courses.
+/// Returns the lectures of a teacher's courses.
 fn teacher_row<'i, S: Sheet<'i>>(
     alloc: Global,
     sheet: &S,
@@ -60,7 +60,7 @@ fn teacher_row<'i, S: Sheet<'i>>(
     gather(alloc, sheet, &courses)
 }
 
-/// The lectures of a curriculum's members.
+/// Returns the lectures of a curriculum's members.
 fn curriculum_row<'i, S: Sheet<'i>>(
     alloc: Global,
     sheet: &S,
@@ -77,7 +77,7 @@ fn curriculum_row<'i, S: Sheet<'i>>(
     gather(alloc, sheet, &courses)
 }
 
-/// What a course costs by itself.
+/// Returns the costs of a course by itself, without compactness.
 fn own_cost<'i, S: Sheet<'i>>(sheet: &S, course: CourseNo) -> Result<Cost, NoMemory>
     requires { course < course_count (S.problem sheet.now) }
     ensures { IfOk result (λ cost.
@@ -88,7 +88,7 @@ fn own_cost<'i, S: Sheet<'i>>(sheet: &S, course: CourseNo) -> Result<Cost, NoMem
     Ok(ctt_rules::course_cost(sheet.instance(), row.as_slice(), course))
 }
 
-/// The price of an edit, or its fault.
+/// Returns the price of an edit, or its first fault.
 fn price_reply<'i, S: Sheet<'i>>(sheet: &S, edit: &Edit) -> Reply
     requires { EditFits (S.problem sheet.now) edit.now }
     ensures { result ≡ told_or (edit_fault (S.problem sheet.now) (S.list sheet.now) edit.now)
@@ -100,7 +100,7 @@ fn price_reply<'i, S: Sheet<'i>>(sheet: &S, edit: &Edit) -> Reply
     }
 }
 
-/// The cheapest edits of a pattern, or its fault.
+/// Returns the cheapest edits of a pattern, or its fault.
 fn cheapest_reply<'i, S: Sheet<'i>>(
     alloc: Global,
     sheet: &S,
@@ -118,7 +118,7 @@ fn cheapest_reply<'i, S: Sheet<'i>>(
     Ok(Reply::Edits(cheapest(alloc, sheet, count, pattern)?))
 }
 
-/// What a look shows.
+/// Returns the reply to a look.
 pub fn look<'i, S: Sheet<'i>>(alloc: Global, sheet: &S, look: &Look) -> Result<Reply, NoMemory>
     requires { LookFits (S.problem sheet.now) look.now }
     ensures { IfOk result (λ reply.
