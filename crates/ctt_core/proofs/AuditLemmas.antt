@@ -1,4 +1,4 @@
--- Drafts that are run anew, call by call and entry by entry.
+-- Rerunning drafts, call by call and entry by entry.
 use Rattle.std.proofs.Common.{◌≡◌, ℕ, zero, suc, ◌+◌, ◌<◌, List, [], ◌∷◌, ◌++◌, Option, Some, None, length, refl, Result, Ok, Err, ◌∙◌, sym, ap, ap₂, subst, get_or, take, drop, arith}
 use Rattle.std.proofs.lemmas.List.{map-append, length-take-le, take-append-drop}
 use Rattle.std.specs.Prelude.{IfOk}
@@ -19,7 +19,7 @@ use Rattle.ctt_core.specs.declared.auditing.Verdict.TheVariants.{Agrees, BadOpen
 use Rattle.ctt_core.specs.declared.journal.JournalEntry.{JournalEntry}
 use Rattle.ctt_core.proofs.RunLemmas.{Legal-push, after-push, legal_joins}
 
--- a list at one of its elements
+-- a list split at one of its elements
 left_at : {X : Type 0} (xs : List X) (k : ℕ) (x : X) → k < length xs → x ≡ get_or xs k x → drop k xs ≡ x ∷ drop (k + 1) xs
 left_at [] k x lt is = absurd (omega (arith, lt))
 left_at (y ∷ ys) zero x lt is = ap (λ z. z ∷ ys) (sym is)
@@ -42,7 +42,7 @@ one_more (y ∷ ys) (suc k) x lt is = rw (behind k) (ap (λ zs. y ∷ zs) (one_m
 counted : {X : Type 0} (xs : List X) (k : ℕ) → k < length xs → k + 1 ≡ length (take k xs) + 1
 counted xs k lt = ap (λ n. n + 1) (sym (length-take-le k xs (omega (arith, lt))))
 
--- the first calls were told on t what they are told there, and leave u
+-- the loop invariant: the recorded replies of the first k calls agree on t, and these calls leave u
 pub record Running (i j : Problem) (t u : List Placed) (asked : List Asked) (k : ℕ) : Type 0 where
   pub same : j ≡ i
   pub told : Replayed i t u (take k asked) None
@@ -51,7 +51,7 @@ module _ (i j : Problem) (t u : List Placed) (asked : List Asked) (k : ℕ) (r :
   here : reply j u x.call ≡ reply i (whole i t (calls_of (take k asked))) x.call
   here = ap₂ (λ p w. reply p w x.call) r.same r.told.1
 
-  -- the next one is told the same
+  -- the next recorded reply agrees
   pub running_more : (l : Problem) (v : List Placed) → l ≡ j → v ≡ after_call j u x.call → told ≡ x.reply → Running i l t v asked (k + 1)
   running_more l v still left same = record {
     same = still ∙ r.same;
@@ -64,7 +64,7 @@ module _ (i j : Problem) (t u : List Placed) (asked : List Asked) (k : ℕ) (r :
     );
   }
 
-  -- or something else
+  -- the next recorded reply differs
   pub running_differs : (told ≡ x.reply → ⊥) → DiffersIn i t asked (k + 1)
   running_differs other = record {
     earlier = take k asked;
@@ -76,14 +76,14 @@ module _ (i j : Problem) (t u : List Placed) (asked : List Asked) (k : ℕ) (r :
     other = λ e. other (tells ∙ here ∙ sym e);
   }
 
--- the first entries are legal on t, and leave u
+-- the loop invariant: the first k entries are legal on t, and leave u
 pub record Hearing (i j : Problem) (t u : List Placed) (entries : List JournalEntry) (k : ℕ) : Type 0 where
   pub same : j ≡ i
   pub legal : Legal i t (take k entries)
   pub left : u ≡ after i t (take k entries)
 
 module _ (i j : Problem) (t u v : List Placed) (entries : List JournalEntry) (k : ℕ) (r : Hearing i j t u entries k) (e : JournalEntry) (lt : k < length entries) (at : e ≡ get_or entries k e) where
-  -- the next one is told the same
+  -- the recorded replies of the next entry agree
   pub hearing_more : (l : Problem) (differs : Option ℕ) → l ≡ j → Replayed j u v e.asked differs → differs ≡ None → Hearing i l t v entries (k + 1)
   hearing_more l differs still run none =
       let is : Replayed i (after i t (take k entries)) v e.asked None = subst (λ p. Replayed p (after i t (take k entries)) v e.asked None) r.same (subst (λ w. Replayed j w v e.asked None) r.left (subst (Replayed j u v e.asked) none run)) in
@@ -94,7 +94,7 @@ module _ (i j : Problem) (t u v : List Placed) (entries : List JournalEntry) (k 
         left = is.1 ∙ sym (after-push i t (take k entries) e) ∙ ap (after i t) (sym longer);
       }
 
-  -- or something else
+  -- a recorded reply of the next entry differs
   pub hearing_differs : (differs : Option ℕ) (call : ℕ) → Replayed j u v e.asked differs → differs ≡ Some call → DiffersAt i t entries (k + 1) call
   hearing_differs differs call run some =
       let is : DiffersIn i (after i t (take k entries)) e.asked call = subst (λ p. DiffersIn p (after i t (take k entries)) e.asked call) r.same (subst (λ w. DiffersIn j w e.asked call) r.left (subst (Replayed j u v e.asked) some run)) in
@@ -108,7 +108,7 @@ module _ (i j : Problem) (t u v : List Placed) (entries : List JournalEntry) (k 
         differs = is;
       }
 
--- where the entries are legal nothing differs
+-- if the entries are legal, no reply differs
 head_told : (i : Problem) (t : List Placed) (earlier later : List Asked) (this : Asked) → replies_in (earlier ++ this ∷ later) ≡ replies i t (calls_of (earlier ++ this ∷ later)) → this.reply ≡ reply i (whole i t (calls_of earlier)) this.call
 head_told i t [] later this e = cc
 head_told i t (x ∷ xs) later this e =

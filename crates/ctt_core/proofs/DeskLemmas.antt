@@ -1,4 +1,4 @@
--- A desk that keeps values answers as its run says.
+-- A desk that answers from its stored state answers as its run requires.
 use Rattle.std.proofs.Common.{◌≡◌, ℕ, ◌+◌, ◌-◌, ◌≤◌, ◌<◌, Bool, true, false, cond, ◌==◌, List, [], ◌∷◌, ◌++◌, take, set, Option, Some, None, refl, ◌∙◌, sym, ap, ap₂, subst, length, length-set, arith, inl, inr, append-nil, take_all}
 use Rattle.std.proofs.lemmas.Bool.{cases_eq, eq-eqb, ne_eqb}
 use Rattle.std.proofs.lemmas.List.{take-append-le, get_or-set_same, get_or-set_other}
@@ -22,7 +22,7 @@ use Rattle.ctt_core.specs.Desks.{OpenValue, DeskValue, draft_at, kept, StandsAt,
 use Rattle.ctt_core.specs.Laws.{Stands, Serial, DeskIsPlain, DeskIsSerial}
 use Rattle.ctt_core.proofs.RunLemmas.{Good, GoodDraft, right_is_good, after-push, headline}
 
--- the answers
+-- the desk's answers are those of the reference desk
 to_open_is : (i : Problem) (t0 : List Placed) (h : List JournalEntry) (o : Option OpenDraft) → to_open (kept i t0 h o) ≡ open_answer o
 to_open_is i t0 h None = refl
 to_open_is i t0 h (Some d) = refl
@@ -61,12 +61,12 @@ answer_is v past (Refresh p) n s = ap (to_refresh v) (s.drafts p) ∙ to_refresh
 answer_is v past (Abandon p) n s = ap to_abandon (s.drafts p) ∙ to_abandon_is v.problem v.opening (accepted_of past) (draft p past)
 answer_is v past (Show look) n s = ap (λ list. Replied (shown v.problem list look)) s.list
 
--- a kept draft does not feel the history grow
+-- a stored draft is unchanged when the history grows
 kept_grown : (i : Problem) (t0 : List Placed) (h more : List JournalEntry) (o : Option OpenDraft) → GoodDraft i t0 h o → kept i t0 (h ++ more) o ≡ kept i t0 h o
 kept_grown i t0 h more None g = refl
 kept_grown i t0 h more (Some d) g = let lt : d.count ≤ length h = g.0 in rw take-append-le refl
 
--- a turn that enters nothing
+-- a turn that adds no entry
 stays : (v : DeskValue) (past : List Turn) (event : Event) (answer : Answer) (drafts : List (Option OpenValue)) → entered event answer past ≡ [] → StandsAt v past →
     ((p : ℕ) → draft_at drafts p ≡ kept v.problem v.opening (accepted_of past) (turned p (commits past) event answer (draft p past))) → StandsAt (record v { drafts = drafts }) (record { event = event; answer = answer } ∷ past)
 stays v past event answer drafts none s each =
@@ -77,7 +77,7 @@ stays v past event answer drafts none s each =
       drafts = λ p. each p ∙ ap (λ h. kept v.problem v.opening h (turned p (commits past) event answer (draft p past))) (sym same);
     }
 
--- one draft is another, and the others stay
+-- one draft is replaced, and the others are unchanged
 one_draft : (p q : ℕ) (new : Option OpenValue) (old : List (Option OpenValue)) (mine other : Option OpenValue) → p < length old → new ≡ mine → draft_at old q ≡ other → draft_at (set old p new) q ≡ cond (q == p) mine other
 one_draft p q new old mine other lt e k = elim (cases_eq q p) [
   | inl same ↦ rw (eq-eqb q p same) (ap (draft_at (set old p new)) same ∙ get_or-set_same old p new None lt ∙ e)
@@ -88,13 +88,14 @@ kept_cond : (i : Problem) (t0 : List Placed) (h : List JournalEntry) (b : Bool) 
 kept_cond i t0 h true x y = refl
 kept_cond i t0 h false x y = refl
 
--- the draft of planner p is now the one that the run has, and the others are as they were
+-- the draft of planner p is now the one that the run has, and the others are unchanged
 turned_one : (v : DeskValue) (past : List Turn) (p q : ℕ) (new : Option OpenValue) (x : Option OpenDraft) → p < length v.drafts → StandsAt v past → new ≡ kept v.problem v.opening (accepted_of past) x → draft_at (set v.drafts p new) q ≡ kept v.problem v.opening (accepted_of past) (cond (q == p) x (draft q past))
 turned_one v past p q new x lt s e =
     one_draft p q new v.drafts (kept v.problem v.opening (accepted_of past) x) (kept v.problem v.opening (accepted_of past) (draft q past)) lt e (s.drafts q)
     ∙ kept_cond v.problem v.opening (accepted_of past) (q == p) x (draft q past)
 
--- a draft whose base is the timetable of the desk is one that comes behind all commits
+-- a draft whose snapshot is the desk's timetable is one that was opened or refreshed after all
+-- commits
 based : (v : DeskValue) (past : List Turn) (d : OpenDraft) → commits past ≡ length (accepted_of past) → StandsAt v past → d.count ≡ commits past → Some (record { since = length v.journal; draft = record { problem = v.problem; base = v.list; asked = d.asked } }) ≡ kept v.problem v.opening (accepted_of past) (Some d)
 based v past d n s e =
     let full : take d.count (accepted_of past) ≡ accepted_of past = take_all d.count (accepted_of past) (omega (arith, n, e)) in
@@ -309,7 +310,7 @@ desk_is_plain v past event answer l st f a =
     at_now v past event answer f g s is (inl e) = subst (λ a. StandsAt (goes_on v event a) (record { event = event; answer = a } ∷ past)) (sym (e ∙ is)) (plain_goes v past event f g s)
     at_now v past event answer f g s is (inr m) = subst (λ a. StandsAt (goes_on v event a) (record { event = event; answer = a } ∷ past)) (sym m.0) (no_memory_goes v past event s)
 
--- a desk that stands at a run is what the headline says
+-- a desk in the state of a correct run has the properties that the headline states
 pub desk_is_serial : DeskIsSerial
 desk_is_serial v past l st =
     let both : Legal v.problem v.opening (accepted_of past) × Lawful v.problem (now v.problem v.opening past) = headline v.problem v.opening (length v.drafts) past l st.fit st.right in

@@ -1,4 +1,4 @@
--- The journal of a right run: it fits, is short where the run is, and an audit of it agrees.
+-- The journal of a correct run: it fits, is short if the run is, and an audit of it agrees.
 use Rattle.std.proofs.Common.{◌≡◌, ℕ, ◌+◌, ◌<◌, ◌≤◌, Bool, true, false, cond, ◌==◌, List, [], ◌∷◌, ◌++◌, length, Option, Some, None, refl, sym, subst, arith, inl, inr, length-append, append-nil, add-one}
 use Rattle.std.specs.Prelude.{IfSome}
 use Rattle.std.specs.List.{AllByRecursion as Each}
@@ -36,7 +36,8 @@ abbrev pub FitsShort : Problem → Asked → Type 0
 FitsShort i a = AskedFits i a × IsShortReply a.reply
 
 module _ (i : Problem) (is : IsProblem i) where
-  -- calls with the replies that they get on a lawful timetable
+  -- calls that fit, with the replies that they get on a lawful timetable, fit and have short
+  -- replies
   asked_fit : (t : List Placed) (asked : List Asked) → Lawful i t → Each (CallFits i) (calls_of asked) → replies_in asked ≡ replies i t (calls_of asked) → Each (FitsShort i) asked
   asked_fit t [] lawful fit told = tt
   asked_fit t (a ∷ more) lawful fit told =
@@ -45,7 +46,7 @@ module _ (i : Problem) (is : IsProblem i) where
       let written : IsReply i a.reply = subst (IsReply i) (sym first) (replies_fit i t a.call is lawful fit.0) in
       (((fit.0, written.0), written.1), asked_fit (after_call i t a.call) more (lawful_after_call i t a.call lawful fit.0) fit.1 rest)
 
-  -- so each of them fits
+  -- each call of a draft fits with its reply
   pub told_fit : (t : List Placed) (asked : List Asked) → Lawful i t → IsTold i t asked → Each (AskedFits i) asked
   told_fit t asked lawful is = Each-map (FitsShort i) (AskedFits i) (λ a f. f.0) asked (asked_fit t asked lawful is.fit is.told)
 
@@ -83,7 +84,7 @@ one_of m false o u h k = k
 small_more : (n m : ℕ) (h : List JournalEntry) → Each (IsSmallEntry n m) h → Each (IsSmallEntry n (m + 1)) h
 small_more n m h each = Each-map (IsSmallEntry n m) (IsSmallEntry n (m + 1)) (λ e f. (f.0, omega (arith, f.1))) h each
 
--- a turn that enters nothing
+-- a turn that adds no entry
 small_kept : (n m : ℕ) (h : List JournalEntry) (old new : ℕ → Option OpenDraft) → AreSmall n m h old → ((p : ℕ) → IsSmallDraft (m + 1) (new p)) → AreSmall n (m + 1) (h ++ []) new
 small_kept n m h old new s each = record { entries = rw append-nil (small_more n m h s.entries); open_drafts = each }
 
@@ -92,7 +93,7 @@ entry_small n m q None lt h = tt
 entry_small n m q (Some d) lt h = ((lt, omega (arith, h)), tt)
 
 module _ (i : Problem) (t0 : List Placed) (n m : ℕ) (past : List Turn) (s : AreSmall n m (accepted_of past) (λ p. draft p past)) where
-  -- what a turn leaves
+  -- the bounds after a turn
   abbrev Leaves : Event → Answer → Type 0
   Leaves event answer = AreSmall n (m + 1) (accepted_of past ++ entered event answer past) (λ p. turned p (commits past) event answer (draft p past))
 
@@ -190,7 +191,7 @@ pub few_commits : (past : List Turn) → commits past ≤ length past
 few_commits [] = omega arith
 few_commits (turn ∷ past) = omega (arith, few_commits past, one_commit turn.answer)
 
--- the entries of a right run fit
+-- the entries of a correct run fit
 entries_fit : (i : Problem) (n : ℕ) (h : List JournalEntry) → n ≤ 1000 → (m : ℕ) → Each (IsSmallEntry n m) h → Each (λ (e : JournalEntry). Each (FitsShort i) e.asked) h → Each (EntryFits i) h
 entries_fit i n [] few m small told = tt
 entries_fit i n (e ∷ es) few m small told = ((omega (arith, few, small.0.0), Each-map (FitsShort i) (AskedFits i) (λ a f. f.0) e.asked told.0), entries_fit i n es few m small.1 told.1)
@@ -200,7 +201,7 @@ journal_fits i t0 n past is lawful fit right few =
     let g : Good i t0 (accepted_of past) (commits past) (λ p. draft p past) = right_is_good i t0 n past lawful fit right in
     entries_fit i n (accepted_of past) few (length past) (all_small i t0 n past fit right).entries (history_fits i is t0 (accepted_of past) lawful g.fit g.legal)
 
--- the journal of a desk that stands at a right run
+-- the journal of a desk in the state of a correct run
 pub journal_agrees : JournalAgrees
 journal_agrees v past is lawful few st =
     let s : Serial v past = desk_is_serial v past lawful st in

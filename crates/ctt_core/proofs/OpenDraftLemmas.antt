@@ -1,4 +1,4 @@
--- The drafts of a run are what its events and answers say.
+-- The drafts of a run are those that follow from its lists of events and answers.
 use Rattle.std.proofs.Common.{◌≡◌, ◌⊎◌, ℕ, ◌+◌, ◌==◌, ◌||◌, Bool, true, false, cond, List, [], ◌∷◌, ◌++◌, length, Option, Some, None, refl, ◌∙◌, sym, ap, ap₂, subst, arith, inl, inr, append-nil, append_assoc, length-append, true≢false}
 use Rattle.std.proofs.lemmas.Bool.{cases_Bool}
 use Rattle.std.specs.List.{AllByRecursion as Each}
@@ -11,7 +11,7 @@ use Rattle.ctt_core.specs.declared.journal.JournalEntry.{JournalEntry}
 use Rattle.ctt_core.specs.Runs.{Turn, answered, OpenDraft, begin, turned, is_commit, commits, draft, entry, entered, accepted_of, onto}
 use Rattle.ctt_core.specs.OpenDrafts.{turns, is_opening, is_ending, is_renewal, takes_base, call_in, asked_in, NoneIn, LastOf, HasOpen, Enters, AreEntered, DraftsAreTold, AcceptedAreTold}
 
--- of a list and one more
+-- a property of all elements of a list and of one more
 pub Each-more : {X : Type 0} (P : X → Type 0) (xs : List X) (x : X) → Each P xs → P x → Each P (xs ++ x ∷ [])
 Each-more P [] x h p = (p, tt)
 Each-more P (y ∷ ys) x h p = (h.0, Each-more P ys x h.1 p)
@@ -20,7 +20,7 @@ pub Each-less : {X : Type 0} (P : X → Type 0) (xs : List X) (x : X) → Each P
 Each-less P [] x h = (tt, h.0)
 Each-less P (y ∷ ys) x h = (let rest = Each-less P ys x h.1 in ((h.0, rest.0), rest.1))
 
--- what becomes of a draft in a turn that neither begins nor ends it
+-- a draft after a turn that neither opens nor ends it
 abbrev pub goes_on : ℕ → ℕ → Event → Answer → Option OpenDraft → Option OpenDraft
 goes_on p n e a None = None
 goes_on p n e a (Some d) = Some (record { count = cond (is_renewal p e a) n d.count; asked = d.asked ++ call_in p e a })
@@ -59,14 +59,14 @@ turned_is p n (Abandon q) Abandoned (Some d) = ap (cond (p == q) None) (same_dra
 turned_is p n _ _ None = refl
 turned_is p n _ _ (Some d) = same_draft d
 
--- the kinds of turns that take a base
+-- the kinds of turns that take a snapshot
 opening_takes : (p : ℕ) (x : Turn) → is_opening p x.event x.answer ≡ true → takes_base p x.event x.answer ≡ true
 opening_takes p x y = ap (λ b. b || is_renewal p x.event x.answer) y
 
 takes_as_renewal : (p : ℕ) (x : Turn) → is_opening p x.event x.answer ≡ false → takes_base p x.event x.answer ≡ is_renewal p x.event x.answer
 takes_as_renewal p x n = ap (λ b. b || is_renewal p x.event x.answer) n
 
--- a run in the order of its turns
+-- the turns of a run, oldest first
 abbrev pub in_order : List Turn → List Turn
 in_order [] = []
 in_order (x ∷ past) = in_order past ++ x ∷ []
@@ -88,7 +88,7 @@ asked_more : (p : ℕ) (run : List Turn) (x : Turn) → asked_in p (run ++ x ∷
 asked_more p [] x = append-nil (call_in p x.event x.answer)
 asked_more p (y ∷ run) x = ap (λ xs. call_in p y.event y.answer ++ xs) (asked_more p run x) ∙ sym (append_assoc (call_in p y.event y.answer) (asked_in p run) (call_in p x.event x.answer))
 
--- the last of turns
+-- a run is empty, or ends in a last turn
 ends_in : (run : List Turn) → (run ≡ []) ⊎ ((rest : List Turn) × (x : Turn) × (run ≡ rest ++ x ∷ []))
 ends_in [] = inl refl
 ends_in (y ∷ run) = elim (ends_in run) [
@@ -107,7 +107,7 @@ same_ends (a ∷ xs) (b ∷ ys) x y e =
     (ap₂ (λ c cs. c ∷ cs) first rest.0, rest.1)
 
 module _ (kind : Event → Answer → Bool) where
-  -- the last turn of a kind, of a run with one turn more
+  -- the last turn of a kind, in a run with one more turn
   abbrev pub here : (run : List Turn) (x : Turn) → kind x.event x.answer ≡ true → LastOf kind (run ++ x ∷ [])
   here run x y = record { before = run; turn = x; behind = []; split = refl; of_kind = y; last = tt }
 
@@ -135,7 +135,7 @@ module _ (kind : Event → Answer → Bool) where
     ]
   ]
 
-  -- it is the turn more, or that of the run before
+  -- the last turn of a kind is the added turn, or that of the shorter run
   pub record IsHere (run : List Turn) (x : Turn) (l : LastOf kind (run ++ x ∷ [])) : Type 0 where
     pub of_kind : kind x.event x.answer ≡ true
     pub before : l.before ≡ run
@@ -161,7 +161,7 @@ module _ (kind : Event → Answer → Bool) where
         }))
   ]
 
--- the draft that is kept is told, turn by turn
+-- the stored draft is the one that follows from the turns
 module _ (p : ℕ) (past : List Turn) (x : Turn) where
   went_on : (d : OpenDraft) (b : Bool) → is_renewal p x.event x.answer ≡ b → is_opening p x.event x.answer ≡ false → is_ending p x.event x.answer ≡ false → HasOpen p (in_order past) d →
       HasOpen p (in_order past ++ x ∷ []) (record { count = cond b (commits past) d.count; asked = d.asked ++ call_in p x.event x.answer })
@@ -197,7 +197,7 @@ module _ (p : ℕ) (past : List Turn) (x : Turn) where
       let is : record { count = cond (is_renewal p x.event x.answer) (commits past) b.count; asked = b.asked ++ call_in p x.event x.answer } ≡ d = cc in
       subst (HasOpen p (in_order past ++ x ∷ [])) is (went_on b (is_renewal p x.event x.answer) refl y n (told b refl))
 
-  -- and the one that is told is kept
+  -- the draft that follows from the turns is the stored one
   kept_on : (d b : OpenDraft) → is_opening p x.event x.answer ≡ false → is_ending p x.event x.answer ≡ false → draft p past ≡ Some b → d.asked ≡ b.asked ++ call_in p x.event x.answer → d.count ≡ cond (is_renewal p x.event x.answer) (commits past) b.count → draft p (x ∷ past) ≡ Some d
   kept_on d b opens ends is asked count =
       turned_is p (commits past) x.event x.answer (draft p past)
@@ -247,7 +247,7 @@ drafts_are_told p es answers d =
     let same : in_order (onto [] es answers) ≡ turns es answers = onto_turns [] es answers in
     (λ e. subst (λ run. HasOpen p run d) same (is_told p (onto [] es answers) d e), λ h. is_kept p (onto [] es answers) d (subst (λ run. HasOpen p run d) (sym same) h))
 
--- and its history is what they enter
+-- the accepted history is what the turns add
 none_some : (d : OpenDraft) → None ≡ Some d → ⊥
 none_some d e = cc
 

@@ -1,11 +1,11 @@
--- A desk that begins: its opening, and its planners.
+-- A new desk: its opening, and its planners.
 use Rattle.std.proofs.Common.{◌≡◌, ℕ, zero, suc, ◌+◌, List, drop, [], ◌∷◌, ◌++◌, Option, None, refl}
 use Rattle.ctt_text.specs.Problem.{Problem}
 use Rattle.ctt_text.specs.declared.placed.Placed.{Placed}
 use Rattle.ctt_core.specs.Desks.{OpenValue, draft_at}
 use Rattle.ctt_edits.specs.Openings.{opening, placed_on}
 
--- lectures are being placed: the first ones of the list are, and t is their timetable
+-- the loop invariant of placing lectures: the first `at` are placed, and t is their timetable
 pub record Placing (i j : Problem) (ls t : List Placed) (at : ℕ) : Type 0 where
   pub same : j ≡ i
   pub rest : opening i ls ≡ placed_on i t (at + 1) (drop at ls)

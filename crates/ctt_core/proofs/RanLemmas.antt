@@ -9,7 +9,8 @@ use Rattle.ctt_core.specs.Laws.{Stands}
 use Rattle.ctt_core.specs.declared.event.Event.{Event}
 use Rattle.ctt_core.specs.declared.answer.Answer.{Answer}
 
--- the desk w is where the desk v comes by these answers to the events done; there is room for the answers to all
+-- the loop invariant: the desk v becomes w by these answers to the events done; there is capacity
+-- for the answers to all
 pub record Ran (v w : DeskValue) (all done : List Event) (answers : List Answer) (capacity : ℕ) : Type 0 where
   pub same : SameDesk v w
   pub counted : length answers ≡ length done
@@ -22,13 +23,13 @@ onto-push past [] (b ∷ ns) e a n = absurd (omega (arith, n))
 onto-push past (x ∷ es) [] e a n = absurd (omega (arith, n))
 onto-push past (x ∷ es) (b ∷ ns) e a n = onto-push (record { event = x; answer = b } ∷ past) es ns e a (omega (arith, n))
 
--- the next event fits the desk where it is by now
+-- the next event fits the desk in its present state
 pub next_fits : (v w : DeskValue) (events : List Event) (k : ℕ) (x : Event) → SameDesk v w → Each (EventFits v.problem (length v.drafts)) events → k < length events → x ≡ get_or events k x → EventFits w.problem (length w.drafts) x
 next_fits v w events k x same fit lt is =
     let f : EventFits v.problem (length v.drafts) x = subst (EventFits v.problem (length v.drafts)) (sym is) (Each-at (EventFits v.problem (length v.drafts)) events fit k x lt) in
     subst (λ i. EventFits i (length w.drafts) x) (sym same.problem) (subst (λ n. EventFits v.problem n x) (sym same.planners) f)
 
--- one more event, which is answered
+-- one more event is answered
 pub ran_more : (v w u : DeskValue) (events : List Event) (k : ℕ) (answers more : List Answer) (capacity room : ℕ) (x : Event) (a : Answer) → Ran v w events (take k events) answers capacity → k < length events → x ≡ get_or events k x → SameDesk w u →
     ((past : List Turn) → Stands w past → Stands u (record { event = x; answer = a } ∷ past)) → more ≡ answers ++ a ∷ [] → capacity ≤ room → Ran v u events (take (k + 1) events) more room
 ran_more v w u events k answers more capacity room x a r lt is same step longer grown =

@@ -1,4 +1,4 @@
--- The accepted history of a right run is legal.
+-- The accepted history of a correct run is legal.
 use Rattle.std.proofs.Common.{◌≡◌, ℕ, zero, suc, ◌+◌, ◌-◌, ◌≤◌, Bool, true, false, cond, ◌==◌, List, [], ◌∷◌, ◌++◌, take, Option, Some, None, refl, ◌∙◌, sym, ap, ap₂, subst, length, arith, inl, inr, append-nil, length-append, take_all}
 use Rattle.std.specs.List.{AllByRecursion as Each}
 use Rattle.std.proofs.lemmas.Bool.{cases_Bool, eqb-true}
@@ -58,7 +58,7 @@ Legal-push i t h e l k = (legal_joins i t h (e ∷ [])).1 (l, (k, tt))
 pub after-push : (i : Problem) (t : List Placed) (h : List JournalEntry) (e : JournalEntry) → after i t (h ++ e ∷ []) ≡ whole i (after i t h) (calls_of e.asked)
 after-push i t h e = after_joins i t h (e ∷ [])
 
--- an open draft was told what it is told on its base
+-- the replies in an open draft are those that its calls get on its snapshot
 abbrev pub GoodDraft : Problem → List Placed → List JournalEntry → Option OpenDraft → Type 0
 GoodDraft i t0 h None = Unit {0}
 GoodDraft i t0 h (Some d) = (d.count ≤ length h) × (replies_in d.asked ≡ replies i (after i t0 (take d.count h)) (calls_of d.asked)) × Each (CallFits i) (calls_of d.asked)
@@ -79,14 +79,14 @@ asked_more i t0 h d call f g =
       subst (Each (CallFits i)) (sym calls) (Each-join (CallFits i) (calls_of d.asked) (call ∷ []) g.2 (f, tt)),
     )
 
--- what holds after each right run
+-- what holds after each correct run
 pub record Good (i : Problem) (t0 : List Placed) (h : List JournalEntry) (n : ℕ) (drafts : ℕ → Option OpenDraft) : Type 0 where
   pub legal : Legal i t0 h
   pub fit : Each (CallsFit i) h
   pub counted : n ≡ length h
   pub good : (p : ℕ) → GoodDraft i t0 h (drafts p)
 
--- a turn that enters nothing
+-- a turn that adds no entry
 kept : (i : Problem) (t0 : List Placed) (h : List JournalEntry) (n : ℕ) (old new : ℕ → Option OpenDraft) → Good i t0 h n old → ((p : ℕ) → GoodDraft i t0 h (new p)) → Good i t0 (h ++ []) (n + 0) new
 kept i t0 h n old new g each = record {
   legal = rw append-nil g.legal;
@@ -95,11 +95,11 @@ kept i t0 h n old new g each = record {
   good = λ p. rw append-nil (each p);
 }
 
--- the draft of q where p is q
+-- the draft of q, if p equals q
 own : (drafts : ℕ → Option OpenDraft) (p q : ℕ) → (p == q) ≡ true → drafts p ≡ drafts q
 own drafts p q e = ap drafts (eqb-true p q e)
 
--- the turns, by what the draft of the planner is
+-- the turns, by whether the planner has an open draft
 open_turn : (i : Problem) (t0 : List Placed) (past : List Turn) (q : ℕ) (o : Option OpenDraft) → Good i t0 (accepted_of past) (commits past) (λ p. draft p past) → (p : ℕ) → GoodDraft i t0 (accepted_of past) (turned p (commits past) (Open q) (open_answer o) (draft p past))
 open_turn i t0 past q (Some d) g p = g.good p
 open_turn i t0 past q None g p = elim (cases_Bool (p == q)) [
@@ -124,7 +124,7 @@ abandon_turn : (i : Problem) (t0 : List Placed) (past : List Turn) (q : ℕ) (o 
 abandon_turn i t0 past q None g p = g.good p
 abandon_turn i t0 past q (Some d) g p = ended i t0 (accepted_of past) (p == q) (draft p past) (g.good p)
 
--- a commit, by its draft and by what is stale
+-- a commit, by its draft and by whether that is stale
 commit_turn : (i : Problem) (t0 : List Placed) (past : List Turn) (q : ℕ) (d : OpenDraft) (o : Option Row) → draft q past ≡ Some d → stale i (base i t0 past d) (now i t0 past) (calls_of d.asked) ≡ o → Lawful i t0 →
     Good i t0 (accepted_of past) (commits past) (λ p. draft p past) → Good i t0 (accepted_of past ++ entered (Commit q) (acceptance (commits past + 1) o) past) (commits past + is_commit (acceptance (commits past + 1) o)) (λ p. turned p (commits past) (Commit q) (acceptance (commits past + 1) o) (draft p past))
 commit_turn i t0 past q d (Some row) e s l g = kept i t0 (accepted_of past) (commits past) (λ p. draft p past) (λ p. turned p (commits past) (Commit q) (Stale row) (draft p past)) g (λ p. ended i t0 (accepted_of past) (p == q) (draft p past) (g.good p))
@@ -146,7 +146,7 @@ commit_any : (i : Problem) (t0 : List Placed) (past : List Turn) (q : ℕ) (o : 
 commit_any i t0 past q None e l g = kept i t0 (accepted_of past) (commits past) (λ p. draft p past) (λ p. draft p past) g g.good
 commit_any i t0 past q (Some d) e l g = commit_turn i t0 past q d (stale i (base i t0 past d) (now i t0 past) (calls_of d.asked)) e refl l g
 
--- a draft that is brought up to date was told what it is told on the timetable as it stands
+-- the replies in a refreshed draft are those that its calls get on the present timetable
 renewed : (i : Problem) (t0 : List Placed) (past : List Turn) (d : OpenDraft) → Lawful i t0 → stale i (base i t0 past d) (now i t0 past) (calls_of d.asked) ≡ None → Good i t0 (accepted_of past) (commits past) (λ p. draft p past) →
     GoodDraft i t0 (accepted_of past) (Some d) → GoodDraft i t0 (accepted_of past) (renew (commits past) (Some d))
 renewed i t0 past d l s g mine =
@@ -170,7 +170,7 @@ refresh_any : (i : Problem) (t0 : List Placed) (past : List Turn) (q : ℕ) (o :
 refresh_any i t0 past q None e l g p = g.good p
 refresh_any i t0 past q (Some d) e l g p = refresh_turn i t0 past q d (stale i (base i t0 past d) (now i t0 past) (calls_of d.asked)) e refl l g p
 
--- no answer but Committed counts or enters anything
+-- only the answer Committed counts as a commit or adds an entry
 open_counts : (o : Option OpenDraft) → is_commit (open_answer o) ≡ 0
 open_counts None = refl
 open_counts (Some d) = refl
@@ -235,7 +235,7 @@ headline i t0 n past l f r =
     let g : Good i t0 (accepted_of past) (commits past) (λ p. draft p past) = right_is_good i t0 n past l f r in
     (g.legal, lawful_after i t0 (accepted_of past) l g.fit)
 
--- a commit behind a turn that neither counts nor enters anything
+-- a commit after a turn that neither counts as a commit nor adds an entry
 foretold : (i : Problem) (t0 : List Placed) (past : List Turn) (turn : Turn) (s : Standing) (o : Option OpenDraft) → accepted_of (turn ∷ past) ≡ accepted_of past → commits (turn ∷ past) ≡ commits past → status_answer i t0 past o ≡ Draft s → commit_answer i t0 (turn ∷ past) o ≡ acceptance (commits past + 1) s.stale
 foretold i t0 past turn s None same counted e = cc
 foretold i t0 past turn s (Some d) same counted e =

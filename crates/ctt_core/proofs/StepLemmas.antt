@@ -10,7 +10,7 @@ use Rattle.ctt_core.specs.Desks.{OpenValue, DeskValue, draft_at, IsFresh}
 some_of : (i : Problem) (o : Option OpenValue) (d : OpenValue) → IfSome o (λ d. d.draft.problem ≡ i) → o ≡ Some d → d.draft.problem ≡ i
 some_of i o d h e = subst (λ o. IfSome o (λ d. d.draft.problem ≡ i)) e h
 
--- what is read at a planner's place is his draft
+-- the value read at a planner's index is that planner's draft
 pub draft_read : (drafts : List (Option OpenValue)) (v : DeskValue) (p k : ℕ) (got : Option OpenValue) → drafts ≡ v.drafts → p < length v.drafts → k ≡ p → got ≡ get_or drafts k got → got ≡ draft_at drafts p
 draft_read drafts v p k got same lt at is =
     is ∙ ap (λ n. get_or drafts n got) at ∙ get_or_default drafts p got None (subst (λ ds. p < length ds) (sym same) lt)

@@ -1,4 +1,5 @@
--- A desk by its value: what it keeps, its answers, and how it goes on. It knows no run; a law says that it answers as the run says.
+-- The value of a desk: its state, its answers and its next state, none of which depends on a run; a
+-- law says that the answers are those of the reference desk.
 use Rattle.std.specs.Prelude.{ℕ, ◌+◌, ◌-◌, ◌^◌, ◌<◌, ◌≡◌, ◌⊎◌, true, List, [], ◌∷◌, ◌++◌, length, take, Option, Some, None, slice_index_or, slice_set, IfSome}
 use Rattle.ctt_text.specs.Problem.{Problem}
 use Rattle.ctt_text.specs.declared.placed.Placed.{Placed}
@@ -18,12 +19,13 @@ use Rattle.ctt_core.specs.declared.answer.Answer.TheVariants.{Opened, AlreadyOpe
 use Rattle.ctt_core.specs.declared.journal.JournalEntry.{JournalEntry}
 use Rattle.ctt_core.specs.Runs.{after, Turn, OpenDraft, draft, accepted_of, now, acceptance, renewal, may_want}
 
--- an open draft, and how many drafts had been accepted when its base was taken
+-- an open draft, and how many drafts had been accepted when its snapshot was taken
 pub record OpenValue : Type 0 where
   pub since : ℕ
   pub draft : DraftValue
 
--- the opening timetable, the present one, the accepted drafts, and the open draft of each planner
+-- a desk: the opening timetable, the present one, the accepted drafts, and the open draft of each
+-- planner
 pub record DeskValue : Type 0 where
   pub problem : Problem
   pub opening : List Placed
@@ -31,37 +33,42 @@ pub record DeskValue : Type 0 where
   pub journal : List JournalEntry
   pub drafts : List (Option OpenValue)
 
+-- the open draft of planner p, if any
 abbrev pub draft_at : List (Option OpenValue) → ℕ → Option OpenValue
 draft_at drafts p = slice_index_or drafts p None
 
--- an open draft of a run, with its base
+-- what a desk stores of a run's open draft: with its snapshot, which is the timetable after the
+-- first d.count commits
 abbrev pub kept : Problem → List Placed → List JournalEntry → Option OpenDraft → Option OpenValue
 kept i t0 h None = None
 kept i t0 h (Some d) = Some (record { since = d.count; draft = record { problem = i; base = after i t0 (take d.count h); asked = d.asked } })
 
--- the desk stands where the run leaves it
+-- the desk is in the state that the run leads to
 pub record StandsAt (v : DeskValue) (past : List Turn) : Type 0 where
   pub list : v.list ≡ now v.problem v.opening past
   pub journal : v.journal ≡ accepted_of past
   pub drafts : (p : ℕ) → draft_at v.drafts p ≡ kept v.problem v.opening (accepted_of past) (draft p past)
 
--- a desk's answers to an event, by what it keeps
+-- the desk's answer to an open, given the planner's open draft, if any
 abbrev pub to_open : Option OpenValue → Answer
 to_open None = Opened
 to_open (Some d) = AlreadyOpen
 
+-- the answer to a call
 abbrev pub to_ask : Call → Option OpenValue → Answer
 to_ask call None = NoDraft
 to_ask call (Some d) = Replied (reply d.draft.problem (present d.draft) call)
 
+-- the answer to a look at the draft
 abbrev pub to_peek : Look → Option OpenValue → Answer
 to_peek look None = NoDraft
 to_peek look (Some d) = Replied (shown d.draft.problem (present d.draft) look)
 
--- the row by which a draft is stale on the timetable as it stands
+-- the row that makes a draft stale on the desk's timetable, if any
 abbrev pub stale_row : DeskValue → DraftValue → Option Row
 stale_row v d = stale d.problem d.base v.list (calls_of d.asked)
 
+-- the answer to a status
 abbrev pub to_status : DeskValue → Option OpenValue → Answer
 to_status v None = NoDraft
 to_status v (Some d) = Draft (record {
@@ -70,18 +77,22 @@ to_status v (Some d) = Draft (record {
   stale = stale_row v d.draft;
 })
 
+-- the answer to a commit
 abbrev pub to_commit : DeskValue → Option OpenValue → Answer
 to_commit v None = NoDraft
 to_commit v (Some d) = acceptance (length v.journal + 1) (stale_row v d.draft)
 
+-- the answer to a refresh
 abbrev pub to_refresh : DeskValue → Option OpenValue → Answer
 to_refresh v None = NoDraft
 to_refresh v (Some d) = renewal (stale_row v d.draft)
 
+-- the answer to an abandon
 abbrev pub to_abandon : Option OpenValue → Answer
 to_abandon None = NoDraft
 to_abandon (Some d) = Abandoned
 
+-- the desk's answer to an event, if memory does not run out
 abbrev pub answer_of : DeskValue → Event → Answer
 answer_of v (Open p) = to_open (draft_at v.drafts p)
 answer_of v (Ask p call) = to_ask call (draft_at v.drafts p)
@@ -92,15 +103,16 @@ answer_of v (Refresh p) = to_refresh v (draft_at v.drafts p)
 answer_of v (Abandon p) = to_abandon (draft_at v.drafts p)
 answer_of v (Show look) = Replied (shown v.problem v.list look)
 
--- the desk with another draft of planner p
+-- the desk with d as the open draft of planner p
 abbrev pub with_draft : ℕ → Option OpenValue → DeskValue → DeskValue
 with_draft p d v = record v { drafts = slice_set v.drafts p d }
 
+-- the open draft, if any, with one more call
 abbrev pub with_call : Call → Reply → Option OpenValue → Option OpenValue
 with_call call told None = None
 with_call call told (Some d) = Some (record { since = d.since; draft = asked_more d.draft call told })
 
--- a draft with the timetable of the desk as its base
+-- the open draft, if any, with the desk's timetable as its snapshot
 abbrev pub with_base : DeskValue → Option OpenValue → Option OpenValue
 with_base v None = None
 with_base v (Some d) = Some (record { since = length v.journal; draft = refreshed d.draft v.list None })
@@ -116,7 +128,7 @@ settled p v (Some d) = record {
   drafts = slice_set v.drafts p None;
 }
 
--- what an answered event makes of the desk
+-- the next state of the desk, after an event with this answer
 abbrev pub goes_on : DeskValue → Event → Answer → DeskValue
 goes_on v (Open p) Opened = with_draft p (Some (record { since = length v.journal; draft = record { problem = v.problem; base = v.list; asked = [] } })) v
 goes_on v (Ask p call) (Replied told) = with_draft p (with_call call told (draft_at v.drafts p)) v
@@ -127,23 +139,24 @@ goes_on v (Refresh p) (Stale row) = with_draft p None v
 goes_on v (Abandon p) Abandoned = with_draft p None v
 goes_on v _ _ = v
 
--- the answer of a desk, or want of memory where it may come
+-- the answer is that of the desk, or out of memory if that may happen
 abbrev pub IsAnswerTo : DeskValue → Event → Answer → Type 0
 IsAnswerTo v event answer = (answer ≡ answer_of v event) ⊎ ((answer ≡ NoMemory) × (may_want event (answer_of v event) ≡ true))
 
--- what a desk keeps to: its timetable and its open drafts are of its instance, and its opening is lawful
+-- the invariant of a desk: its timetable and its open drafts are of its instance, its opening is
+-- lawful, and it has fewer than 2^16 planners
 pub record IsDesk (i sheet_problem : Problem) (opening : List Placed) (drafts : List (Option OpenValue)) : Type 0 where
   pub same : sheet_problem ≡ i
   pub opening_lawful : Lawful i opening
   pub few : length drafts < 2 ^ 16
   pub drafts_of : (p : ℕ) → IfSome (draft_at drafts p) (λ d. d.draft.problem ≡ i)
 
--- there is a draft, which can be settled
+-- there is a draft, and it can be settled on the desk's timetable
 abbrev pub IsFresh : DeskValue → Option OpenValue → Type 0
 IsFresh v None = ⊥
 IsFresh v (Some d) = Settles d.draft v.list
 
--- of one instance, one opening and as many planners
+-- the desks have the same instance, the same opening and the same number of planners
 pub record SameDesk (v w : DeskValue) : Type 0 where
   pub problem : w.problem ≡ v.problem
   pub opening : w.opening ≡ v.opening

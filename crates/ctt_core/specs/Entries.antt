@@ -5,6 +5,6 @@ use Rattle.ctt_text.specs.Problem.{Problem}
 use Rattle.ctt_draft.specs.Drafts.{AskedFits}
 use Rattle.ctt_core.specs.declared.journal.JournalEntry.{JournalEntry}
 
--- its planner is one of 1,000, and its calls and replies fit
+-- the planner's number is below 1,000, and the calls and replies fit
 abbrev pub EntryFits : Problem → JournalEntry → Type 0
 EntryFits i e = (e.planner < 1000) × Each (AskedFits i) e.asked

@@ -1,4 +1,4 @@
--- What layers above rest on.
+-- The laws of desks that the layers above rely on.
 use Rattle.std.specs.Prelude.{ℕ, ◌+◌, ◌≡◌, ◌≤◌, ◌↔◌, List, ◌∷◌, ◌++◌, length, Ok}
 use Rattle.std.specs.List.{AllByRecursion as Each}
 use Rattle.ctt_text.specs.Problem.{Problem, IsProblem}
@@ -18,51 +18,58 @@ use Rattle.ctt_core.specs.declared.auditing.Verdict.{Verdict}
 use Rattle.ctt_core.specs.declared.auditing.Verdict.TheVariants.{Agrees}
 use Rattle.ctt_core.specs.declared.journal.JournalEntry.{JournalEntry}
 
--- whatever the planners' steps: the accepted history is legal, and the timetable after it is lawful
+-- after any correct run of events that fit, the accepted history is legal, and the timetable is
+-- lawful
 abbrev pub Headline : Type 0
 Headline = (i : Problem) (t0 : List Placed) (n : ℕ) (past : List Turn) → Lawful i t0 → RunFits i n past → Right i t0 past → Legal i t0 (accepted_of past) × Lawful i (now i t0 past)
 
--- the desk stands at a right run of events that fit
+-- the desk is in the state that a correct run of events that fit leads to
 pub record Stands (v : DeskValue) (past : List Turn) : Type 0 where
   pub fit : RunFits v.problem (length v.drafts) past
   pub right : Right v.problem v.opening past
   pub at : StandsAt v past
 
--- a desk that stands at a right run gives the answers of a plain desk, and goes on to stand at the longer run
+-- a desk in the state of a correct run gives the answers of the reference desk, and moves to the
+-- state of the longer run
 abbrev pub DeskIsPlain : Type 0
 DeskIsPlain = (v : DeskValue) (past : List Turn) (event : Event) (answer : Answer) → Lawful v.problem v.opening → Stands v past → EventFits v.problem (length v.drafts) event → IsAnswerTo v event answer → Stands (goes_on v event answer) (answered event answer ∷ past)
 
--- of a desk that stands at a right run: its journal is the accepted history, which is legal; its timetable is the opening after the journal, and lawful
+-- the journal is the run's accepted history, which is legal; the timetable is the opening with the
+-- journal applied, and lawful
 pub record Serial (v : DeskValue) (past : List Turn) : Type 0 where
   pub journal : v.journal ≡ accepted_of past
   pub legal : Legal v.problem v.opening v.journal
   pub list : v.list ≡ after v.problem v.opening v.journal
   pub lawful : Lawful v.problem v.list
 
+-- this holds of a desk in the state of a correct run
 abbrev pub DeskIsSerial : Type 0
 DeskIsSerial = (v : DeskValue) (past : List Turn) → Lawful v.problem v.opening → Stands v past → Serial v past
 
--- the journal of a desk can be audited on lectures that make its opening, and what is found of it is that it agrees
+-- the entries of the desk's journal fit, and an audit of it on lectures that make the opening has
+-- the verdict `Agrees` and no other
 pub record IsVouched (v : DeskValue) : Type 0 where
   pub fits : Each (EntryFits v.problem) v.journal
   pub agrees : (lectures : List Placed) (verdict : Verdict) → opening v.problem lectures ≡ Ok v.opening → IsVerdict v.problem lectures v.journal verdict ↔ (verdict ≡ Agrees)
 
--- of a desk that stands at a right run of at most 1,000 planners: its own journal fits and agrees
+-- this holds of a desk of at most 1,000 planners in the state of a correct run
 abbrev pub JournalAgrees : Type 0
 JournalAgrees = (v : DeskValue) (past : List Turn) → IsProblem v.problem → Lawful v.problem v.opening → length v.drafts ≤ 1000 → Stands v past → IsVouched v
 
--- a commit that comes right after a status is answered by the row that the status names
+-- the right answer to a commit directly after a status: stale by the row that the status reported,
+-- or accepted if it reported none
 abbrev pub StatusForetells : Type 0
 StatusForetells = (i : Problem) (t0 : List Placed) (past : List Turn) (p : ℕ) (s : Standing) → plain i t0 past (Status p) ≡ Draft s → plain i t0 (answered (Status p) (Draft s) ∷ past) (Commit p) ≡ acceptance (commits past + 1) s.stale
 
--- a run of events after events is the run of all
+-- adding events to a run, and then more events, is adding all of them
 abbrev pub OntoJoins : Type 0
 OntoJoins = (past : List Turn) (es more : List Event) (answers later : List Answer) → length es ≡ length answers → onto (onto past es answers) more later ≡ onto past (es ++ more) (answers ++ later)
 
--- the timetable after two histories, one after the other, is the one after the second on the one after the first
+-- two histories, one after the other, leave what the second leaves on the timetable after the first
 abbrev pub AfterJoins : Type 0
 AfterJoins = (i : Problem) (t : List Placed) (h more : List JournalEntry) → after i t (h ++ more) ≡ after i (after i t h) more
 
--- and they are legal together exactly where the first is, and the second is on the timetable after the first
+-- two histories are legal together if and only if the first is legal, and the second is legal on
+-- the timetable after the first
 abbrev pub LegalJoins : Type 0
 LegalJoins = (i : Problem) (t : List Placed) (h more : List JournalEntry) → Legal i t (h ++ more) ↔ (Legal i t h × Legal i (after i t h) more)

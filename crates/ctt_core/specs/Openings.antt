@@ -9,12 +9,12 @@ use Rattle.ctt_edits.specs.declared.fault.EditFault.{EditFault}
 use Rattle.ctt_core.specs.declared.desk_fault.DeskFault.{DeskFault}
 use Rattle.ctt_core.specs.declared.desk_fault.DeskFault.TheVariants.{Unlawful, NoMemory}
 
--- the first lecture that cannot be placed, with its fault; memory may be wanted at any time
+-- the first lecture that cannot be placed, with its fault; memory may run out at any time
 abbrev pub IsOpeningFault : Problem → List Placed → DeskFault → Type 0
 IsOpeningFault i ls (Unlawful at f) = opening i ls ≡ Err (at, f)
 IsOpeningFault i ls NoMemory = Unit {0}
 
--- the lecture was placed, or there was a fault
+-- the timetable u is t with the lecture placed, or t if there was a fault
 abbrev pub IsPlaced : List Placed → List Placed → Placed → Option EditFault → Type 0
 IsPlaced t u l None = u ≡ edited t (Place l.course l.slot l.room)
 IsPlaced t u l (Some f) = u ≡ t

@@ -1,4 +1,5 @@
--- Runs of many planners: their drafts, the accepted history, and the answers of a plain desk.
+-- Runs of many planners: their drafts, the accepted history, and the answers of the reference desk
+-- (`plain`), which define correctness.
 use Rattle.std.specs.Prelude.{ℕ, ◌+◌, ◌-◌, ◌<◌, ◌≡◌, ◌⊎◌, Bool, true, false, cond, List, [], ◌∷◌, ◌++◌, length, take, ◌==◌, Option, Some, None}
 use Rattle.std.specs.List.{AllByRecursion as Each}
 use Rattle.ctt_text.specs.Problem.{Problem}
@@ -17,26 +18,27 @@ use Rattle.ctt_core.specs.declared.answer.Answer.{Answer}
 use Rattle.ctt_core.specs.declared.answer.Answer.TheVariants.{Opened, AlreadyOpen, NoDraft, Replied, Draft, Committed, Refreshed, Stale, Abandoned, NoMemory}
 use Rattle.ctt_core.specs.declared.journal.JournalEntry.{JournalEntry}
 
--- the timetable after a history of drafts, each run whole, one after another
+-- the timetable after a history of drafts, each run without interruption, one after another
 abbrev pub after : Problem → List Placed → List JournalEntry → List Placed
 after i t [] = t
 after i t (e ∷ es) = after i (whole i t (calls_of e.asked)) es
 
--- each entry was told what it is told at its place in the history
+-- each recorded reply is the one that its call gets at its place in the history
 abbrev pub Legal : Problem → List Placed → List JournalEntry → Type 0
 Legal i t [] = Unit {0}
 Legal i t (e ∷ es) = (replies_in e.asked ≡ replies i t (calls_of e.asked)) × Legal i (whole i t (calls_of e.asked)) es
 
--- an event with its answer. A run is a list of turns, the newest first
+-- an event with its answer; a run is a list of turns, newest first
 pub record Turn : Type 0 where
   pub event : Event
   pub answer : Answer
 
--- the turn in which the event was answered so
+-- the turn with this event and this answer
 abbrev pub answered : Event → Answer → Turn
 answered event answer = record { event = event; answer = answer }
 
--- a draft that is open: how many commits came before it, or before it was last refreshed, and what was asked in it
+-- an open draft: the number of commits accepted before it was opened or last refreshed, and its
+-- calls with their replies
 pub record OpenDraft : Type 0 where
   pub count : ℕ
   pub asked : List Asked
@@ -46,16 +48,17 @@ abbrev pub ask : Call → Reply → Option OpenDraft → Option OpenDraft
 ask call told None = None
 ask call told (Some d) = Some (record { count = d.count; asked = d.asked ++ record { call = call; reply = told } ∷ [] })
 
--- a draft that is opened behind so many commits
+-- a draft that is opened after this many accepted commits
 abbrev pub begin : ℕ → Option OpenDraft
 begin count = Some (record { count = count; asked = [] })
 
--- the draft, if there is one, brought up to date behind so many commits
+-- the draft, if there is one, refreshed after this many accepted commits
 abbrev pub renew : ℕ → Option OpenDraft → Option OpenDraft
 renew count None = None
 renew count (Some d) = Some (record { count = count; asked = d.asked })
 
--- what a turn makes of the draft d of planner p; count is how many commits came before the turn
+-- the draft of planner p after a turn, if it was d before; count is the number of commits accepted
+-- before the turn
 abbrev pub turned : ℕ → ℕ → Event → Answer → Option OpenDraft → Option OpenDraft
 turned p count (Open q) Opened d = cond (p == q) (begin count) d
 turned p count (Ask q call) (Replied told) d = cond (p == q) (ask call told d) d
@@ -81,11 +84,12 @@ abbrev pub draft : ℕ → List Turn → Option OpenDraft
 draft p [] = None
 draft p (turn ∷ past) = turned p (commits past) turn.event turn.answer (draft p past)
 
--- the entry of an open draft, and what a turn enters into the history: the draft that it commits
+-- the journal entry of an open draft, if there is one
 abbrev pub entry : ℕ → Option OpenDraft → List JournalEntry
 entry p None = []
 entry p (Some d) = record { planner = p; asked = d.asked } ∷ []
 
+-- the entry that a turn adds to the history, if it is an accepted commit
 abbrev pub entered : Event → Answer → List Turn → List JournalEntry
 entered (Commit p) (Committed n) past = entry p (draft p past)
 entered _ _ past = []
@@ -95,29 +99,32 @@ abbrev pub accepted_of : List Turn → List JournalEntry
 accepted_of [] = []
 accepted_of (turn ∷ past) = accepted_of past ++ entered turn.event turn.answer past
 
--- the timetable as it stands, and as it stood when a draft was opened, or last refreshed
+-- the present timetable
 abbrev pub now : Problem → List Placed → List Turn → List Placed
 now i t0 past = after i t0 (accepted_of past)
 
+-- the snapshot of a draft: the timetable when it was opened or last refreshed
 abbrev pub base : Problem → List Placed → List Turn → OpenDraft → List Placed
 base i t0 past d = after i t0 (take d.count (accepted_of past))
 
--- the answers of a plain desk, by the draft that the planner has open: to an open ..
+-- the reference desk's answer to an open, given the planner's open draft, if any
 abbrev pub open_answer : Option OpenDraft → Answer
 open_answer None = Opened
 open_answer (Some d) = AlreadyOpen
 
--- .. to a call: what it is told at the end of the draft, on the base ..
+-- the answer to a call: its reply on the timetable that the draft leaves on its snapshot
 abbrev pub ask_answer : Problem → List Placed → List Turn → Call → Option OpenDraft → Answer
 ask_answer i t0 past call None = NoDraft
 ask_answer i t0 past call (Some d) = Replied (reply i (whole i (base i t0 past d) (calls_of d.asked)) call)
 
--- .. to a look at the draft: what it shows at the end of the draft, on the base ..
+-- the answer to a look at the draft: what it shows on the timetable that the draft leaves on its
+-- snapshot
 abbrev pub peek_answer : Problem → List Placed → List Turn → Look → Option OpenDraft → Answer
 peek_answer i t0 past look None = NoDraft
 peek_answer i t0 past look (Some d) = Replied (shown i (whole i (base i t0 past d) (calls_of d.asked)) look)
 
--- .. to a status: how many edits were accepted in the draft, how many drafts since its base, and the row by which a commit would now be refused ..
+-- the answer to a status: the number of edits accepted in the draft, the number of drafts accepted
+-- since its snapshot, and the row for which a commit would now be refused, if any
 abbrev pub status_answer : Problem → List Placed → List Turn → Option OpenDraft → Answer
 status_answer i t0 past None = NoDraft
 status_answer i t0 past (Some d) = Draft (record {
@@ -126,30 +133,32 @@ status_answer i t0 past (Some d) = Draft (record {
   stale = stale i (base i t0 past d) (now i t0 past) (calls_of d.asked);
 })
 
--- .. to a commit: the number of accepted drafts, or the stale row ..
+-- the result of a commit: the number of accepted drafts, or the stale row
 abbrev pub acceptance : ℕ → Option Row → Answer
 acceptance n None = Committed n
 acceptance n (Some row) = Stale row
 
+-- the answer to a commit
 abbrev pub commit_answer : Problem → List Placed → List Turn → Option OpenDraft → Answer
 commit_answer i t0 past None = NoDraft
 commit_answer i t0 past (Some d) = acceptance (commits past + 1) (stale i (base i t0 past d) (now i t0 past) (calls_of d.asked))
 
--- .. to a refresh: that the draft is up to date, or the stale row ..
+-- the result of a refresh: that the draft is up to date, or the stale row
 abbrev pub renewal : Option Row → Answer
 renewal None = Refreshed
 renewal (Some row) = Stale row
 
+-- the answer to a refresh
 abbrev pub refresh_answer : Problem → List Placed → List Turn → Option OpenDraft → Answer
 refresh_answer i t0 past None = NoDraft
 refresh_answer i t0 past (Some d) = renewal (stale i (base i t0 past d) (now i t0 past) (calls_of d.asked))
 
--- .. and to an abandon
+-- the answer to an abandon
 abbrev pub abandon_answer : Option OpenDraft → Answer
 abandon_answer None = NoDraft
 abandon_answer (Some d) = Abandoned
 
--- what a plain desk answers, which keeps the past alone
+-- the answer of the reference desk, which depends on the past turns alone
 abbrev pub plain : Problem → List Placed → List Turn → Event → Answer
 plain i t0 past (Open p) = open_answer (draft p past)
 plain i t0 past (Ask p call) = ask_answer i t0 past call (draft p past)
@@ -160,7 +169,8 @@ plain i t0 past (Refresh p) = refresh_answer i t0 past (draft p past)
 plain i t0 past (Abandon p) = abandon_answer (draft p past)
 plain i t0 past (Show look) = Replied (shown i (now i t0 past) look)
 
--- whether memory may be wanted for an event that has this answer: never to say how a draft stands or to give it up, nor to say that there is one already, or none, or that it is stale
+-- whether memory may run out for an event with this answer: never for a status or an abandon, nor
+-- if the answer is that a draft is open already, that there is none, or that it is stale
 abbrev pub may_want : Event → Answer → Bool
 may_want (Status p) a = false
 may_want (Abandon p) a = false
@@ -169,16 +179,16 @@ may_want _ NoDraft = false
 may_want _ (Stale row) = false
 may_want _ _ = true
 
--- the answer is that of a plain desk, or want of memory where it may come
+-- the answer is that of the reference desk, or out of memory if that may happen
 abbrev pub IsRight : Problem → List Placed → List Turn → Event → Answer → Type 0
 IsRight i t0 past event answer = (answer ≡ plain i t0 past event) ⊎ ((answer ≡ NoMemory) × (may_want event (plain i t0 past event) ≡ true))
 
--- all answers of a run are right
+-- a correct run: all its answers are right
 abbrev pub Right : Problem → List Placed → List Turn → Type 0
 Right i t0 [] = Unit {0}
 Right i t0 (turn ∷ past) = IsRight i t0 past turn.event turn.answer × Right i t0 past
 
--- its numbers are those of the instance and of n planners
+-- the numbers in the event are valid for the instance and for n planners
 abbrev pub EventFits : Problem → ℕ → Event → Type 0
 EventFits i n (Open p) = p < n
 EventFits i n (Ask p call) = (p < n) × CallFits i call
@@ -193,7 +203,7 @@ EventFits i n (Show look) = LookFits i look
 abbrev pub RunFits : Problem → ℕ → List Turn → Type 0
 RunFits i n past = Each (λ (turn : Turn). EventFits i n turn.event) past
 
--- events and their answers, oldest first, put onto a run
+-- the run with more events and their answers, which are listed oldest first
 abbrev pub onto : List Turn → List Event → List Answer → List Turn
 onto past [] answers = past
 onto past (e ∷ es) [] = past

@@ -1,4 +1,4 @@
-//! What a desk answers.
+//! The answers of a desk.
 
 use crate::standing::Standing;
 use ctt_edits::{Reply, Row};
@@ -6,24 +6,24 @@ use ctt_edits::{Reply, Row};
 /// The answer to an event.
 #[derive(Drop)]
 pub enum Answer {
-    /// A draft is open.
+    /// A draft was opened.
     Opened,
     /// The planner has an open draft already.
     AlreadyOpen,
     /// The planner has no open draft.
     NoDraft,
-    /// What the call, or the look, was told.
+    /// The reply to the call or the look.
     Replied(Reply),
-    /// How the draft stands.
+    /// The status of the draft.
     Draft(Standing),
-    /// The draft was accepted: the number of drafts that are accepted by now.
+    /// The draft was accepted. The number is that of all drafts accepted so far, this one included.
     Committed(u64),
     /// The draft is up to date.
     Refreshed,
-    /// The draft was refused, since this row has changed; it has ended.
+    /// The draft was refused because this row has changed. It has ended.
     Stale(Row),
     /// The draft was given up.
     Abandoned,
-    /// There is not enough memory. Nothing was done.
+    /// Memory ran out. Nothing was done.
     NoMemory,
 }

@@ -1,4 +1,4 @@
-//! The audit of a journal: its drafts are run whole, one after another, and told anew.
+//! Auditing a journal: its drafts are rerun one after another, and their replies compared.
 
 ghost use Rattle.std.specs.Prelude.{◌≡◌, IfErr, IfOk, OnOk, OnErr, Ok, List};
 ghost use Rattle.std.specs.List.{AllByRecursion as Each};
@@ -24,24 +24,23 @@ use ctt_edits::{Call, Edit, EditFault, Reply, check};
 use ctt_text::{Instance, NoMemory, Placed};
 use std::alloc::Global;
 
-/// What an audit finds.
+/// The verdict of an audit.
 #[derive(Clone, Copy, PartialEq, Eq)]
 pub enum Verdict {
-    /// Each entry was told what it is told at its place.
+    /// Each reply is the one that its call gets at its place in the journal.
     Agrees,
-    /// The first lecture of the opening that cannot be placed, counted from 1, and what stands against
-    /// it.
+    /// The first lecture of the opening that cannot be placed, counted from 1, and the reason.
     BadOpening(u64, EditFault),
-    /// The first reply that is another one: its entry, and its call within the entry, counted from 1.
+    /// The first reply that differs: its entry, and its call within the entry, both counted from 1.
     Differs(u64, u64),
 }
 
 /// Why a journal leaves no timetable.
 #[derive(Clone, Copy, PartialEq, Eq)]
 pub enum NoList {
-    /// An audit finds this of it.
+    /// The verdict of an audit, which is not `Agrees`.
     Found(Verdict),
-    /// There is not enough memory.
+    /// Memory ran out.
     NoMemory,
 }
 
@@ -53,7 +52,7 @@ impl From<NoMemory> for NoList {
     }
 }
 
-/// Makes an edit, if nothing stands against it, and answers as a planner is told.
+/// Makes an edit, if it has no fault, and returns the reply that a planner would get.
 fn make<'i, S: Sheet<'i>>(sheet: &mut S, edit: &Edit) -> Reply
     requires { EditFits (S.problem sheet.old) edit.now }
     ensures told { result ≡ reply (S.problem sheet.old) (S.list sheet.old) (Edits edit.now) }
@@ -71,7 +70,7 @@ fn make<'i, S: Sheet<'i>>(sheet: &mut S, edit: &Edit) -> Reply
     }
 }
 
-/// Makes a call, and answers as a planner is told.
+/// Makes a call and returns the reply that a planner would get.
 fn answer<'i, S: Sheet<'i>>(alloc: Global, sheet: &mut S, call: &Call) -> Result<Reply, NoMemory>
     requires { CallFits (S.problem sheet.old) call.now }
     ensures told { IfOk result (λ told.
@@ -87,8 +86,8 @@ fn answer<'i, S: Sheet<'i>>(alloc: Global, sheet: &mut S, call: &Call) -> Result
     }
 }
 
-/// Makes calls on a sheet, up to the first that was told something else, of which the number is answered,
-/// from 1.
+/// Makes calls on a sheet until a reply differs from the recorded one, and returns the number of
+/// that call, counted from 1.
 fn run_calls<'i, S: Sheet<'i>>(
     alloc: Global,
     sheet: &mut S,
@@ -108,7 +107,7 @@ fn run_calls<'i, S: Sheet<'i>>(
     Ok(None)
 }
 
-/// Runs entries whole on a sheet, one after another, up to the first that was told something else.
+/// Runs entries on a sheet, one after another, until a reply differs from the recorded one.
 fn run_entries<'i, S: Sheet<'i>>(
     alloc: Global,
     sheet: &mut S,
@@ -129,7 +128,7 @@ fn run_entries<'i, S: Sheet<'i>>(
     Ok(Verdict::Agrees)
 }
 
-/// What is found, on a sheet of this kind.
+/// Audits a journal on a sheet of this kind.
 fn found_on<'i, S: Sheet<'i>>(
     alloc: Global,
     instance: &'i Instance,
@@ -147,10 +146,10 @@ fn found_on<'i, S: Sheet<'i>>(
     }
 }
 
-/// Whether a journal tells what its drafts are told when they are run whole, one after another, on the
-/// opening with these lectures, which are placed in their order; and if not, where it differs first.
+/// Audits a journal: reruns its drafts one after another on the opening with these lectures, which
+/// are placed in the given order, and compares each reply with the recorded one.
 ///
-/// The kind of sheet on which they are run is the caller's choice, as `audit::<GridSheet>`.
+/// The caller chooses the kind of sheet, as in `audit::<GridSheet>`.
 pub fn audit<'i, S: Sheet<'i>>(
     alloc: Global,
     instance: &'i Instance,
@@ -167,8 +166,8 @@ pub fn audit<'i, S: Sheet<'i>>(
     found_on::<S>(alloc, instance, lectures, entries)
 }
 
-/// The timetable that a journal leaves on the opening with these lectures, where it tells what its drafts are told; else
-/// what an audit finds.
+/// Returns the timetable that a journal leaves on the opening with these lectures, if its audit
+/// agrees; otherwise returns the verdict of that audit.
 pub fn list_after<'i, S: Sheet<'i>>(
     alloc: Global,
     instance: &'i Instance,

@@ -1,4 +1,4 @@
-//! The desk.
+//! The desk: a timetable, the planners' open drafts on it, and the journal.
 
 ghost use Rattle.std.specs.Prelude.{◌≡◌, ℕ, ◌<◌, List, [], ◌∷◌, length, None, Ok, IfOk, IfErr, OnErr};
 ghost use Rattle.std.specs.List.{AllByRecursion as Each};
@@ -27,7 +27,7 @@ use std::marker::Model;
 
 mod turns;
 
-/// A timetable on which planners have drafts, and the drafts that were accepted since its opening.
+/// A timetable with the planners' open drafts, and the drafts that were accepted since its opening.
 pub struct Desk<'i, S: Timetable> {
     instance: &'i Instance,
     opening: Vec<Placed>,
@@ -66,7 +66,7 @@ impl<'i, S: Timetable> Model for Desk<'i, S> {
         IsDesk d.instance.now (S.problem d.sheet) d.opening.items d.drafts.items };
 }
 
-/// No draft for each of so many planners.
+/// Returns a list with `None`, no draft, for each planner.
 fn no_drafts<'i, S: Timetable>(
     alloc: Global,
     planners: u16,
@@ -82,8 +82,8 @@ fn no_drafts<'i, S: Timetable>(
 }
 
 impl<'i, S: Sheet<'i>> Desk<'i, S> {
-    /// A desk whose opening timetable has these lectures, which are placed in their order, whatever it
-    /// is, for so many planners. It is refused at the first lecture that cannot be placed.
+    /// Creates a desk for this many planners, whose opening timetable has these lectures, placed in
+    /// the given order. Fails at the first lecture that cannot be placed.
     pub fn new(
         alloc: Global,
         instance: &'i Instance,
@@ -111,35 +111,35 @@ impl<'i, S: Sheet<'i>> Desk<'i, S> {
         })
     }
 
-    /// The instance whose courses are timetabled.
+    /// Returns the instance whose courses are timetabled.
     pub fn instance(&self) -> &'i Instance
         ensures { result.now ≡ self.now.problem }
     {
         self.instance
     }
 
-    /// How many planners there are: their numbers are those below.
+    /// Returns the number of planners, who are numbered from 0.
     pub fn planners(&self) -> u16
         ensures { result ≡ length self.now.drafts }
     {
         self.drafts.len() as u16
     }
 
-    /// The lectures, by course and slot.
+    /// Returns the timetable's lectures, ordered by course, then slot.
     pub fn list(&self) -> Result<Vec<Placed>, NoMemory>
         ensures { IfOk result (λ list. list.items ≡ self.now.list) }
     {
         self.sheet.list()
     }
 
-    /// What the timetable costs.
+    /// Returns the timetable's cost, which is its penalty.
     pub fn cost(&self) -> Cost
         ensures { result ≡ penalty self.now.problem self.now.list }
     {
         self.sheet.cost()
     }
 
-    /// The accepted drafts, in the order of their commits.
+    /// Returns the accepted drafts, in the order of their commits.
     pub fn journal(&self) -> &[JournalEntry]
         ensures { result.now ≡ self.now.journal }
     {
@@ -154,11 +154,12 @@ impl<'i, S: Sheet<'i>> Desk<'i, S> {
         self.sheet.lawful();
     }
 
-    /// Answers an event. Where memory is wanted nothing was done, and a draft stays open.
+    /// Answers an event. If memory runs out, nothing is done, and an open draft stays open.
     ///
-    /// Where the desk stands at a run of right answers, it then stands at the longer run, whose answers
-    /// are right too; its journal is the accepted history, each entry was told what it is told at its
-    /// place there, and the timetable is the opening after the journal. It is always lawful.
+    /// If the desk is in the state that a run of correct answers leads to, it moves to the state of
+    /// the longer run, whose answers are correct too: the journal is the accepted history, each
+    /// recorded reply is the one that its call gets at its place there, and the timetable is the
+    /// opening with the journal applied. The timetable is always lawful.
     pub fn step(&mut self, event: Event) -> Answer
         requires { EventFits self.old.problem (length self.old.drafts) event }
         ensures answer { IsAnswerTo self.old event result }
@@ -183,9 +184,10 @@ impl<'i, S: Sheet<'i>> Desk<'i, S> {
         answer
     }
 
-    /// Answers events one after another. Where there is no memory for the answers no event was taken.
+    /// Answers events one after another. If there is no memory for the answers, no event is
+    /// handled.
     ///
-    /// What `step` says of one event holds of all.
+    /// What `step` guarantees for one event holds for all of them.
     pub fn run(&mut self, events: &[Event]) -> Result<Vec<Answer>, NoMemory>
         requires { Each (EventFits self.old.problem (length self.old.drafts)) events.now }
         ensures same { SameDesk self.old self.new }

@@ -1,15 +1,15 @@
-//! Why a desk is refused.
+//! Why a desk cannot be created.
 
 use ctt_edits::EditFault;
 use ctt_text::NoMemory;
 use std::alloc::AllocError;
 
-/// What stands against an opening timetable.
+/// Why a desk cannot be created from an opening timetable.
 #[derive(Clone, Copy)]
 pub enum DeskFault {
-    /// The first lecture that cannot be placed, counted from 1, and what stands against it.
+    /// The first lecture that cannot be placed, counted from 1, and the reason.
     Unlawful(u64, EditFault),
-    /// There is not enough memory.
+    /// Memory ran out.
     NoMemory,
 }
 

@@ -1,4 +1,4 @@
-//! What planners do.
+//! The events that a desk answers.
 
 ghost use Rattle.std.specs.Prelude.{◌↔◌, IsTrue};
 ghost use Rattle.ctt_core.specs.Runs.{EventFits};
@@ -12,24 +12,25 @@ use ctt_text::Instance;
 pub enum Event {
     /// The planner opens a draft on the timetable as it stands.
     Open(PlannerNo),
-    /// The planner makes a call in his draft.
+    /// The planner makes a call in the open draft.
     Ask(PlannerNo, Call),
-    /// The planner looks at his draft. It is no call: nothing is kept of it.
+    /// The planner looks at the open draft. This is not a call: nothing is stored.
     Peek(PlannerNo, Look),
-    /// The planner asks how his draft stands. It is no call: nothing is kept of it.
+    /// The planner asks for the status of the open draft. This is not a call: nothing is stored.
     Status(PlannerNo),
-    /// The planner wants his draft accepted.
+    /// The planner asks for the open draft to be accepted.
     Commit(PlannerNo),
-    /// The planner wants his draft brought up to date.
+    /// The planner asks for the open draft to be brought up to date.
     Refresh(PlannerNo),
-    /// The planner gives his draft up.
+    /// The planner gives up the open draft.
     Abandon(PlannerNo),
     /// Somebody looks at the timetable as it stands.
     Show(Look),
 }
 
 impl Event {
-    /// Whether its numbers are those of the instance, and its planner is one of so many.
+    /// Returns whether the numbers in the event are valid for the instance and for this many
+    /// planners.
     pub fn fits(&self, instance: &Instance, planners: u16) -> bool
         ensures { IsTrue result ↔ EventFits instance.now planners self.now }
     {

@@ -1,4 +1,4 @@
-//! Drafts that were accepted.
+//! The journal's entries, which are the accepted drafts.
 
 ghost use Rattle.std.specs.Prelude.{◌↔◌, IsTrue};
 ghost use Rattle.ctt_core.specs.Entries.{EntryFits};
@@ -7,7 +7,7 @@ use crate::planner::PlannerNo;
 use ctt_draft::AskedCalls;
 use ctt_text::Instance;
 
-/// An accepted draft: whose it was, and its calls with their replies.
+/// An accepted draft: its planner, and its calls with their replies.
 pub struct JournalEntry {
     /// The planner whose draft it was.
     pub planner: PlannerNo,
@@ -26,9 +26,9 @@ impl Drop for JournalEntry {
 }
 
 impl JournalEntry {
-    /// Whether the planner's number is below 1,000, and each call and each reply fits: their numbers are
-    /// those of the instance, and each cost, and a price without its sign, is at most
-    /// 9,223,372,036,854,775,807.
+    /// Returns whether the planner's number is below 1,000, and each call and each reply fits: its
+    /// numbers are valid for the instance, and each cost and the absolute value of each price is at
+    /// most 9,223,372,036,854,775,807.
     pub fn fits(&self, instance: &Instance) -> bool
         ensures { IsTrue result ↔ EntryFits instance.now self.now }
     {

@@ -1,13 +1,13 @@
-//! Drafts that are open.
+//! Open drafts.
 
 use ctt_board::Timetable;
 use ctt_draft::Draft;
 use std::marker::Model;
 
-/// A planner's draft that is open.
+/// A planner's open draft.
 #[derive(Drop)]
 pub(crate) struct OpenDraft<'i, S: Timetable> {
-    /// How many drafts had been accepted when its base was taken.
+    /// The number of drafts that had been accepted when its snapshot was taken.
     pub(crate) since: u64,
     pub(crate) draft: Draft<'i, S>,
 }

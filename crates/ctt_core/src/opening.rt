@@ -14,7 +14,7 @@ use ctt_edits::{Edit, EditFault, check};
 use ctt_text::{Instance, NoMemory, Placed};
 use std::alloc::Global;
 
-/// Places a lecture, or answers what stands against it.
+/// Places a lecture, or returns the fault that prevents it.
 fn place<'i, S: Sheet<'i>>(sheet: &mut S, lecture: &Placed) -> Option<EditFault>
     requires { Fits (S.problem sheet.old) lecture.now }
     ensures fault { result ≡ edit_fault (S.problem sheet.old) (S.list sheet.old)
@@ -33,8 +33,8 @@ fn place<'i, S: Sheet<'i>>(sheet: &mut S, lecture: &Placed) -> Option<EditFault>
     }
 }
 
-/// A sheet on which the lectures were placed in their order, whatever it is. It is refused at the first
-/// lecture that cannot be placed.
+/// Returns a sheet on which the lectures are placed in the given order. Fails at the first lecture
+/// that cannot be placed.
 pub fn placed<'i, S: Sheet<'i>>(
     alloc: Global,
     instance: &'i Instance,

@@ -19,14 +19,14 @@ impl Model for PlannerNo {
 }
 
 impl PlannerNo {
-    /// The planner with this number.
+    /// Wraps the number of a planner, counted from 0.
     pub fn new(number: u16) -> Self
         ensures { result ≡ number }
     {
         PlannerNo(number)
     }
 
-    /// The number itself.
+    /// Returns the number itself.
     pub fn get(self) -> u16
         ensures { result ≡ self }
     {
@@ -34,7 +34,7 @@ impl PlannerNo {
         number
     }
 
-    /// Whether it is the number of one of so many planners.
+    /// Returns whether a desk for this many planners has this planner.
     pub fn fits(self, planners: u16) -> bool
         ensures { IsTrue result ↔ (self < planners) }
     {

@@ -1,4 +1,5 @@
--- Calls that are made one by one: what they leave is lawful, their changes fit, and one more call.
+-- Calls made in order: they leave a lawful timetable, and their changes fit; also the step of one
+-- more call.
 use Rattle.std.proofs.Common.{◌≡◌, List, [], ◌∷◌, ◌++◌, Option, Some, None, refl, append-nil, append_assoc, ◌∙◌, sym, ap}
 use Rattle.std.specs.List.{AllByRecursion as Each}
 use Rattle.ctt_text.specs.Problem.{Problem}
@@ -16,7 +17,7 @@ use Rattle.ctt_edits.specs.declared.fault.EditFault.{EditFault}
 use Rattle.ctt_edits.proofs.EditLemmas.{edits_keep_lawful, edits_fit}
 use Rattle.ctt_draft.specs.Drafts.{after_call, replies, whole, made, changes}
 
--- lawful is kept
+-- a call leaves a lawful timetable lawful
 lawful_if : (i : Problem) (t : List Placed) (e : Edit) (o : Option EditFault) → edit_fault i t e ≡ o → Lawful i t → EditFits i e → Lawful i (apply (cells_if o (change t e)) t)
 lawful_if i t e None k h f = edits_keep_lawful i t e h f k
 lawful_if i t e (Some fault) k h f = h
@@ -29,7 +30,7 @@ pub lawful_whole : (i : Problem) (t : List Placed) (calls : List Call) → Lawfu
 lawful_whole i t [] h f = h
 lawful_whole i t (call ∷ calls) h f = lawful_whole i (after_call i t call) calls (lawful_after_call i t call h f.0) f.1
 
--- the timetable afterwards is the one before with the changes
+-- the timetable after the calls is the one before with their changes made
 pub made_all : (cells : List Cell) (t : List Placed) → apply_all (made cells) t ≡ apply cells t
 made_all [] t = refl
 made_all (x ∷ xs) t = refl

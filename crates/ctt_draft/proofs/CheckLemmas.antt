@@ -1,4 +1,4 @@
--- What the check of an edit says of its fault and of its change.
+-- The result of checking an edit: its fault, or its change.
 use Rattle.std.proofs.Common.{◌≡◌, List, [], Option, Some, None, Result, Ok, Err, refl, ◌∙◌, sym, ap, ap₂}
 use Rattle.ctt_text.specs.Problem.{Problem}
 use Rattle.ctt_text.specs.declared.placed.Placed.{Placed}
@@ -25,7 +25,7 @@ accepted i k t u e got is same list =
     let h : (edit_fault k u e ≡ None) × (got ≡ change u e) = ok_is (edit_fault k u e) (change u e) got is in
     (ap₂ (λ p x. edit_fault p x e) (sym same) (sym list) ∙ h.0, h.1 ∙ ap (λ x. change x e) list)
 
--- one that does not is told its fault, and changes nothing
+-- an edit that does not pass is refused with its fault, and changes nothing
 pub refused : (i k : Problem) (t u : List Placed) (e : Edit) (f : EditFault) → ◌≡◌ {A = Result (List Cell) EditFault} (Err f) (checked k u e) → k ≡ i → u ≡ t → (Refused f ≡ reply i t (Edits e)) × (cells_of i t (Edits e) ≡ [])
 refused i k t u e f is same list =
     let h : edit_fault i t e ≡ Some f = ap₂ (λ p x. edit_fault p x e) (sym same) (sym list) ∙ err_is (edit_fault k u e) (change u e) f is in

@@ -1,4 +1,4 @@
--- Rows of the base beside those of a sheet, cell by cell.
+-- The rows of the snapshot compared with those of a sheet, cell by cell.
 use Rattle.std.proofs.Common.{◌≡◌, ◌==◌, ◌&&◌, ◌||◌, ◌↔◌, IsTrue, Bool, true, false, not, ℕ, List, [], ◌∷◌, Option, refl, ◌∙◌, sym, ap, ap₂, subst, inl, inr}
 use Rattle.std.specs.Option.{option_eq}
 use Rattle.std.specs.List.{list_any, AllByRecursion as Each}
@@ -17,7 +17,8 @@ same_room a b = option_eq (λ (m n : ℕ). m == n) a b
 abbrev pub HasRooms : List Placed → List Cell → Type 0
 HasRooms base cells = Each (λ (x : Cell). x.room ≡ room_at x.course x.slot base) cells
 
--- a cell that is otherwise on the sheet, among those that pass a test, where the rows P would have made all these cells the same
+-- if the sheet differs from a cell that passes a test, P is false, provided that P implies
+-- agreement in all such cells
 some_other : (p : Cell → Bool) (P : Type 0) (base sheet : List Placed) (cells : List Cell) → HasRooms base cells → list_any (λ x. p x && is_other sheet x) cells ≡ true
     → ((x : Cell) → p x ≡ true → P → room_at x.course x.slot base ≡ room_at x.course x.slot sheet) → IsTrue false ↔ P
 some_other p P base sheet [] h e same = cc
@@ -32,7 +33,8 @@ some_other p P base sheet (x ∷ xs) h e same = elim (cases_Bool (p x && is_othe
     rest true b k l = cc
     rest false b k l = k
 
--- a recorded cell, of those that pass a test and of which none is otherwise on the sheet
+-- if the sheet differs from no cell that passes a test, it agrees with the snapshot in a recorded
+-- cell that passes
 none_other : (p : Cell → Bool) (base sheet : List Placed) (cells : List Cell) (c s : ℕ) → HasRooms base cells → list_any (λ x. p x && is_other sheet x) cells ≡ false
     → ((x : Cell) → is_of c s x ≡ true → p x ≡ true) → is_named c s cells ≡ true → room_at c s base ≡ room_at c s sheet
 none_other p base sheet [] c s h e passes named = cc
@@ -58,7 +60,7 @@ module _ (v : Compared) (h : IsComparable v) where
   slot_passes : (c s : ℕ) (x : Cell) → is_of c s x ≡ true → (x.slot == s) ≡ true
   slot_passes c s x y = (and_parts (x.course == c) (x.slot == s) y).1
 
-  -- a recorded cell is other
+  -- the sheet differs from a recorded cell
   pub course_other : (c : ℕ) → has_other_in_course c v.sheet v.undo ≡ true → IsTrue false ↔ (course_row c (base_of v) ≡ course_row c v.sheet)
   course_other c e =
       some_other (λ x. x.course == c) (course_row c (base_of v) ≡ course_row c v.sheet) (base_of v) v.sheet v.undo h.records.rooms e
@@ -69,13 +71,13 @@ module _ (v : Compared) (h : IsComparable v) where
       some_other (λ x. x.slot == s) (slot_row s (base_of v) ≡ slot_row s v.sheet) (base_of v) v.sheet v.undo h.records.rooms e
       (λ x y q. room_by_slot_row v.problem (base_of v) v.sheet h.base h.sheet x.course x.slot (subst (λ d. slot_row d (base_of v) ≡ slot_row d v.sheet) (sym (eqb-true x.slot s y)) q))
 
-  -- a cell that is not recorded is other
+  -- the sheet differs in a cell that is not recorded
   pub cell_other : (c s : ℕ) (P : Type 0) → (same_room (room_at c s v.present) (room_at c s v.sheet) || is_named c s v.undo) ≡ false → (P → room_at c s (base_of v) ≡ room_at c s v.sheet) → IsTrue false ↔ P
   cell_other c s P e same =
       let parts = or_parts (same_room (room_at c s v.present) (room_at c s v.sheet)) (is_named c s v.undo) e in
       differ P (room_at c s v.present) (room_at c s v.sheet) (ap not parts.0) (λ q. h.records.others c s parts.1 ∙ same q)
 
-  -- a cell of a row in which no recorded cell is other
+  -- a cell of a row in which the sheet differs from no recorded cell
   same_by : (p : Cell → Bool) (c s : ℕ) → list_any (λ x. p x && is_other v.sheet x) v.undo ≡ false → ((x : Cell) → is_of c s x ≡ true → p x ≡ true)
       → (same_room (room_at c s v.present) (room_at c s v.sheet) || is_named c s v.undo) ≡ true → room_at c s (base_of v) ≡ room_at c s v.sheet
   same_by p c s none passes e = elim (cases_Bool (is_named c s v.undo)) [

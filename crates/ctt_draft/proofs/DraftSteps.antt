@@ -48,7 +48,7 @@ told_more i base asked a d f told = record {
       ∙ ap (replies i base) (sym (calls-push asked a));
 }
 
--- what an undo record is after an edit's cells are noted in it
+-- the undo record after an edit's cells are recorded
 abbrev pub more_noted : List Placed → List Cell → UndoValue → UndoValue
 more_noted t cells undo = record { courses = undo.courses; slots = undo.slots; cells = all_noted t cells undo.cells }
 
@@ -60,7 +60,7 @@ change_within i t (Swap c s d s2) f = ((f.0, f.1), ((f.2, f.3), ((f.0, f.3), ((f
 change_within i t (Reroom c s r) f = ((f.0, f.1), ((f.0, f.1), tt))
 change_within i t (Drop c s) f = ((f.0, f.1), tt)
 
--- a draft's undo record leads back to its base
+-- a draft's undo record leads back to its snapshot
 module _ (i k : Problem) (base here : List Placed) (asked : List Asked) (old : List (List Cell)) (undo : UndoValue) (rows : RowSet) (d : IsDraft i k base here asked old undo rows) where
   fit_there : ChangesFit i (changes i base (calls_of asked)) base
   fit_there = changes_fit i base (calls_of asked) d.lawful_base d.is_told.fit
@@ -93,7 +93,8 @@ module _ (i k : Problem) (base here : List Placed) (asked : List Asked) (old : L
       is
       ∙ ap₂ (λ (u : UndoValue) cells. record { courses = u.courses; slots = u.slots; cells = cells }) d.undo_is (noted_here call)
 
--- a call is kept with its reply, its change is made, its cells are recorded, and the rows that it reads are marked
+-- the invariant holds after one more call: the call and its change are stored, its cells are
+-- recorded, and its rows marked
 pub draft_more : (i k l : Problem) (base here next : List Placed) (asked longer : List Asked) (a : Asked) (old new : List (List Cell)) (undo undo' : UndoValue) (rows rows' : RowSet) → IsDraft i k base here asked old undo rows →
     longer ≡ asked ++ a ∷ [] → CallFits i a.call → a.reply ≡ reply i here a.call → l ≡ i → next ≡ after_call i here a.call → new ≡ old ++ made (cells_of i here a.call) →
     undo' ≡ more_noted here (cells_of i here a.call) undo → AddsReads i a.call rows rows' → IsDraft i l base next longer new undo' rows'
@@ -110,7 +111,7 @@ draft_more i k l base here next asked longer a old new undo undo' rows rows' d s
       slots_are = λ n lt. adds.slots n lt ∙ ap (λ b. b || reads_slot a.call n) (d.slots_are n lt) ∙ sym (any-push (λ call. reads_slot call n) (calls_of asked) a.call) ∙ ap (λ xs. all_read_slot xs n) (sym calls);
     }
 
--- nothing was asked yet
+-- the invariant of a draft without calls
 draft_open : (i k : Problem) (base here : List Placed) (asked : List Asked) (old : List (List Cell)) (undo : UndoValue) (rows : RowSet) → Lawful i base → k ≡ i → here ≡ base → asked ≡ [] → old ≡ [] →
     undo ≡ record { courses = course_count i; slots = slot_count i; cells = [] } → ((row : Row) → is_in rows row ≡ false) → IsDraft i k base here asked old undo rows
 draft_open i k base here asked old undo rows lawful f same none no_changes no_cells empty = rw (none, no_changes) record {
@@ -168,7 +169,7 @@ module _ (i k : Problem) (base here : List Placed) (asked : List Asked) (old : L
       draft_more i k l base here next asked longer (record { call = Edits x; reply = Done }) old new undo undo' rows rows' d same f' (sym (ap (λ o. told_or o Done) free')) (of ∙ d.present_of)
       (is ∙ ap (λ cs. apply cs here) cells') (more ∙ ap (λ xs. old ++ xs) (sym one)) (noted ∙ ap (λ cs. more_noted here cs undo) cells') adds
 
-  -- and what the draft is then
+  -- the draft's value after that edit
   pub made_draft : (longer : List Asked) (rows' : RowSet) (x : Edit) (cells : List Cell) (l : Problem) (next : List Placed) (new : List (List Cell)) (undo' : UndoValue) → longer ≡ asked ++ record { call = Edits x; reply = Done } ∷ [] → EditFits v.problem x → edit_fault v.problem (present v) x ≡ None → cells ≡ change (present v) x →
       l ≡ k → next ≡ apply cells here → new ≡ old ++ cells ∷ [] →
       undo' ≡ more_noted here cells undo → AddsReads i (Edits x) rows rows' →

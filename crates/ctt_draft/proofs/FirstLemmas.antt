@@ -26,7 +26,7 @@ find_mapped : {X Y : Type 0} (p : Y → Bool) (f : X → Y) (xs : List X) → fi
 find_mapped p f [] = refl
 find_mapped p f (x ∷ xs) = elim (cases_Bool (p (f x))) [ inl b ↦ rw b refl | inr b ↦ rw b (find_mapped p f xs) ]
 
--- a number that is not marked, and one that is and does not pass
+-- a number is skipped if it is not marked, or does not pass the test
 pub first_skipped : (d m : ℕ → Bool) (n : ℕ) → m n ≡ false → find d (below m n) ≡ None → find d (below m (n + 1)) ≡ None
 first_skipped d m n e none = rw (add-one, e, append-nil) none
 
@@ -36,7 +36,7 @@ first_same d m n e none = elim (cases_Bool (m n)) [
   | inr skip ↦ first_skipped d m n skip none
 ]
 
--- one that is and passes
+-- a marked number that passes is found if there is no earlier one
 pub first_found : (d m : ℕ → Bool) (n k : ℕ) → m n ≡ true → d n ≡ true → find d (below m n) ≡ None → n < k → find d (below m k) ≡ Some n
 first_found d m n zero e y none lt = absurd (omega arith)
 first_found d m n (suc k) e y none lt = elim (cases_eq n k) [
@@ -44,14 +44,14 @@ first_found d m n (suc k) e y none lt = elim (cases_eq n k) [
   | inr other ↦ find_left d (below m k) (cond (m k) (k ∷ []) []) n (first_found d m n k e y none (omega (arith, lt, other)))
 ]
 
--- rows that are found among those of courses, then of slots
+-- the first row found among those of the courses, followed by those of the slots
 pub row_found : {X : Type 0} (d : X → Bool) (f g : ℕ → X) (xs ys : List ℕ) (n : ℕ) → Some n ≡ find (λ x. d (f x)) xs → Some (f n) ≡ find d (map f xs ++ map g ys)
 row_found d f g xs ys n e = sym (find_left d (map f xs) (map g ys) (f n) (find_mapped d f xs ∙ ap (option_map f) (sym e)))
 
 pub row_behind : {X : Type 0} (d : X → Bool) (f g : ℕ → X) (xs ys : List ℕ) (o : Option ℕ) → None ≡ find (λ x. d (f x)) xs → o ≡ find (λ y. d (g y)) ys → option_map g o ≡ find d (map f xs ++ map g ys)
 row_behind d f g xs ys o e k = ap (option_map g) k ∙ sym (find_mapped d g ys) ∙ sym (find_right d (map f xs) (map g ys) (find_mapped d f xs ∙ ap (option_map f) (sym e)))
 
--- the test, whatever it is, of the next marked number
+-- the next marked number is marked, and within its range
 pub next_is : (m : ℕ → Bool) (from k n : ℕ) → between from k m n ≡ true → (from ≤ n) × (n < k) × (m n ≡ true)
 next_is m from k n h =
     let parts = and_parts (nat_le from n && nat_lt n k) (m n) h in
@@ -63,7 +63,7 @@ skipped m from k n h le lt =
     let same : between from k m n ≡ m n = rw (le-leb from n le, lt-ltb n k lt) refl in
     sym same ∙ h
 
--- up to the next marked number nothing is found
+-- nothing is found before the next marked number
 pub none_before : (d m : ℕ → Bool) (from n k : ℕ) → find d (below m from) ≡ None → ((x : ℕ) → x < n → between from k m x ≡ false) → from ≤ n → n ≤ k → find d (below m n) ≡ None
 none_before d m from zero k none gap le lt = refl
 none_before d m from (suc n) k none gap le lt = elim (cases_eq from (suc n)) [
@@ -82,7 +82,7 @@ found_next d m from k v next least some none within y =
     let before : find d (below m v) ≡ None = none_before d m from v k none l.1 is.0 (omega (arith, is.1)) in
     sym (first_found d m v k is.2 y before is.1)
 
--- it does not, and the search goes on behind it
+-- the next marked number does not pass, and the search goes on after it
 pub past_next : (d m : ℕ → Bool) (from k v : ℕ) (next : Option ℕ) → IsLeast (between from k m) next → next ≡ Some v → find d (below m from) ≡ None → from ≤ k → d v ≡ false → find d (below m (v + 1)) ≡ None
 past_next d m from k v next least some none within fails =
     let l : IsLeast (between from k m) (Some v) = subst (IsLeast (between from k m)) some least in
@@ -95,7 +95,7 @@ next_within m from k v next least some =
     let is = next_is m from k v l.0 in
     (is.0, is.1)
 
--- there is no next one
+-- there is no next marked number
 pub found_none : (d m : ℕ → Bool) (from k : ℕ) (next : Option ℕ) → IsLeast (between from k m) next → next ≡ None → find d (below m from) ≡ None → from ≤ k → None ≡ find d (below m k)
 found_none d m from k next least nothing none within =
     let l : IsLeast (between from k m) None = subst (IsLeast (between from k m)) nothing least in

@@ -1,4 +1,4 @@
--- A draft that is not stale does on the present timetable what it did on its base.
+-- A draft that is not stale does on the present timetable what it did on its snapshot.
 use Rattle.std.proofs.Common.{◌≡◌, ◌↔◌, IsTrue, ℕ, Bool, true, false, not, ◌&&◌, ◌==◌, List, [], ◌∷◌, ◌++◌, Some, None, refl, ◌∙◌, sym, ap, ap₂, subst, inl, inr}
 use Rattle.std.specs.List.{find, AllByRecursion as Each}
 use Rattle.std.proofs.lemmas.Bool.{cases_Bool, eqb-true, eq-eqb, and_parts, or_left, or_right, not-false}
@@ -22,14 +22,15 @@ use Rattle.ctt_draft.specs.Drafts.{after_call, replies, made, changes, all_read_
 use Rattle.ctt_draft.specs.Laws.{DraftFrame, SettlingFits}
 use Rattle.ctt_draft.proofs.CallRuns.{lawful_after_call, whole_is, changes_fit}
 
--- what is the same stays the same under the same cells
+-- rows in which two timetables agree still agree after the same cells
 agree_after : (p q : ℕ → Bool) (cells : List Cell) (t u : List Placed) → Ascending t → Ascending u → AgreeOn p q t u → AgreeOn p q (apply cells t) (apply cells u)
 agree_after p q cells t u h k a = record {
   courses = λ c y. agree_apply (λ l. l.course == c) cells t u (in_order t h) (in_order u k) (a.courses c y);
   slots = λ s y. agree_apply (λ l. l.slot == s) cells t u (in_order t h) (in_order u k) (a.slots s y);
 }
 
--- the calls one by one, on two timetables that agree at all rows that they read
+-- calls get the same replies, and make the same changes, on two timetables that agree in all rows
+-- that they read
 run_same : (i : Problem) (p q : ℕ → Bool) (calls : List Call) (t u : List Placed) → Lawful i t → Lawful i u → Each (CallFits i) calls → AgreeOn p q t u →
     ((c : ℕ) → all_read_course i calls c ≡ true → p c ≡ true) → ((s : ℕ) → all_read_slot calls s ≡ true → q s ≡ true) →
     (replies i t calls ≡ replies i u calls) × (changes i t calls ≡ changes i u calls)
@@ -47,7 +48,7 @@ run_same i p q (call ∷ calls) t u h k f a pc qs =
     (λ c y. pc c (or_right (reads_course i call c) (all_read_course i calls c) y)) (λ s y. qs s (or_right (reads_slot call s) (all_read_slot calls s) y)) in
     (ap₂ (λ x xs. x ∷ xs) (reply_same i call t u h.timetable k.timetable f.0 here) rest.0, ap₂ (λ x xs. made x ++ xs) same rest.1)
 
--- a test of lists that holds of equal lists alone
+-- the test for equal lists holds of equal lists only
 same_lecture_true : (a b : Placed) → same_lecture a b ≡ true → a ≡ b
 same_lecture_true a b h =
     let x = and_parts (a.course == b.course && a.slot == b.slot) (a.room == b.room) h in
@@ -66,7 +67,7 @@ same_list_refl : (xs : List Placed) → same_list xs xs ≡ true
 same_list_refl [] = refl
 same_list_refl (x ∷ xs) = rw (eq-eqb x.course x.course refl, eq-eqb x.slot x.slot refl, eq-eqb x.room x.room refl) (same_list_refl xs)
 
--- a test whether rows are the same tells whether they differ
+-- rows differ if and only if they are not equal
 pub differs_by : (b : Bool) (t u : List Placed) (r : Row) → IsTrue b ↔ (row r t ≡ row r u) → not b ≡ differs t u r
 differs_by true t u r h =
     let same : row r t ≡ row r u = h.0 refl in
@@ -83,7 +84,7 @@ first_none p (x ∷ xs) h = elim (cases_Bool (p x)) [
   | inr b ↦ (let h' : find p xs ≡ None = rw b at h in (b, first_none p xs h'))
 ]
 
--- a draft that is not stale read rows that are the same
+-- the rows read by a draft that is not stale are the same on both timetables
 pub agree_read : (i : Problem) (base now : List Placed) (calls : List Call) → Lawful i base → Lawful i now → stale i base now calls ≡ None → AgreeOn (all_read_course i calls) (all_read_slot calls) now base
 agree_read i base now calls h k fresh =
     let same_row : (r : Row) → differs base now r ≡ false → row r now ≡ row r base = λ r e. sym (same_list_true (row r base) (row r now) (not-false (same_list (row r base) (row r now)) e)) in

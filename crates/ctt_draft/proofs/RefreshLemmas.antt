@@ -1,4 +1,4 @@
--- A draft that is not stale, brought up to date: its record of cells stays what it is.
+-- Bringing a draft that is not stale up to date: its undo record is unchanged.
 use Rattle.std.proofs.Common.{◌≡◌, ℕ, Bool, true, not, ◌==◌, List, [], ◌∷◌, ◌++◌, map, Option, Some, None, Result, Ok, refl, ◌∙◌, sym, ap, ap₂, subst}
 use Rattle.std.specs.List.{AllByRecursion as Each}
 use Rattle.std.proofs.lemmas.Bool.{eq-eqb, or_left, or_right}
@@ -27,7 +27,7 @@ use Rattle.ctt_draft.specs.declared.asked.Asked.{Asked}
 use Rattle.ctt_draft.proofs.DraftSteps.{back_to, rebased}
 use Rattle.ctt_draft.proofs.FrameLemmas.{agree_read, draft_frame, settling_fits}
 
--- the course of each cell that an edit changes is read by it
+-- an edit reads the course of each cell that it changes
 reads_own : (c : ℕ) (more : List ℕ) → has c (c ∷ more) ≡ true
 reads_own c more = or_left (c == c) (has c more) (eq-eqb c c refl)
 
@@ -53,7 +53,7 @@ made_cells : (cells : List Cell) (rest : List (List Cell)) → all_cells (made c
 made_cells [] rest = refl
 made_cells (x ∷ xs) rest = refl
 
--- and so by the draft
+-- a draft reads the course of each cell that it changes
 named_read : (i : Problem) (p : ℕ → Bool) (calls : List Call) (t : List Placed) → ((c : ℕ) → all_read_course i calls c ≡ true → p c ≡ true) → Each (λ (x : Cell). p x.course ≡ true) (all_cells (changes i t calls))
 named_read i p [] t h = tt
 named_read i p (call ∷ calls) t h =
@@ -62,7 +62,7 @@ named_read i p (call ∷ calls) t h =
     (Each-map (λ (x : Cell). reads_course i call x.course ≡ true) (λ (x : Cell). p x.course ≡ true) (λ x y. h x.course (or_left (reads_course i call x.course) (all_read_course i calls x.course) y)) (cells_of i t call) (call_reads i t call))
     (named_read i p calls (after_call i t call) (λ c y. h c (or_right (reads_course i call c) (all_read_course i calls c) y))))
 
--- cells that two timetables have alike are recorded alike
+-- cells in which two timetables agree are recorded with the same rooms
 abbrev HasAlike : List Placed → List Placed → Cell → Type 0
 HasAlike t u x = room_at x.course x.slot t ≡ room_at x.course x.slot u
 

@@ -1,4 +1,4 @@
--- Changes that are made as far as they fit, and those of a draft.
+-- Replaying changes up to the first that does not fit, and the changes of a draft.
 use Rattle.std.proofs.Common.{◌≡◌, ◌||◌, ◌==◌, leb, length, false, ℕ, true, List, [], ◌∷◌, Option, Some, None, is_some, is_none, refl, ◌∙◌, sym}
 use Rattle.std.specs.List.{AllByRecursion as Each}
 use Rattle.std.proofs.lemmas.Bool.{and_parts, or_parts}
@@ -25,7 +25,7 @@ use Rattle.ctt_draft.specs.Replays.{replayed, all_fit, ReplayIsSettling, DraftRe
 use Rattle.ctt_draft.proofs.CallRuns.{made_edit}
 use Rattle.ctt_draft.proofs.FrameLemmas.{draft_frame, settling_fits}
 
--- of these changes on the timetable t the rest is still to be made, on the timetable u
+-- the loop invariant of a replay on t: the rest of the changes is still to be made, on u
 pub record Replaying (i j : Problem) (t u : List Placed) (all rest : List (List Cell)) : Type 0 where
   pub same : j ≡ i
   pub ends : replayed j rest u ≡ replayed i all t
@@ -40,7 +40,7 @@ replay_is_settling i (x ∷ xs) t h are fit =
     let yes : fits i x t ≡ true = (fits_as_tested i x t h (turn_of x are.0)).1 fit.0 in
     rw yes (replay_is_settling i xs (apply x t) fit.0.lawful are.1 fit.1)
 
--- the changes of calls are changes
+-- the cells of an edit form a change: at most four, removals before additions
 swapped : (c s d s2 : ℕ) (o p : Option ℕ) → is_some o ≡ true → is_some p ≡ true → is_change (cell c s None ∷ cell d s2 None ∷ cell c s2 o ∷ cell d s p ∷ []) ≡ true
 swapped c s d s2 None p there other = cc
 swapped c s d s2 (Some r) None there other = cc

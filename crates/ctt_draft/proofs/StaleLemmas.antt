@@ -1,4 +1,4 @@
--- What is stale, by what a draft keeps.
+-- The stale row, found from what a draft stores.
 use Rattle.std.proofs.Common.{◌≡◌, ℕ, List, Option, Some, None, ◌∙◌, sym, ap, subst}
 use Rattle.std.specs.List.{find}
 use Rattle.std.specs.Option.{option_map}
@@ -32,7 +32,7 @@ module _ (i k : Problem) (here : List Placed) (asked : List Asked) (old : List (
   abbrev IsBeside : Compared → Type 0
   IsBeside w = ◌≡◌ {A = Compared} w (record { problem = i; present = here; undo = undo.cells; sheet = now })
 
-  -- the first course, and the first slot, whose rows are not the same
+  -- the first course whose row was read and differs; the same for slots
   abbrev first_course_in : Compared → Option ℕ
   first_course_in w = find (λ c. differs (base_of w) w.sheet (CourseRow c)) (below (has_course rows) (course_count w.problem))
 
@@ -46,7 +46,7 @@ module _ (i k : Problem) (here : List Placed) (asked : List Asked) (old : List (
       (row_found (differs base now) CourseRow SlotRow (below (all_read_course i (calls_of asked)) (course_count i)) (below (all_read_slot (calls_of asked)) (slot_count i)) n
       (sym some ∙ is ∙ ap first_course_in beside ∙ ap (find (λ c. differs base now (CourseRow c))) courses_read))
 
-  -- without one, it is the slot that is found, if there is one
+  -- if there is none, it is the slot that is found, if any
   pub stale_slot : (w : Compared) → IsBeside w → (found slot : Option ℕ) → found ≡ first_course_in w → found ≡ None → slot ≡ first_slot_in w → option_map SlotRow slot ≡ stale v.problem v.base now (calls_of v.asked)
   stale_slot w beside found slot is none is_slot =
       subst (λ (w : DraftValue). option_map SlotRow slot ≡ stale w.problem w.base now (calls_of w.asked)) e
@@ -54,7 +54,7 @@ module _ (i k : Problem) (here : List Placed) (asked : List Asked) (old : List (
       (sym none ∙ is ∙ ap first_course_in beside ∙ ap (find (λ c. differs base now (CourseRow c))) courses_read)
       (is_slot ∙ ap first_slot_in beside ∙ ap (find (λ s. differs base now (SlotRow s))) slots_read))
 
-  -- where nothing is stale the draft can be settled
+  -- if no row is stale, the draft can be settled
   pub settles : (l : Problem) → DraftFrame → SettlingFits → Lawful l now → l ≡ v.problem → None ≡ stale v.problem v.base now (calls_of v.asked) → Settles v now
   settles l frame fitting lawful_now of none =
       subst (λ (w : DraftValue). None ≡ stale w.problem w.base now (calls_of w.asked) → l ≡ w.problem → Settles w now) e

@@ -1,4 +1,4 @@
--- An undo record: how it grows, and that it leads back to the base.
+-- An undo record: how it grows, and that it leads back to the snapshot.
 use Rattle.std.proofs.Common.{◌≡◌, ℕ, Bool, true, false, not, cond, ◌||◌, ◌==◌, List, [], ◌∷◌, ◌++◌, map, Option, append-nil, append_assoc, refl, ◌∙◌, sym, ap, ap₂, arith, inl, inr}
 use Rattle.std.specs.List.{filter, AllByRecursion as Each}
 use Rattle.std.proofs.lemmas.Bool.{cases_Bool, or_right, or_parts, and_parts, eqb-true}
@@ -19,11 +19,11 @@ use Rattle.ctt_draft.specs.Drafts.{made}
 use Rattle.ctt_draft.specs.Laws.{UndoPutsBack}
 use Rattle.ctt_draft.specs.Undo.{is_of, is_named, first_named, found_in, recorded, all_cells, undo_of, put_back, Records, noted, all_noted}
 
--- of two cells, each names the other or neither does
+-- naming the same place is symmetric
 turned : (x y : Cell) → is_of y.course y.slot x ≡ is_of x.course x.slot y
 turned x y = grind (arith, nat_tests)
 
--- what names another cell stays
+-- a cell of another place is not filtered out
 stays : (x : Cell) (c s : ℕ) → is_of c s x ≡ false → (y : Cell) → is_of c s y ≡ true → not (is_of x.course x.slot y) ≡ true
 stays x c s e y h = grind (arith, nat_tests)
 
@@ -34,7 +34,7 @@ first_names c s (x ∷ xs) = elim (cases_Bool (is_of c s x)) [
   | inr n ↦ rw n (any-filter_same (is_of c s) (λ y. not (is_of x.course x.slot y)) true (stays x c s n) (first_named xs) ∙ first_names c s xs)
 ]
 
--- one cell more
+-- one more cell
 first_more : (xs : List Cell) (x : Cell) → first_named (xs ++ x ∷ []) ≡ cond (is_named x.course x.slot xs) (first_named xs) (first_named xs ++ x ∷ [])
 first_more [] x = refl
 first_more (y ∷ ys) x = ap (λ zs. y ∷ filter other zs) (first_more ys x) ∙ elim (cases_Bool (is_named x.course x.slot ys)) [
@@ -51,7 +51,7 @@ first_more (y ∷ ys) x = ap (λ zs. y ∷ filter other zs) (first_more ys x) �
 pub record_names : (base : List Placed) (c s : ℕ) (cells : List Cell) → is_named c s (recorded base cells) ≡ is_named c s cells
 record_names base c s cells = any_mapped (is_of c s) (found_in base) (first_named cells) ∙ first_names c s cells
 
--- a timetable that is the base where these cells name nothing
+-- the timetable agrees with the snapshot in all cells except these
 abbrev pub SameBeside : List Placed → List Placed → List Cell → Type 0
 SameBeside base t cells = (c s : ℕ) → is_named c s cells ≡ false → room_at c s t ≡ room_at c s base
 
@@ -78,12 +78,12 @@ module _ (base t : List Placed) where
       ∙ all_noted_is xs (named ++ x ∷ []) (unnamed_before named x same)
       ∙ ap (recorded base) (append_assoc named (x ∷ []) xs)
 
--- a record has the rooms of the base
+-- recorded cells have the rooms of the snapshot
 found_rooms : (base : List Placed) (cells : List Cell) → Each (λ (x : Cell). x.room ≡ room_at x.course x.slot base) (map (found_in base) cells)
 found_rooms base [] = tt
 found_rooms base (x ∷ xs) = (refl, found_rooms base xs)
 
--- a room after cells that do not name its place, and after cells that do
+-- a room after cells that do not include its own, and after cells that do
 unnamed_by : (cells : List Cell) (c s : ℕ) (o : Option ℕ) → is_named c s cells ≡ false → room_by cells c s o ≡ o
 unnamed_by [] c s o e = refl
 unnamed_by (x ∷ xs) c s o e = (let parts = or_parts (is_of c s x) (is_named c s xs) e in ap (λ b. room_by xs c s (cond b x.room o)) parts.0 ∙ unnamed_by xs c s o parts.1)
@@ -105,7 +105,7 @@ named_by base (x ∷ xs) c s o h e = elim (cases_Bool (is_named c s xs)) [
     here_is true b h k = refl
     here_is false b h k = absurd (let bad : true ≡ false = sym h ∙ k in cc)
 
--- the rooms of the base, from the timetable t and a record
+-- putting the recorded cells back on t gives the rooms of the snapshot
 pub room_back : (base t : List Placed) (cells : List Cell) (c s : ℕ) → Records base t cells → room_by cells c s (room_at c s t) ≡ room_at c s base
 room_back base t cells c s h = elim (cases_Bool (is_named c s cells)) [
   | inl y ↦ named_by base cells c s (room_at c s t) h.rooms y
@@ -117,7 +117,7 @@ put_back_is i base t cells h records =
     rows_same (λ c s. room_by cells c s (room_at c s t)) (λ c s. room_at c s base) (slot_count i) (course_count i) (λ c s _ _. room_back base t cells c s records)
     ∙ sym (timetable_is i base h)
 
--- changes leave what they do not name
+-- changes leave the cells that they do not name
 all_unnamed : (i : Problem) (changes : List (List Cell)) (base : List Placed) → ChangesFit i changes base → SameBeside base (apply_all changes base) (all_cells changes)
 all_unnamed i [] base h c s e = refl
 all_unnamed i (x ∷ xs) base h c s e =
@@ -140,7 +140,7 @@ undo_more i changes base cells h =
     all_noted_is base (apply_all changes base) cells (all_cells changes) (all_unnamed i changes base h)
     ∙ ap (recorded base) (sym (all_cells-push changes cells))
 
--- and after the cells of a call, if there are any
+-- the record after the cells of a call, if there are any
 pub undo_made : (i : Problem) (changes : List (List Cell)) (base : List Placed) (cells : List Cell) → ChangesFit i changes base → all_noted (apply_all changes base) cells (undo_of base changes) ≡ undo_of base (changes ++ made cells)
 undo_made i changes base [] h = ap (undo_of base) (sym (append-nil changes))
 undo_made i changes base (x ∷ xs) h = undo_more i changes base (x ∷ xs) h

@@ -1,4 +1,4 @@
--- Inverses of accepted edits, and the one that is the last of them.
+-- The inverses of accepted edits, and the last of them that is not undone.
 use Rattle.std.proofs.Common.{◌≡◌, ◌∙◌, ℕ, zero, suc, ◌+◌, ◌-◌, ◌<◌, ◌≤◌, Bool, true, false, cond, List, [], ◌∷◌, ◌++◌, length, take, drop, get_or, Option, Some, None, arith, refl, sym, ap, ap₂, subst, append_assoc}
 use Rattle.std.specs.Prelude.{IfSome, IsSome, slice_get}
 use Rattle.std.specs.List.{AllByRecursion as Each}
@@ -29,7 +29,7 @@ use Rattle.ctt_draft.specs.declared.asked.Asked.{Asked}
 use Rattle.ctt_draft.proofs.CallRuns.{apply_all-append, changes_fit, lawful_after_call, made_edit, whole_is}
 use Rattle.ctt_draft.proofs.UndoLemmas.{room_back, undo_records}
 
--- rooms after changes
+-- the room after two lists of cells, one after the other
 room_by-append : (xs ys : List Cell) (c s : ℕ) (o : Option ℕ) → room_by (xs ++ ys) c s o ≡ room_by ys c s (room_by xs c s o)
 room_by-append [] ys c s o = refl
 room_by-append (x ∷ xs) ys c s o = room_by-append xs ys c s (room_by (x ∷ []) c s o)
@@ -41,7 +41,7 @@ rooms_after_all i (x ∷ xs) t c s fit =
     ∙ ap (room_by (all_cells xs) c s) (rooms_after x t fit.0.cells_fit c s)
     ∙ sym (room_by-append x (all_cells xs) c s (room_at c s t))
 
--- the room after one change more
+-- the room after one more change
 pub one_change : (all : List (List Cell)) (k : ℕ) (x : List Cell) (c s : ℕ) (last new start : Option ℕ) → drop k all ≡ x ∷ drop (k + 1) all → new ≡ room_by x c s last → room_by (all_cells (drop k all)) c s last ≡ start
     → room_by (all_cells (drop (k + 1) all)) c s new ≡ start
 one_change all k x c s last new start at is so_far =
@@ -50,7 +50,7 @@ one_change all k x c s last new start at is so_far =
     ∙ ap (λ xs. room_by (all_cells xs) c s last) (sym at)
     ∙ so_far
 
--- what is left of a list from an element on
+-- the rest of a list from an element on
 pub left_at : {X : Type 0} (xs : List X) (k : ℕ) (x : X) → k < length xs → x ≡ get_or xs k x → drop k xs ≡ x ∷ drop (k + 1) xs
 left_at [] k x lt is = absurd (omega (arith, lt))
 left_at (y ∷ ys) zero x lt is = ap (λ z. z ∷ ys) (sym is)
@@ -59,7 +59,7 @@ left_at (y ∷ ys) (suc k) x lt is = rw (behind k) (left_at ys k x (omega (arith
     behind : (k : ℕ) → suc k + 1 ≡ suc (k + 1)
     behind k = omega arith
 
--- a list of which something is left is longer
+-- if dropping m elements leaves some, the list is longer than m
 has_more : {X : Type 0} (m : ℕ) (xs : List X) (x : X) (more : List X) → drop m xs ≡ x ∷ more → m < length xs
 has_more zero [] x more h = cc
 has_more zero (y ∷ ys) x more h = omega arith
@@ -71,7 +71,7 @@ fit_take i zero xs t fit = tt
 fit_take i (suc n) [] t fit = tt
 fit_take i (suc n) (x ∷ xs) t fit = (fit.0, fit_take i n xs (apply x t) fit.1)
 
--- the room that a course had in a slot when so many changes were made
+-- the room that a course had in a slot after the first m changes
 pub room_was : (d : DraftValue) → Lawful d.problem d.base → Each (CallFits d.problem) (calls_of d.asked) → (m c s : ℕ)
     → room_by (all_cells (take m (changes d.problem d.base (calls_of d.asked)))) c s (room_by (undo_of d.base (changes d.problem d.base (calls_of d.asked))) c s (room_at c s (present d)))
     ≡ room_at c s (apply_all (take m (changes d.problem d.base (calls_of d.asked))) d.base)
@@ -84,7 +84,7 @@ room_was d lawful fits m c s =
     ap (room_by (all_cells (take m all)) c s) back
     ∙ sym (rooms_after_all d.problem (take m all) d.base c s (fit_take d.problem m all d.base fit))
 
--- the edit that takes another one back fits
+-- the inverse of an edit that fits fits too
 inverse_fits : (i : Problem) (t : List Placed) (e : Edit) → Lawful i t → EditFits i e → IfSome (inverse t e) (EditFits i)
 inverse_fits i t (Place c s r) h f = (f.0, f.1)
 inverse_fits i t (Move c s s2 r) h f = by (room_at c s t) refl
@@ -121,14 +121,15 @@ stacked_fits i e o stack h f = by (is_given e (top stack))
     by true = Each-take (EditFits i) (length stack - 1) stack h
     by false = Each-push (EditFits i) stack o h f
 
--- the front of a list, and what is behind it, by one more
+-- the prefix of a list and its rest, with the prefix one element longer
 one_more : {X : Type 0} (m : ℕ) (xs : List X) (x : X) (more : List X) → drop m xs ≡ x ∷ more → (drop (suc m) xs ≡ more) × (take (suc m) xs ≡ take m xs ++ x ∷ [])
 one_more zero [] x more h = cc
 one_more zero (y ∷ ys) x more h = (let first : y ≡ x = cc in let rest : ys ≡ more = cc in (rest, ap (λ z. z ∷ []) first))
 one_more (suc m) [] x more h = cc
 one_more (suc m) (y ∷ ys) x more h = (let rest = one_more m ys x more h in (rest.0, ap (λ zs. y ∷ zs) rest.1))
 
--- of calls that are made on the base some are left: those before them made so many changes, and left these inverses
+-- the loop invariant: some calls are left; the earlier ones made the first m changes, and left this
+-- stack of inverses
 pub record IsUnstacking (i : Problem) (base : List Placed) (calls : List Call) (all : List (List Cell)) (m : ℕ) (stack : List Edit) (left : List Asked) : Type 0 where
   pub split : drop m all ≡ changes i (apply_all (take m all) base) (calls_of left)
   pub told : replies_in left ≡ replies i (apply_all (take m all) base) (calls_of left)
@@ -208,7 +209,7 @@ module _ (i : Problem) (base : List Placed) (calls : List Call) (all : List (Lis
       let bad : Some e ≡ None = subst (λ r. done_by (Edits e) r ≡ None) done none in
       cc
 
-  -- a call that is no accepted edit
+  -- a call that is not an accepted edit
   pub passed : (a : Asked) → done_edit a ≡ None → IsUnstacking i base calls all m stack (a ∷ left) → IsUnstacking i base calls all m stack left
   passed a none h = by a.call refl
     where
@@ -228,7 +229,7 @@ module _ (i : Problem) (base : List Placed) (calls : List Call) (all : List (Lis
   done_is (Edits x) (AreMissing xs) e h = cc
   done_is (Edits x) (AreCheapest xs) e h = cc
 
-  -- so many changes there are at least before an accepted edit, and it fits
+  -- there are at least m changes, and the next accepted edit fits
   pub few_made : (a : Asked) (e : Edit) → done_edit a ≡ Some e → IsUnstacking i base calls all m stack (a ∷ left) → (m ≤ length all) × EditFits i e
   few_made a e is h =
       let parts = done_is a.call a.reply e is in
@@ -239,7 +240,7 @@ module _ (i : Problem) (base : List Placed) (calls : List Call) (all : List (Lis
       let less : m < length all = has_more m all (change here e) (changes i (after_call i here (Edits e)) (calls_of left)) parts2 in
       (omega (arith, less), k.fit.0)
 
-  -- one that is
+  -- a call that is an accepted edit
   pub one_done : (a : Asked) (e : Edit) (n : ℕ) (new : List Edit) → done_edit a ≡ Some e → IsUnstacking i base calls all m stack (a ∷ left) → new ≡ stacked e (inverse here e) stack → n ≡ m + 1 → IsUnstacking i base calls all n new left
   one_done a e n new is h grown more =
       let parts = done_is a.call a.reply e is in
@@ -247,7 +248,7 @@ module _ (i : Problem) (base : List Placed) (calls : List Call) (all : List (Lis
       subst (λ k. IsUnstacking i base calls all k new left) (sym at)
       (done_here e new (subst (λ (x : Asked). IsUnstacking i base calls all m stack (x ∷ left)) (ap₂ (λ c r. record { call = c; reply = r }) parts.0 parts.1) h) grown)
 
--- at the end
+-- no call is left
 pub all_unstacked : (i : Problem) (base : List Placed) (calls : List Call) (all : List (List Cell)) (m : ℕ) (stack : List Edit) → IsUnstacking i base calls all m stack [] → stack ≡ stack_of i base calls []
 all_unstacked i base calls all m stack h = h.same
 
@@ -259,7 +260,7 @@ longer : (rest : List Edit) (x : Edit) → length (rest ++ x ∷ []) ≡ suc (le
 longer [] x = refl
 longer (y ∷ ys) x = ap suc (longer ys x)
 
--- what is taken off a stack is its top, and fits
+-- what is popped off a stack is its top
 pub popped : (stack rest : List Edit) (o : Option Edit) → stack ≡ rest ++ option_to_list o → (0 < length stack → IsSome o) → o ≡ top stack
 popped [] rest None is some = refl
 popped (x ∷ xs) rest None is some = (let bad : false ≡ true = some (omega arith) in cc)
@@ -276,7 +277,7 @@ pub popped_fits : (i : Problem) (stack rest : List Edit) (o : Option Edit) → s
 popped_fits i stack rest None is fit = tt
 popped_fits i stack rest (Some x) is fit = Each-last (EditFits i) rest x (subst (Each (EditFits i)) is fit)
 
--- nothing is left of a list from its end on
+-- dropping all elements of a list leaves none
 pub none_left : {X : Type 0} (xs : List X) (k : ℕ) → length xs ≤ k → drop k xs ≡ []
 none_left [] zero h = refl
 none_left [] (suc k) h = refl

@@ -1,4 +1,4 @@
--- The base of a draft beside a sheet.
+-- The comparison of a draft's snapshot with a sheet.
 use Rattle.std.specs.Prelude.{ℕ, ◌≡◌, Bool, not, ◌&&◌, ◌==◌, List}
 use Rattle.std.specs.List.{list_any}
 use Rattle.std.specs.Option.{option_eq}
@@ -10,33 +10,38 @@ use Rattle.ctt_board.specs.Changes.{room_at}
 use Rattle.ctt_board.specs.declared.cell.Cell.{Cell}
 use Rattle.ctt_draft.specs.Undo.{put_back, Records, UndoValue}
 
--- a timetable does not have the room of a cell there
+-- the timetable's room at the cell is not the cell's; either may be none
 abbrev pub is_other : List Placed → Cell → Bool
 is_other t x = not (option_eq (λ (a b : ℕ). a == b) x.room (room_at x.course x.slot t))
 
--- some of these cells is of the course, or of the slot, and a timetable has it otherwise
+-- the timetable differs from some of these cells of the course
 abbrev pub has_other_in_course : ℕ → List Placed → List Cell → Bool
 has_other_in_course c t cells = list_any (λ (x : Cell). x.course == c && is_other t x) cells
 
+-- the timetable differs from some of these cells in the slot
 abbrev pub has_other_in_slot : ℕ → List Placed → List Cell → Bool
 has_other_in_slot s t cells = list_any (λ (x : Cell). x.slot == s && is_other t x) cells
 
--- the present timetable with the recorded cells, which lead back to the base, and a sheet
+-- a draft's present timetable, the recorded cells, which lead back to its snapshot, and a sheet
 pub record Compared : Type 0 where
   pub problem : Problem
   pub present : List Placed
   pub undo : List Cell
   pub sheet : List Placed
 
+-- the snapshot
 abbrev pub base_of : Compared → List Placed
 base_of v = put_back v.problem v.undo v.present
 
+-- the snapshot and the sheet are timetables, and the present one differs from the snapshot in
+-- recorded cells only
 pub record IsComparable (v : Compared) : Type 0 where
   pub base : IsTimetable v.problem (base_of v)
   pub sheet : IsTimetable v.problem v.sheet
   pub records : Records (base_of v) v.present v.undo
 
--- what a comparison keeps: marks on the courses and the slots of cells that the sheet has otherwise
+-- the invariant of a comparison: exactly the courses and the slots of recorded cells from which the
+-- sheet differs are marked
 pub record IsComparison (i p q : Problem) (present sheet : List Placed) (undo : UndoValue) (courses slots : List ℕ) : Type 0 where
   pub present_of : p ≡ i
   pub sheet_of : q ≡ i

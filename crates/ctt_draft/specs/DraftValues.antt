@@ -1,4 +1,4 @@
--- A draft by its value.
+-- The value of a draft, and its invariant.
 use Rattle.std.specs.Prelude.{ℕ, ◌≡◌, ◌<◌, List, [], ◌∷◌, ◌++◌, Option, Some, None}
 use Rattle.std.specs.List.{AllByRecursion as Each}
 use Rattle.ctt_text.specs.Problem.{Problem, course_count, slot_count}
@@ -16,7 +16,8 @@ use Rattle.ctt_draft.specs.Laws.{SameOn}
 use Rattle.ctt_draft.specs.Undo.{undo_of, UndoValue}
 use Rattle.ctt_draft.specs.declared.asked.Asked.{Asked}
 
--- the base, which is the timetable at the opening or at the last refresh, and the calls with their replies
+-- a draft: its snapshot, which is the timetable at the opening or the last refresh, and its calls
+-- with their replies
 pub record DraftValue : Type 0 where
   pub problem : Problem
   pub base : List Placed
@@ -30,17 +31,19 @@ present d = whole d.problem d.base (calls_of d.asked)
 abbrev pub asked_more : DraftValue → Call → Reply → DraftValue
 asked_more d call reply = record { problem = d.problem; base = d.base; asked = d.asked ++ record { call = call; reply = reply } ∷ [] }
 
--- the draft after a refresh on the timetable t: it goes on from there, or stays what it is where a row is stale
+-- the draft after a refresh on the timetable t: t is its snapshot, or it is unchanged if a row is
+-- stale
 abbrev pub refreshed : DraftValue → List Placed → Option Row → DraftValue
 refreshed d t None = record { problem = d.problem; base = t; asked = d.asked }
 refreshed d t (Some row) = d
 
--- the replies are those that the calls get on the base
+-- the calls fit, and the replies are those that they get on the snapshot
 pub record IsTold (i : Problem) (base : List Placed) (asked : List Asked) : Type 0 where
   pub fit : Each (CallFits i) (calls_of asked)
   pub told : replies_in asked ≡ replies i base (calls_of asked)
 
--- what a draft keeps: the present timetable, its changes and the cells that they name, and the rows read
+-- the invariant of a draft: it stores the present timetable, its changes, its undo record and the
+-- rows that it read
 pub record IsDraft (i present_problem : Problem) (base present : List Placed) (asked : List Asked) (made : List (List Cell)) (undo : UndoValue) (rows : RowSet) : Type 0 where
   pub lawful_base : Lawful i base
   pub present_of : present_problem ≡ i
@@ -51,7 +54,8 @@ pub record IsDraft (i present_problem : Problem) (base present : List Placed) (a
   pub courses_are : (n : ℕ) → n < course_count i → has_course rows n ≡ all_read_course i (calls_of asked) n
   pub slots_are : (n : ℕ) → n < slot_count i → has_slot rows n ≡ all_read_slot (calls_of asked) n
 
--- the draft can be settled on the timetable t: its changes fit there, and it is there what it is on its base
+-- the draft can be settled on the timetable t: its changes fit there, and its calls do the same
+-- there as on the snapshot
 pub record Settles (d : DraftValue) (t : List Placed) : Type 0 where
   pub fit : ChangesFit d.problem (changes d.problem d.base (calls_of d.asked)) t
   pub same : SameOn d.problem d.base t (calls_of d.asked)

@@ -1,4 +1,4 @@
--- What layers above rest on.
+-- The laws of drafts that the layers above rely on.
 use Rattle.std.specs.Prelude.{◌≡◌, List, None}
 use Rattle.std.specs.List.{AllByRecursion as Each}
 use Rattle.ctt_text.specs.Problem.{Problem}
@@ -12,20 +12,23 @@ use Rattle.ctt_draft.specs.Drafts.{replies, whole, changes, stale}
 use Rattle.ctt_board.specs.Changes.{apply_all, ChangesFit}
 use Rattle.ctt_draft.specs.Undo.{undo_of, put_back}
 
--- what a draft is on its base, it is on the timetable t: its replies, its changes, and what they leave
+-- the calls do on the timetable t what they do on the snapshot: they get the same replies, and make
+-- the same changes, which lead from t to the timetable that they leave
 pub record SameOn (i : Problem) (base t : List Placed) (calls : List Call) : Type 0 where
   pub replies_same : replies i t calls ≡ replies i base calls
   pub changes_same : changes i t calls ≡ changes i base calls
   pub left : whole i t calls ≡ apply_all (changes i base calls) t
 
--- a draft that is not stale gets its replies, and makes its changes, on the present timetable too
+-- a draft that is not stale gets the same replies, and makes the same changes, on the present
+-- timetable as on its snapshot
 abbrev pub DraftFrame : Type 0
 DraftFrame = (i : Problem) (base now : List Placed) (calls : List Call) → Lawful i base → Lawful i now → Each (CallFits i) calls → stale i base now calls ≡ None → SameOn i base now calls
 
--- and its changes fit there
+-- the changes of a draft that is not stale fit the present timetable, made in order
 abbrev pub SettlingFits : Type 0
 SettlingFits = (i : Problem) (base now : List Placed) (calls : List Call) → Lawful i base → Lawful i now → Each (CallFits i) calls → stale i base now calls ≡ None → ChangesFit i (changes i base calls) now
 
--- the cells of the undo record, put back on what changes leave, give the timetable before them
+-- putting the cells of the undo record back on the timetable that changes leave gives the timetable
+-- before them
 abbrev pub UndoPutsBack : Type 0
 UndoPutsBack = (i : Problem) (base : List Placed) (changes : List (List Cell)) → IsTimetable i base → ChangesFit i changes base → put_back i (undo_of base changes) (apply_all changes base) ≡ base

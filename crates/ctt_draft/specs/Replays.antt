@@ -1,4 +1,4 @@
--- Changes that are made as far as they fit.
+-- Replaying changes, up to the first that does not fit.
 use Rattle.std.specs.Prelude.{◌≡◌, Bool, true, cond, ◌&&◌, List, [], ◌∷◌, None}
 use Rattle.std.specs.List.{AllByRecursion as Each}
 use Rattle.ctt_text.specs.Problem.{Problem}
@@ -11,20 +11,22 @@ use Rattle.ctt_edits.specs.Calls.{CallFits}
 use Rattle.ctt_edits.specs.declared.call.Call.{Call}
 use Rattle.ctt_draft.specs.Drafts.{whole, changes, stale}
 
--- the timetable after the changes before the first that does not fit
+-- the timetable after the changes that precede the first one that does not fit
 abbrev pub replayed : Problem → List (List Cell) → List Placed → List Placed
 replayed i [] t = t
 replayed i (x ∷ xs) t = cond (fits i x t) (replayed i xs (apply x t)) t
 
--- each fits when its turn comes
+-- each change fits after the earlier ones
 abbrev pub all_fit : Problem → List (List Cell) → List Placed → Bool
 all_fit i [] t = true
 all_fit i (x ∷ xs) t = fits i x t && all_fit i xs (apply x t)
 
--- where each change fits in its turn, all are made, and they leave what settling leaves
+-- if each change fits after the earlier ones, a replay makes all of them and has the same result as
+-- settling them
 abbrev pub ReplayIsSettling : Type 0
 ReplayIsSettling = (i : Problem) (xs : List (List Cell)) (t : List Placed) → Lawful i t → Each (λ x. is_change x ≡ true) xs → ChangesFit i xs t → (replayed i xs t ≡ apply_all xs t) × (all_fit i xs t ≡ true)
 
--- the changes of a draft that is not stale, made again on the present timetable, leave there what its calls leave
+-- replaying the changes of a draft that is not stale on the present timetable has the same result
+-- as making its calls there
 abbrev pub DraftReplays : Type 0
 DraftReplays = (i : Problem) (base now : List Placed) (calls : List Call) → Lawful i base → Lawful i now → Each (CallFits i) calls → stale i base now calls ≡ None → replayed i (changes i base calls) now ≡ whole i now calls

@@ -1,4 +1,4 @@
--- Which edit of a draft is taken back next, and by which edit.
+-- Which edit of a draft is undone next, and by which edit.
 use Rattle.std.specs.Prelude.{ℕ, ◌-◌, Bool, false, cond, ◌&&◌, ◌==◌, List, [], ◌∷◌, ◌++◌, length, take, Option, Some, None, slice_get}
 use Rattle.std.specs.Option.{option_map, option_to_list}
 use Rattle.ctt_text.specs.Problem.{Problem}
@@ -15,11 +15,12 @@ use Rattle.ctt_edits.specs.declared.reply.Reply.TheVariants.{Done}
 use Rattle.ctt_draft.specs.Drafts.{after_call}
 use Rattle.ctt_draft.specs.declared.asked.Asked.{Asked}
 
--- the edit of a call that was accepted
+-- the edit, if the call is one that was accepted
 abbrev pub done_by : Call → Reply → Option Edit
 done_by (Edits e) Done = Some e
 done_by _ _ = None
 
+-- the same of a call with its reply
 abbrev pub done_edit : Asked → Option Edit
 done_edit a = done_by a.call a.reply
 
@@ -28,6 +29,7 @@ abbrev pub edits_done : List Asked → List Edit
 edits_done [] = []
 edits_done (a ∷ asked) = option_to_list (done_edit a) ++ edits_done asked
 
+-- the edits are equal
 abbrev pub same_edit : Edit → Edit → Bool
 same_edit (Place c s r) (Place d s2 r2) = c == d && (s == s2 && r == r2)
 same_edit (Move c s t r) (Move d s2 t2 r2) = c == d && (s == s2 && (t == t2 && r == r2))
@@ -36,7 +38,8 @@ same_edit (Reroom c s r) (Reroom d s2 r2) = c == d && (s == s2 && r == r2)
 same_edit (Drop c s) (Drop d s2) = c == d && s == s2
 same_edit _ _ = false
 
--- the edit that takes an edit of t back: into the old room, where t has one
+-- the edit that undoes an edit made on t; none if it would have to restore a room that t does not
+-- have
 abbrev pub inverse : List Placed → Edit → Option Edit
 inverse t (Place c s r) = Some (Drop c s)
 inverse t (Move c s s2 r) = option_map (λ old. Move c s2 s old) (room_at c s t)
@@ -44,32 +47,35 @@ inverse t (Swap c s d s2) = Some (Swap c s2 d s)
 inverse t (Reroom c s r) = option_map (λ old. Reroom c s old) (room_at c s t)
 inverse t (Drop c s) = option_map (λ old. Place c s old) (room_at c s t)
 
--- the last one
+-- the top of the stack, which is its last element, if any
 abbrev pub top : List Edit → Option Edit
 top stack = slice_get stack (length stack - 1)
 
+-- there is such an edit, and it equals e
 abbrev pub is_given : Edit → Option Edit → Bool
 is_given e None = false
 is_given e (Some u) = same_edit u e
 
--- a stack of inverses after an accepted edit: one that is itself the top takes that off, any other puts its inverse on
+-- the stack of inverses after an accepted edit: an edit that equals the top pops it, any other
+-- pushes its inverse
 abbrev pub stacked : Edit → Option Edit → List Edit → List Edit
 stacked e inverse stack = cond (is_given e (top stack)) (take (length stack - 1) stack) (stack ++ option_to_list inverse)
 
+-- the new stack if the edit has no fault, else the old one
 abbrev pub stacked_if : Option EditFault → List Edit → List Edit → List Edit
 stacked_if None stack old = stack
 stacked_if (Some f) stack old = old
 
--- after any call that is made on t
+-- the stack of inverses after any call made on t
 abbrev pub stack_after : Problem → List Placed → Call → List Edit → List Edit
 stack_after i t (Looks look) stack = stack
 stack_after i t (Edits e) stack = stacked_if (edit_fault i t e) (stacked e (inverse t e) stack) stack
 
--- and after calls that are made on t one by one
+-- the stack of inverses after calls made on t in order
 abbrev pub stack_of : Problem → List Placed → List Call → List Edit → List Edit
 stack_of i t [] stack = stack
 stack_of i t (call ∷ calls) stack = stack_of i (after_call i t call) calls (stack_after i t call stack)
 
--- the edit that takes back the last accepted one of these calls that is not taken back yet
+-- the edit that undoes the last accepted edit of these calls that is not undone yet, if any
 abbrev pub undoing : Problem → List Placed → List Call → Option Edit
 undoing i base calls = top (stack_of i base calls [])

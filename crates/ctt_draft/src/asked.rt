@@ -1,4 +1,4 @@
-//! Calls with what was told.
+//! Calls with their replies.
 
 ghost use Rattle.std.specs.Prelude.{◌≡◌, ◌↔◌, IsTrue, IfOk};
 ghost use Rattle.std.specs.List.{AllByRecursion as Each};
@@ -14,7 +14,7 @@ use std::marker::Model;
 pub struct Asked {
     /// The edit or look that was asked for.
     pub call: Call,
-    /// What was told.
+    /// The reply that the planner got.
     pub reply: Reply,
 }
 
@@ -26,15 +26,15 @@ impl Drop for Asked {
 }
 
 impl Asked {
-    /// Whether the numbers of the call and of the reply are those of the instance, and each cost, and a
-    /// price without its sign, is at most 9,223,372,036,854,775,807.
+    /// Returns whether the numbers in the call and in the reply are valid for the instance, and
+    /// each cost and the absolute value of each price is at most 9,223,372,036,854,775,807.
     pub fn fits(&self, instance: &Instance) -> bool
         ensures { IsTrue result ↔ AskedFits instance.now self.now }
     {
         self.call.fits(instance) && self.reply.fits(instance)
     }
 
-    /// The edit, if one was accepted.
+    /// Returns the edit, if the call is one that was accepted.
     pub fn done_edit(&self) -> Option<Edit>
         ensures { result ≡ done_edit self.now }
     {
@@ -70,14 +70,14 @@ impl Model for AskedCalls {
 }
 
 impl AskedCalls {
-    /// The calls of a list.
+    /// Wraps a list of calls with their replies.
     pub fn new(list: Vec<Asked>) -> Self
         ensures { result ≡ list.items }
     {
         AskedCalls { list }
     }
 
-    /// A copy of a list.
+    /// Copies a list of calls with their replies.
     pub fn copy_of(alloc: Global, asked: &[Asked]) -> Result<Self, NoMemory>
         ensures { IfOk result (λ copy. copy ≡ asked.now) }
     {
@@ -92,14 +92,14 @@ impl AskedCalls {
         Ok(AskedCalls { list })
     }
 
-    /// The list.
+    /// Returns the calls with their replies, in order.
     pub fn as_slice(&self) -> &[Asked]
         ensures { result.now ≡ self.now }
     {
         self.list.as_slice()
     }
 
-    /// Whether each call and each reply fits.
+    /// Returns whether each call and each reply fits the instance.
     pub fn fits(&self, instance: &Instance) -> bool
         ensures { IsTrue result ↔ Each (AskedFits instance.now) self.now }
     {

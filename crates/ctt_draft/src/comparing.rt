@@ -1,4 +1,4 @@
-//! Whether rows that were read are the same on the base of a draft and on a sheet.
+//! Comparing a draft's snapshot with a sheet, in the rows that the draft read.
 
 ghost use Rattle.std.specs.Prelude.{ℕ, ◌≡◌, ◌<◌, ◌≤◌, ◌↔◌, ◌==◌, ◌&&◌, ◌||◌, false, IsTrue};
 ghost use Rattle.std.specs.List.{find};
@@ -20,17 +20,17 @@ use ctt_edits::RowsRead;
 use ctt_text::{CourseNo, Instance, Marks, SlotNo};
 use std::marker::Model;
 
-/// The base of a draft beside a sheet. The base is there as the draft's present sheet, on which the
-/// recorded cells are put back. It takes no memory.
+/// A comparison of a draft's snapshot with a sheet. The snapshot is given by the draft's present
+/// sheet and the recorded cells that lead back to it. Allocates nothing.
 #[derive(Drop)]
 pub(crate) struct Comparison<'a, R: Rooms> {
     instance: &'a Instance,
     present: &'a R,
     undo: &'a Undo,
     sheet: &'a R,
-    /// The courses of recorded cells that the sheet has otherwise.
+    /// The courses of the recorded cells in which the sheet differs from the snapshot.
     courses: Marks,
-    /// Their slots.
+    /// The slots of these cells.
     slots: Marks,
 }
 
@@ -51,7 +51,7 @@ impl<'a, R: Rooms> Model for Comparison<'a, R> {
         (R.list c.present.now) (R.list c.sheet.now) c.undo.now c.courses c.slots };
 }
 
-/// Marks the course and the slot of a cell, if a timetable has another room there.
+/// Marks the course and the slot of a cell if the sheet differs from it there.
 fn mark_if_other<R: Rooms>(cell: &Cell, sheet: &R, courses: &mut Marks, slots: &mut Marks)
     requires course { cell.now.course < course_count (R.problem sheet.now) }
     requires slot { cell.now.slot < slot_count (R.problem sheet.now) }
@@ -69,7 +69,7 @@ fn mark_if_other<R: Rooms>(cell: &Cell, sheet: &R, courses: &mut Marks, slots: &
     }
 }
 
-/// Marks the courses and the slots of those cells where a timetable has another room.
+/// Marks the courses and the slots of the cells from which the sheet differs.
 fn mark_others<R: Rooms>(cells: &[Cell], sheet: &R, courses: &mut Marks, slots: &mut Marks)
     requires within { AreWithin (course_count (R.problem sheet.now))
         (slot_count (R.problem sheet.now)) cells.now }
@@ -86,7 +86,8 @@ fn mark_others<R: Rooms>(cells: &[Cell], sheet: &R, courses: &mut Marks, slots: 
 }
 
 impl<'a, R: Rooms> Comparison<'a, R> {
-    /// The base to which an undo record leads back from the present timetable, beside a sheet.
+    /// Compares a sheet with the snapshot to which an undo record leads back from the present
+    /// timetable.
     pub(crate) fn new(instance: &'a Instance, present: &'a R, undo: &'a Undo, sheet: &'a R) -> Self
         requires present { R.problem present.now ≡ instance.now }
         requires sheet { R.problem sheet.now ≡ instance.now }
@@ -118,35 +119,36 @@ impl<'a, R: Rooms> Comparison<'a, R> {
         }
     }
 
-    /// Computes nothing: its contract says that the rows of two timetables are compared.
+    /// Computes nothing: its contract says that the snapshot and the sheet are timetables, and that
+    /// the present timetable differs from the snapshot in recorded cells only.
     fn are_timetables(&self)
         ensures { IsComparable self.now }
     {
         let _courses = &self.courses;
     }
 
-    /// The instance.
     fn instance(&self) -> &'a Instance
         ensures { result.now ≡ self.now.problem }
     {
         self.instance
     }
 
-    /// Whether the sheet has some recorded cell of a course otherwise.
+    /// Returns whether the sheet differs from the snapshot in a recorded cell of a course.
     fn has_other_in_course(&self, course: CourseNo) -> bool
         ensures { result ≡ has_other_in_course course self.now.sheet self.now.undo }
     {
         self.courses.is_marked(course.get() as usize)
     }
 
-    /// Whether the sheet has some recorded cell of a slot otherwise.
+    /// Returns whether the sheet differs from the snapshot in a recorded cell of a slot.
     fn has_other_in_slot(&self, slot: SlotNo) -> bool
         ensures { result ≡ has_other_in_slot slot self.now.sheet self.now.undo }
     {
         self.slots.is_marked(slot.get() as usize)
     }
 
-    /// Whether the sheet has the room that is there at present, or the cell is recorded.
+    /// Returns whether the sheet agrees with the present timetable in a cell, or the cell is
+    /// recorded.
     fn is_same_or_recorded(&self, course: CourseNo, slot: SlotNo) -> bool
         requires course { course < course_count self.now.problem }
         requires slot { slot < slot_count self.now.problem }
@@ -158,7 +160,7 @@ impl<'a, R: Rooms> Comparison<'a, R> {
             || self.undo.has(course, slot)
     }
 
-    /// Whether the lectures of a course are the same.
+    /// Returns whether a course has the same lectures in the snapshot and on the sheet.
     fn same_course_row(&self, course: CourseNo) -> bool
         requires { course < course_count self.now.problem }
         ensures { IsTrue result
@@ -177,7 +179,7 @@ impl<'a, R: Rooms> Comparison<'a, R> {
         true
     }
 
-    /// Whether the lectures in a slot are the same.
+    /// Returns whether a slot has the same lectures in the snapshot and on the sheet.
     fn same_slot_row(&self, slot: SlotNo) -> bool
         requires { slot < slot_count self.now.problem }
         ensures { IsTrue result
@@ -196,7 +198,6 @@ impl<'a, R: Rooms> Comparison<'a, R> {
         true
     }
 
-    /// Whether the lectures of a course differ.
     fn course_differs(&self, course: CourseNo) -> bool
         requires { course < course_count self.now.problem }
         ensures { result ≡ differs (base_of self.now) self.now.sheet (CourseRow course) }
@@ -204,7 +205,6 @@ impl<'a, R: Rooms> Comparison<'a, R> {
         !self.same_course_row(course)
     }
 
-    /// Whether the lectures in a slot differ.
     fn slot_differs(&self, slot: SlotNo) -> bool
         requires { slot < slot_count self.now.problem }
         ensures { result ≡ differs (base_of self.now) self.now.sheet (SlotRow slot) }
@@ -212,7 +212,7 @@ impl<'a, R: Rooms> Comparison<'a, R> {
         !self.same_slot_row(slot)
     }
 
-    /// The first course whose row was read and is not the same.
+    /// Returns the first course whose row was read and differs, if any.
     pub(crate) fn first_course(&self, rows: &RowsRead) -> Option<CourseNo>
         ensures { result ≡ find (λ c. differs (base_of self.now) self.now.sheet (CourseRow c))
             (below (has_course rows.now) (course_count self.now.problem)) }
@@ -229,7 +229,7 @@ impl<'a, R: Rooms> Comparison<'a, R> {
         None
     }
 
-    /// The first slot whose row was read and is not the same.
+    /// Returns the first slot whose row was read and differs, if any.
     pub(crate) fn first_slot(&self, rows: &RowsRead) -> Option<SlotNo>
         ensures { result ≡ find (λ s. differs (base_of self.now) self.now.sheet (SlotRow s))
             (below (has_slot rows.now) (slot_count self.now.problem)) }

@@ -1,4 +1,4 @@
-//! A draft: what one planner asks of a timetable of his own.
+//! A draft: one planner's calls on a private copy of the timetable.
 
 ghost use Rattle.std.specs.Prelude.{◌≡◌, [], List, IfOk, OnOk, OnErr, None, Ok};
 ghost use Rattle.ctt_text.specs.declared.placed.Placed.{Placed as Lecture};
@@ -26,9 +26,11 @@ use std::marker::Model;
 mod staleness;
 mod undoing;
 
-/// The base, which is the timetable at the opening or at the last refresh, the calls since the opening with
-/// their replies, and the timetable as these leave it. Nobody else's later work is seen in it. Only the last
-/// of these timetables is kept; the undo record leads from it back to the base.
+/// A planner's open draft: a snapshot of the timetable, the calls made since the draft was opened
+/// with their replies, and the timetable that they leave. The snapshot (the contracts' `base`) is
+/// taken when the draft is opened and at each refresh, so other planners' later work is not
+/// visible. Only the timetable after the calls is stored; the undo record leads from it back to the
+/// snapshot.
 pub struct Draft<'i, S: Timetable> {
     instance: &'i Instance,
     present: S,
@@ -71,7 +73,7 @@ impl<'i, S: Timetable> Model for Draft<'i, S> {
 }
 
 impl<'i, S: Sheet<'i>> Draft<'i, S> {
-    /// A draft on the timetable of a sheet, in which nothing was asked yet.
+    /// Opens a draft without calls, with a sheet's timetable as its snapshot.
     pub fn open(alloc: Global, sheet: &S) -> Result<Self, NoMemory>
         ensures problem { IfOk result (λ draft. draft.problem ≡ S.problem sheet.now) }
         ensures base { IfOk result (λ draft. draft.base ≡ S.list sheet.now) }
@@ -91,22 +93,22 @@ impl<'i, S: Sheet<'i>> Draft<'i, S> {
         })
     }
 
-    /// The instance.
+    /// Returns the instance of the draft.
     pub fn instance(&self) -> &'i Instance
         ensures { result.now ≡ self.now.problem }
     {
         self.instance
     }
 
-    /// The calls with their replies, in order.
+    /// Returns the calls with their replies, in order.
     pub fn asked(&self) -> &[Asked]
         ensures { result.now ≡ self.now.asked }
     {
         self.asked.as_slice()
     }
 
-    /// The changes that the calls made, in order. Replayed on a timetable on which the draft is not
-    /// stale, they leave there what its calls leave.
+    /// Returns the changes that the calls made, in order. Replaying them on a timetable on which
+    /// the draft is not stale has the same result as making the calls there.
     pub fn changes(&self) -> &[Change]
         ensures value { result.now ≡ changes self.now.problem self.now.base
             (calls_of self.now.asked) }
@@ -119,8 +121,8 @@ impl<'i, S: Sheet<'i>> Draft<'i, S> {
         self.changes.as_slice()
     }
 
-    /// The cells that the changes name, each once, in the order in which they are named first, with the
-    /// room that the base has there, or none.
+    /// Returns the cells that the changes name, each once and in order of first appearance, with
+    /// the room that the snapshot has there, if any.
     pub fn undo(&self) -> &[Cell]
         ensures { result.now ≡ undo_of self.now.base
             (changes self.now.problem self.now.base (calls_of self.now.asked)) }
@@ -128,7 +130,7 @@ impl<'i, S: Sheet<'i>> Draft<'i, S> {
         self.undo.cells()
     }
 
-    /// Adds a call that changes nothing, and what was told.
+    /// Stores a call that changes nothing, with its reply.
     fn keep(&mut self, call: Call, told: &Reply) -> Result<(), NoMemory>
         requires fits { CallFits self.old.problem call }
         requires told { told.now ≡ reply self.old.problem (present self.old) call }
@@ -142,7 +144,7 @@ impl<'i, S: Sheet<'i>> Draft<'i, S> {
         Ok(())
     }
 
-    /// Keeps an edit that is made, and makes it.
+    /// Makes an accepted edit and stores it.
     fn make(&mut self, edit: Edit, change: Change) -> Result<(), NoMemory>
         requires fits { EditFits self.old.problem edit }
         requires accepted { edit_fault self.old.problem (present self.old) edit ≡ None }
@@ -163,7 +165,7 @@ impl<'i, S: Sheet<'i>> Draft<'i, S> {
         Ok(())
     }
 
-    /// The timetable as the calls leave it.
+    /// Returns the timetable as the calls leave it.
     fn present(&self) -> &S
         ensures problem { S.problem result.now ≡ self.now.problem }
         ensures list { S.list result.now ≡ present self.now }
@@ -171,7 +173,7 @@ impl<'i, S: Sheet<'i>> Draft<'i, S> {
         &self.present
     }
 
-    /// Looks, and keeps what is shown.
+    /// Answers a look and stores it with its reply.
     fn look(&mut self, look: Look) -> Result<Reply, NoMemory>
         requires fits { LookFits self.old.problem look }
         ensures ok { IfOk result (λ told.
@@ -184,7 +186,7 @@ impl<'i, S: Sheet<'i>> Draft<'i, S> {
         Ok(told)
     }
 
-    /// Makes an edit, or keeps its fault.
+    /// Makes an edit, or refuses it, and stores it with its reply.
     fn edit(&mut self, edit: &Edit) -> Result<Reply, NoMemory>
         requires fits { EditFits self.old.problem edit.now }
         ensures ok { IfOk result (λ told.
@@ -206,7 +208,7 @@ impl<'i, S: Sheet<'i>> Draft<'i, S> {
         }
     }
 
-    /// Makes a call. Where memory is wanted the call was not made, and nothing more was read.
+    /// Makes a call. If memory runs out, the call is not made and the draft is unchanged.
     pub fn call(&mut self, call: Call) -> Result<Reply, NoMemory>
         requires { CallFits self.old.problem call }
         ensures ok { IfOk result (λ told.
@@ -220,8 +222,8 @@ impl<'i, S: Sheet<'i>> Draft<'i, S> {
         }
     }
 
-    /// What a look shows on the timetable as the calls leave it. It is no call: nothing is stored of
-    /// it, and no rows are read for it.
+    /// Returns what a look shows on the timetable as the calls leave it. This is not a call: it is
+    /// not stored, and its rows do not count as read.
     pub fn peek(&self, look: &Look) -> Result<Reply, NoMemory>
         requires { LookFits self.now.problem look.now }
         ensures { IfOk result (λ told. told ≡ shown self.now.problem (present self.now) look.now) }
@@ -229,8 +231,9 @@ impl<'i, S: Sheet<'i>> Draft<'i, S> {
         ctt_edits::look(*self.changes.allocator(), self.present(), look)
     }
 
-    /// Computes nothing: its contract says that the base, and the timetable that the calls leave, are
-    /// lawful, and that each call fits and was told what it is told on the base.
+    /// Computes nothing: its contract says that the snapshot and the timetable that the calls leave
+    /// are lawful, that each call fits, and that the replies are those that the calls get on the
+    /// snapshot.
     pub fn lawful(&self)
         ensures base { Lawful self.now.problem self.now.base }
         ensures present { Lawful self.now.problem (present self.now) }
@@ -239,7 +242,7 @@ impl<'i, S: Sheet<'i>> Draft<'i, S> {
         self.present.lawful();
     }
 
-    /// Ends the draft: its calls with their replies, and the changes that they made.
+    /// Ends the draft and returns its calls with their replies, and the changes that they made.
     pub fn finish(self) -> Work
         ensures asked { result.asked.items ≡ self.entry.asked }
         ensures changes { result.changes.items

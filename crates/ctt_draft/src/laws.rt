@@ -3,30 +3,31 @@
 ghost use Rattle.ctt_draft.specs.Laws.{DraftFrame, SettlingFits, UndoPutsBack};
 ghost use Rattle.ctt_draft.specs.Replays.{ReplayIsSettling, DraftReplays};
 
-/// A draft that is not stale is told on the present timetable what it was told on its base, and
-/// changes the same there.
+/// States that a draft that is not stale gets the same replies and makes the same changes on the
+/// present timetable as on its snapshot.
 pub fn draft_frame()
     ensures { DraftFrame }
 {}
 
-/// The changes of a draft that is not stale fit the present timetable, each when its turn comes.
+/// States that the changes of a draft that is not stale fit the present timetable, made in order.
 pub fn settling_fits()
     ensures { SettlingFits }
 {}
 
-/// The cells of the undo record, put back on the timetable that a draft's changes leave, give its base.
+/// States that putting the cells of the undo record back on the timetable that a draft's changes
+/// leave gives its snapshot.
 pub fn undo_puts_back()
     ensures { UndoPutsBack }
 {}
 
-/// Where each of some changes fits in its turn, all are made by a replay, and leave what settling them
-/// leaves.
+/// States that if each change fits after the earlier ones, a replay makes all of them and has the
+/// same result as settling them.
 pub fn replay_is_settling()
     ensures { ReplayIsSettling }
 {}
 
-/// The changes of a draft that is not stale, replayed on the present timetable, leave there what its
-/// calls leave.
+/// States that replaying the changes of a draft that is not stale on the present timetable has the
+/// same result as making its calls there.
 pub fn draft_replays()
     ensures { DraftReplays }
 {}

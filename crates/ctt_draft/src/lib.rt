@@ -1,4 +1,4 @@
-//! Drafts: calls that a planner makes on a timetable of his own, and what is made of them.
+//! Drafts: a planner's calls on a private copy of the timetable, their replies and their changes.
 #![tactic(auto)]
 
 mod asked;

@@ -1,12 +1,12 @@
-//! Changes that are made again on another sheet.
+//! Replaying changes on another sheet.
 
 ghost use Rattle.std.specs.Prelude.{◌≡◌};
 ghost use Rattle.ctt_draft.specs.Replays.{replayed, all_fit};
 
 use ctt_board::{Change, Timetable, laws};
 
-/// Makes changes on a sheet, in order, up to the first that does not fit, and answers whether all were
-/// made. It takes no memory.
+/// Makes changes on a sheet, in order, stopping before the first that does not fit, and returns
+/// whether all were made. Allocates nothing.
 pub fn replay<S: Timetable>(changes: &[Change], sheet: &mut S) -> bool
     ensures problem { S.problem sheet.new ≡ S.problem sheet.old }
     ensures list { S.list sheet.new
@@ -19,7 +19,7 @@ pub fn replay<S: Timetable>(changes: &[Change], sheet: &mut S) -> bool
             return false;
         }
         sheet.lawful();
-        // Computes nothing that is used: its contract says that no removal stands behind an addition.
+        // Called for its contract alone, which says that no removal follows an addition.
         let _in_turn = change.cells();
         sheet.apply(change);
     }

@@ -1,4 +1,4 @@
-//! What a draft keeps to get back to its base: the cells that it changed, as they were.
+//! A draft's undo record: the cells that it changed, with the rooms they had in its snapshot.
 
 ghost use Rattle.std.specs.Prelude.{◌≡◌, ◌<◌, ◌≤◌, ◌+◌, [], length, IfOk, OnOk, OnErr};
 ghost use Rattle.std.specs.Vec.{vec_len, vec_capacity};
@@ -10,12 +10,12 @@ use ctt_text::{BitRows, CourseNo, Instance, NoMemory, SlotNo};
 use std::alloc::Global;
 use std::marker::Model;
 
-/// The cells that were changed, each once, in the order in which they were changed first, with the
-/// rooms that were there before that.
+/// The cells that were changed, each once and in order of their first change, with the rooms that
+/// they had before it.
 #[derive(Drop)]
 pub(crate) struct Undo {
     cells: Vec<Cell>,
-    /// For each slot, the courses of the cells that are recorded.
+    /// For each slot, the courses whose cells are recorded.
     marks: BitRows,
 }
 
@@ -34,7 +34,7 @@ impl Model for Undo {
 }
 
 impl Undo {
-    /// No cell of an instance is recorded.
+    /// Creates an empty record for the cells of an instance.
     pub(crate) fn new(alloc: Global, instance: &Instance) -> Result<Self, NoMemory>
         ensures { IfOk result (λ undo.
             undo ≡ record {
@@ -52,7 +52,7 @@ impl Undo {
         })
     }
 
-    /// The cells.
+    /// Returns the recorded cells, in order of their first change.
     pub(crate) fn cells(&self) -> &[Cell]
         ensures value { result.now ≡ self.now.cells }
         ensures within { AreWithin self.now.courses self.now.slots self.now.cells }
@@ -60,7 +60,7 @@ impl Undo {
         self.cells.as_slice()
     }
 
-    /// Whether the cell of a course in a slot is recorded.
+    /// Returns whether the cell of a course in a slot is recorded.
     pub(crate) fn has(&self, course: CourseNo, slot: SlotNo) -> bool
         requires course { course < self.now.courses }
         requires slot { slot < self.now.slots }
@@ -70,7 +70,7 @@ impl Undo {
             .is_marked(slot.get() as usize, course.get() as usize)
     }
 
-    /// Records these cells, of those that are not recorded yet, with the rooms that are there.
+    /// Records those of these cells that are not recorded yet, with their present rooms.
     pub(crate) fn record<R: Rooms>(&mut self, rooms: &R, cells: &[Cell]) -> Result<(), NoMemory>
         requires courses { self.old.courses ≡ course_count (R.problem rooms.now) }
         requires slots { self.old.slots ≡ slot_count (R.problem rooms.now) }
@@ -85,7 +85,7 @@ impl Undo {
     }
 }
 
-/// Records a cell, if it is not recorded yet, with the room that is there.
+/// Records a cell with its present room, if it is not recorded yet.
 fn note<R: Rooms>(recorded: &mut Vec<Cell>, marks: &mut BitRows, rooms: &R, cell: &Cell)
     requires room { vec_len recorded.old < vec_capacity recorded.old }
     requires undo { IsUndo recorded.old.items marks.old }
@@ -111,7 +111,7 @@ fn note<R: Rooms>(recorded: &mut Vec<Cell>, marks: &mut BitRows, rooms: &R, cell
     }
 }
 
-/// Records cells in turn. There is room for them.
+/// Records those of these cells that are not recorded yet. The list has the capacity for them.
 fn note_all<R: Rooms>(recorded: &mut Vec<Cell>, marks: &mut BitRows, rooms: &R, cells: &[Cell])
     requires room { vec_len recorded.old + length cells.now ≤ vec_capacity recorded.old }
     requires undo { IsUndo recorded.old.items marks.old }

@@ -1,4 +1,4 @@
-//! What a draft was, when it has ended.
+//! The result of a finished draft.
 
 ghost use Rattle.std.specs.Prelude.{◌≡◌};
 ghost use Rattle.ctt_board.specs.Changes.{apply_all, ChangesFit};
@@ -14,7 +14,7 @@ pub struct Work {
 }
 
 impl Work {
-    /// Makes its changes on a sheet. It takes no memory.
+    /// Makes the changes on a sheet, in order. Allocates nothing.
     pub fn settle<S: Timetable>(&self, sheet: &mut S)
         requires { ChangesFit (S.problem sheet.old) self.now.changes.items (S.list sheet.old) }
         ensures problem { S.problem sheet.new ≡ S.problem sheet.old }

@@ -1,4 +1,4 @@
-//! The turns of a desk: what it does at each event.
+//! The turns of a desk: how it handles each event.
 
 ghost use Rattle.std.specs.Prelude.{◌≡◌, ◌⊎◌, ◌+◌, ◌<◌, length, None};
 ghost use Rattle.ctt_edits.specs.Calls.{CallFits};
@@ -57,7 +57,7 @@ impl<'i, S: Sheet<'i>> Desk<'i, S> {
         }
     }
 
-    /// Looks at a draft. It is no call: the draft stays as it is.
+    /// Looks at a draft. This is not a call: the draft is unchanged.
     fn peek(&mut self, planner: PlannerNo, look: &Look) -> Answer
         requires planner { planner < length self.old.drafts }
         requires fits { LookFits self.old.problem look.now }
@@ -75,7 +75,8 @@ impl<'i, S: Sheet<'i>> Desk<'i, S> {
         }
     }
 
-    /// Says how a draft stands. It is no call: the draft stays as it is. It takes no memory.
+    /// Returns the status of a draft. This is not a call: the draft is unchanged. Allocates
+    /// nothing.
     fn status(&mut self, planner: PlannerNo) -> Answer
         requires { planner < length self.old.drafts }
         ensures answer { IsAnswerTo self.old (Status planner) result }
@@ -92,7 +93,7 @@ impl<'i, S: Sheet<'i>> Desk<'i, S> {
         }
     }
 
-    /// Ends a planner's draft, if he has one.
+    /// Ends a planner's draft, if there is one.
     fn give_up(&mut self, planner: PlannerNo)
         requires { planner < length self.old.drafts }
         ensures { self.new ≡ with_draft planner None self.old }
@@ -100,7 +101,7 @@ impl<'i, S: Sheet<'i>> Desk<'i, S> {
         self.drafts[planner.get() as usize] = None;
     }
 
-    /// Gives a draft up.
+    /// Ends a draft without accepting it.
     fn abandon(&mut self, planner: PlannerNo) -> Answer
         requires { planner < length self.old.drafts }
         ensures answer { IsAnswerTo self.old (Abandon planner) result }
@@ -126,7 +127,7 @@ impl<'i, S: Sheet<'i>> Desk<'i, S> {
         }
     }
 
-    /// Settles a draft that is not stale, and enters it into the journal.
+    /// Settles a draft that is not stale, and appends it to the journal.
     fn accept(&mut self, planner: PlannerNo) -> Answer
         requires planner { planner < length self.old.drafts }
         requires fresh { IsFresh self.old (draft_at self.old.drafts planner) }
@@ -147,7 +148,7 @@ impl<'i, S: Sheet<'i>> Desk<'i, S> {
         Answer::Committed(self.journal.len() as u64)
     }
 
-    /// Accepts a draft, or refuses it where it is stale.
+    /// Accepts a draft, or refuses and ends it if it is stale.
     fn commit(&mut self, planner: PlannerNo) -> Answer
         requires { planner < length self.old.drafts }
         ensures answer { IsAnswerTo self.old (Commit planner) result }
@@ -167,7 +168,7 @@ impl<'i, S: Sheet<'i>> Desk<'i, S> {
         }
     }
 
-    /// Brings a draft up to date, or ends it where it is stale.
+    /// Brings a draft up to date, or ends it if it is stale.
     fn refresh(&mut self, planner: PlannerNo) -> Answer
         requires { planner < length self.old.drafts }
         ensures answer { IsAnswerTo self.old (Refresh planner) result }
@@ -190,7 +191,7 @@ impl<'i, S: Sheet<'i>> Desk<'i, S> {
         }
     }
 
-    /// Answers an event by what the desk keeps.
+    /// Dispatches an event to its handler.
     pub(crate) fn answer(&mut self, event: Event) -> Answer
         requires { EventFits self.old.problem (length self.old.drafts) event }
         ensures answer { IsAnswerTo self.old event result }

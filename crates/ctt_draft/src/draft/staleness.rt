@@ -1,4 +1,4 @@
-//! Whether a draft is stale on another timetable, and bringing it up to date.
+//! Checking whether a draft is stale on another timetable, and bringing it up to date.
 
 ghost use Rattle.std.specs.Prelude.{◌≡◌, IfOk, OnErr, None, Ok};
 ghost use Rattle.ctt_draft.specs.Drafts.{calls_of, stale};
@@ -12,9 +12,9 @@ use ctt_edits::Row;
 use ctt_text::NoMemory;
 
 impl<'i, S: Sheet<'i>> Draft<'i, S> {
-    /// The least row that the calls read and that is not the same on a sheet of the instance, if there
-    /// is one. Where there is none, the draft's changes fit that sheet, and the calls are told the same
-    /// on it. It takes no memory, and so never fails.
+    /// Returns the first row, courses before slots, that the calls read and that differs between
+    /// the snapshot and a sheet of the same instance. If there is none, the draft's changes fit
+    /// that sheet, and its calls get the same replies there. Allocates nothing, so it never fails.
     pub fn stale(&self, sheet: &S) -> Result<Option<Row>, NoMemory>
         requires same { S.problem sheet.now ≡ self.now.problem }
         ensures row { result ≡ Ok (stale self.now.problem self.now.base (S.list sheet.now)
@@ -34,10 +34,10 @@ impl<'i, S: Sheet<'i>> Draft<'i, S> {
         Ok(None)
     }
 
-    /// Brings the draft up to date: where none of the rows that it read differs on a sheet, that sheet's
-    /// timetable is its base from now on, and its calls stay what they are. Else the least row that differs
-    /// is told, and the draft stays as it was, as it does where memory is wanted. That is the case of a
-    /// draft alone that is not stale.
+    /// Brings the draft up to date: if none of the rows that it read differs on a sheet, that
+    /// sheet's timetable becomes its snapshot, and its calls are unchanged. Otherwise returns the
+    /// first row that differs, and the draft is unchanged. The draft is also unchanged if memory
+    /// runs out, which can only happen if it is not stale.
     pub fn refresh(&mut self, sheet: &S) -> Result<Option<Row>, NoMemory>
         requires { S.problem sheet.now ≡ self.old.problem }
         ensures ok { IfOk result (λ found.

@@ -1,4 +1,4 @@
-//! Which edit of a draft is taken back next.
+//! Finding the edit that undoes a draft's last accepted edit.
 
 ghost use Rattle.std.specs.Prelude.{◌≡◌, ◌<◌, ◌≤◌, ◌++◌, ◌∷◌, [], length, take, IfOk, IfSome, OnOk};
 ghost use Rattle.ctt_text.specs.Problem.{course_count, slot_count};
@@ -13,7 +13,7 @@ use ctt_board::{Cell, Change, Rooms, Sheet, Timetable};
 use ctt_edits::Edit;
 use ctt_text::{CourseNo, NoMemory, RoomNo, SlotNo};
 
-/// Whether an edit is the last one of these.
+/// Returns whether an edit equals the top of the stack.
 fn is_top(stack: &[Edit], edit: &Edit) -> bool
     ensures { result ≡ is_given edit.now (top stack.now) }
 {
@@ -23,14 +23,14 @@ fn is_top(stack: &[Edit], edit: &Edit) -> bool
     }
 }
 
-/// Adds an element.
 fn add<T: Copy>(list: &mut Vec<T>, one: &T) -> Result<(), NoMemory>
     ensures { OnOk result (list.new.items ≡ list.old.items ++ one.now ∷ []) }
 {
     Ok(list.push(*one)?)
 }
 
-/// Takes the last inverse off, if the edit is that, or else adds the edit's own.
+/// Pops the top of the stack if the edit equals it; otherwise pushes the edit's inverse, if there
+/// is one.
 fn restack(stack: &mut Vec<Edit>, edit: &Edit, inverse: Option<Edit>) -> Result<(), NoMemory>
     ensures { OnOk result (stack.new.items ≡ stacked edit.now inverse stack.old.items) }
 {
@@ -44,7 +44,7 @@ fn restack(stack: &mut Vec<Edit>, edit: &Edit, inverse: Option<Edit>) -> Result<
     }
 }
 
-/// The room of a course in a slot after these cells, from the one before them.
+/// Returns the room of a course in a slot after these cells, given its room before them.
 fn room_after(
     cells: &[Cell],
     course: CourseNo,
@@ -62,7 +62,7 @@ fn room_after(
     last
 }
 
-/// The same after changes.
+/// Returns the room of a course in a slot after these changes, given its room before them.
 fn room_after_all(
     changes: &[Change],
     course: CourseNo,
@@ -79,7 +79,7 @@ fn room_after_all(
 }
 
 impl<'i, S: Sheet<'i>> Draft<'i, S> {
-    /// The room that a course had in a slot when so many changes were made, if it had one.
+    /// Returns the room that a course had in a slot after the first `made` changes, if it had one.
     fn room_before(&self, made: usize, course: CourseNo, slot: SlotNo) -> Option<RoomNo>
         requires made { made ≤ length (changes self.now.problem self.now.base
             (calls_of self.now.asked)) }
@@ -94,7 +94,7 @@ impl<'i, S: Sheet<'i>> Draft<'i, S> {
         room_after_all(&self.changes()[..made], course, slot, base)
     }
 
-    /// The edit that takes an edit back which was made behind so many changes.
+    /// Returns the edit that undoes an edit made after the first `made` changes.
     fn inverse(&self, made: usize, edit: &Edit) -> Option<Edit>
         requires made { made ≤ length (changes self.now.problem self.now.base
             (calls_of self.now.asked)) }
@@ -122,7 +122,7 @@ impl<'i, S: Sheet<'i>> Draft<'i, S> {
         }
     }
 
-    /// The edit that takes back the last accepted edit that is not taken back yet, if there is one.
+    /// Returns the edit that undoes the last accepted edit that is not undone yet, if there is one.
     pub fn undoing(&self) -> Result<Option<Edit>, NoMemory>
         ensures edit { IfOk result (λ edit.
             edit ≡ undoing self.now.problem self.now.base (calls_of self.now.asked)) }
