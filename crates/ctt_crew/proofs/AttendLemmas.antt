@@ -13,7 +13,7 @@ use Rattle.ctt_crew.specs.Seats.{AnswersCall, AnswersLine}
 use Rattle.ctt_crew.specs.declared.seat.Seat.{Seat}
 
 module _ {X Y : Type 0} (i : Problem) (t0 : List Placed) (p : ℕ) (all : List (List ℕ)) (before : Seat X Y) where
-  -- at first no line is answered
+  -- at first no line has been answered
   pub begins : (text : List ℕ) → text ≡ [] → IsAttending i t0 p all all before before text
   begins text none = λ after new is. subst (λ old. AnswersItems i t0 (own_items i p all) before after old new) none is
 
@@ -43,7 +43,7 @@ call_answered i t0 (Some (Abandon q)) call seat next old new e h = cc
 call_answered i t0 (Some (Show look)) call seat next old new e h = cc
 
 module _ (i : Problem) (t0 : List Placed) (all : List (PlannerValue × List ℕ)) where
-  -- one planner more has left, with his answers
+  -- one more planner has left, with his answers
   pub one_attended : (who : PlannerValue × List ℕ) (left : List (PlannerValue × List ℕ)) (planners : List PlannerValue) (texts : List (List ℕ)) (q : PlannerValue) (text : List ℕ) → AreAttending i t0 all (who ∷ left) planners texts → IsAttended i t0 who q text
       → AreAttending i t0 all left (planners ++ q ∷ []) (texts ++ text ∷ [])
   one_attended who left planners texts q text h is = λ others more are.

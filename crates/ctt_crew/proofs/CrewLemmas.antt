@@ -17,12 +17,12 @@ pub planners_many : (n : ℕ) → length (new_planners n) ≡ n
 planners_many zero = refl
 planners_many (suc n) = length-append (new_planners n) (new_planner n ∷ []) ∙ ap (λ k. k + 1) (planners_many n) ∙ (omega arith)
 
--- where nothing is left all is taken
+-- if nothing is left, all is taken
 pub all_taken : {X Y : Type 0} (f : X → Y) (taken : List Y) (left : List X) (all : List Y) → length left ≡ 0 → taken ++ map f left ≡ all → taken ≡ all
 all_taken f taken [] all none same = sym (append-nil taken) ∙ same
 all_taken f taken (x ∷ xs) all none same = cc
 
--- one thread more, and what it promises
+-- one more thread, and its promise
 pub promised_also : {T E W : Type 0} (f : T → W) (started : Result T E) (old new : List T) (w : W) → IsOkAnd started (λ t. new ≡ old ++ t ∷ []) → IfOk started (λ t. f t ≡ w) → map f new ≡ map f old ++ w ∷ []
 promised_also f (Ok t) old new w is same = ap (map f) is ∙ map-append f old (t ∷ []) ∙ ap (λ x. map f old ++ x ∷ []) same
 promised_also f (Err e) old new w is same = absurd is
@@ -32,12 +32,12 @@ pub zipped : {W P S : Type 0} (f : W → P) (h : W → S) (works : List W) → m
 zipped f h [] = refl
 zipped f h (w ∷ works) = ap (λ ws. (f w, h w) ∷ ws) (zipped f h works)
 
--- a fault of one of these planners is one of the crew
+-- a fault in adding a planner's thread is a fault of the crew
 pub added_fits : {T E : Type 0} (started : Result T E) (planner n : ℕ) (fault : CrewFault) → planner < n → fault ≡ added_fault planner started → IsCrewFault n fault
 added_fits (Ok thread) planner n fault within is = subst (IsCrewFault n) (sym is) tt
 added_fits (Err refused) planner n fault within is = subst (IsCrewFault n) (sym is) within
 
--- a fault that is passed on, or one of its end, is one of the crew
+-- a fault of the run, or of the desk's end, is a fault of the crew
 pub report_fits : {A : Type 0} (done : Result A CrewFault) (n : ℕ) (fault : CrewFault) → IfErr done (IsCrewFault n) → IsReportFault done fault → IsCrewFault n fault
 report_fits (Ok a) n fault fits (inl is) = subst (IsCrewFault n) (sym is) tt
 report_fits (Ok a) n fault fits (inr is) = subst (IsCrewFault n) (sym is) tt
@@ -50,7 +50,7 @@ pub is_crew_text : {A E : Type 0} (done : Result A E) (planners : A → List Pla
 is_crew_text (Ok a) planners texts problem opening scripts text attended closes = record { planners = planners a; answers = texts a; attended = attended; closes = closes }
 is_crew_text (Err e) planners texts problem opening scripts text attended closes = absurd closes
 
--- that of nobody
+-- the report of a crew without planners
 pub is_closing_text : (problem : Problem) (opening : List Placed) (history : List JournalEntry) (text : List ℕ) → Legal problem opening history → text ≡ closing_text problem opening [] history → IsCrewText problem opening [] text
 is_closing_text problem opening history text legal is = record {
   planners = [];

@@ -1,4 +1,4 @@
--- A seat as a value alone, whatever desk it is of.
+-- A seat as a plain value, whatever the type of its desk.
 use Rattle.std.proofs.Common.{◌≡◌, ◌∙◌, ℕ, List, [], ◌∷◌, inl, inr, refl, ap, sym, Option, Some, None, Result, Ok, Err}
 use Rattle.ctt_text.specs.Problem.{Problem}
 use Rattle.ctt_text.specs.declared.placed.Placed.{Placed}
@@ -100,7 +100,7 @@ module _ {X Y : Type 0} where
   answers_items i t0 [] before after old new h = (ap plain h.0, h.1)
   answers_items i t0 (item ∷ items) before after old new h = (plain h.0, h.1, answers_line i t0 item before h.0 old h.1 h.2, answers_items i t0 items h.0 after h.1 new h.3)
 
-  -- a planner who attends at a desk has attended
+  -- a planner who follows his script at a desk does so by his plain value
   pub has_attended : (i : Problem) (t0 : List Placed) (script : List ℕ) (p q : PlannerValue) (text : List ℕ) (seat : Seat X Y) → seat ≡ Free p → Attends i t0 script seat q text → IsAttended i t0 (p, script) q text
   has_attended i t0 script p q text (Free r) same h =
       let is : r ≡ p = ap leaver same in

@@ -1,4 +1,4 @@
--- What a planner has seen he has seen for good.
+-- What a planner has seen stays seen.
 use Rattle.std.proofs.Common.{◌≡◌, ◌∙◌, ◌++◌, ℕ, List, [], ◌∷◌, append_assoc, inl, inr, ap, sym, subst, Option, Some, None, Result, Ok, Err}
 use mathlib.Core.List.{IsPrefix}
 use Rattle.ctt_text.specs.Problem.{Problem}
@@ -25,7 +25,7 @@ use Rattle.ctt_crew.specs.declared.seat.Seat.{Seat}
 use Rattle.ctt_crew.specs.declared.seat.Seat.TheVariants.{Free, Drafting}
 use Rattle.ctt_crew.specs.declared.seat.Told.{Told}
 
--- a planner who is as before
+-- an unchanged planner has seen the same
 same_seen : (p q : PlannerValue) → q ≡ p → IsPrefix p.front q.front
 same_seen p q same = subst (λ (r : PlannerValue). IsPrefix p.front r.front) (sym same) (prefix_self p.front)
 
@@ -34,14 +34,14 @@ unread i t0 p q (Unlawful at f) h = absurd h
 unread i t0 p q Unplaced h = same_seen p q h
 unread i t0 p q NoMemory h = h.begins
 
--- who commits has then seen the receipt's history, which begins with all that he had seen
+-- after a commit the planner has seen the receipt's history, which begins with all that he had seen
 accepted : (i : Problem) (t0 : List Placed) (d : DraftingValue) (q : PlannerValue) (receipt : List JournalEntry) → IsAccepted i t0 d q receipt → IsPrefix d.planner.front receipt × (receipt ≡ q.front)
 accepted i t0 d q receipt h =
     let entry : JournalEntry = entry_of d.planner.number d.asked in
     ((h.between ++ entry ∷ [], sym (append_assoc d.planner.front h.between (entry ∷ [])) ∙ sym h.ends), sym (ap (λ (r : PlannerValue). r.front) h.planner))
 
 module _ {X Y : Type 0} where
-  -- what is seen at one seat begins what is seen at the next
+  -- what was seen at one seat is a prefix of what is seen at the next
   abbrev Stays : Seat X Y → Seat X Y → Type 0
   Stays before after = IsPrefix (leaver before).front (leaver after).front
 

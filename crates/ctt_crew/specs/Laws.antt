@@ -1,4 +1,4 @@
--- What a planner has seen while he follows his script, and the commits in it.
+-- What a planner has seen stays seen while he follows his script, and so do his commits.
 use Rattle.std.specs.Prelude.{ℕ, List, Option, Ok}
 use mathlib.Core.List.{IsPrefix}
 use Rattle.ctt_text.specs.Problem.{Problem}
@@ -9,12 +9,14 @@ use Rattle.ctt_crew.specs.Attended.{AnswersItems, leaver}
 use Rattle.ctt_crew.specs.Seats.{Commits}
 use Rattle.ctt_crew.specs.declared.seat.Seat.{Seat}
 
--- Items are answered, and who leaves has seen all that he had seen before, and more, or as much.
+-- However items are answered, the planner who then leaves has seen at least all that he had seen
+-- before.
 abbrev pub SeenStays : Type 0
 SeenStays = (i : Problem) (t0 : List Placed) (items : List (Option Event)) (before after : Seat (Unit {0}) (Unit {0})) (old new : List ℕ)
     → AnswersItems i t0 items before after old new → IsPrefix (leaver before).front (leaver after).front
 
--- A draft is accepted, items are answered, and the planner leaves: a history that begins with all that he has seen begins with that of his receipt.
+-- A draft is accepted, items are answered, and the planner leaves: a history that begins with all
+-- that he has seen also begins with his receipt's history.
 abbrev pub CommitsStay : Type 0
 CommitsStay = (i : Problem) (t0 : List Placed) (items : List (Option Event)) (before next after : Seat (Unit {0}) (Unit {0})) (old new : List ℕ) (receipt history : List JournalEntry)
     → Commits i t0 before next (Ok receipt) → AnswersItems i t0 items next after old new → IsPrefix (leaver after).front history → IsPrefix receipt history

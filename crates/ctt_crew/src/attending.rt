@@ -1,4 +1,4 @@
-//! What a planner of a crew does, on a thread of his own.
+//! The work of one planner of a crew, on a thread of his own.
 
 ghost use Rattle.std.specs.Prelude.{◌≡◌, ◌<◌, ℕ, IfOk, IfSome, IsOk, OnOk, ◌++◌, string_bytes};
 ghost use Rattle.ctt_edits.specs.Calls.{CallFits};
@@ -23,7 +23,7 @@ use std::snapshot::Snapshot;
 use std::sync::Wait;
 use std::thread::Promise;
 
-/// Adds the line of what a planner of a crew is answered.
+/// Appends the line that answers a planner of a crew.
 #[inline(always)]
 pub fn write_told(text: &mut String, instance: &Instance, told: &Told) -> Result<(), AllocError>
     requires { ToldFits instance.now told.now }
@@ -38,7 +38,7 @@ pub fn write_told(text: &mut String, instance: &Instance, told: &Told) -> Result
     }
 }
 
-/// Makes the call that a line asks for, and adds the line of the answer.
+/// Makes the call that a line asks for, and appends the line of the answer.
 fn answer_call<'i, S: Sheet<'i>, J: Naming>(
     seat: &mut Seat<'i, S, J>,
     instance: &Instance,
@@ -55,7 +55,7 @@ fn answer_call<'i, S: Sheet<'i>, J: Naming>(
     write_told(text, instance, &told)
 }
 
-/// The value, if what was to be written was written.
+/// Returns the value if the write succeeded.
 fn kept_if<T: Drop>(value: T, written: Result<(), AllocError>) -> Result<T, NoMemory>
     ensures { IfOk result (λ kept. (kept ≡ value) × IsOk written) }
 {
@@ -63,7 +63,8 @@ fn kept_if<T: Drop>(value: T, written: Result<(), AllocError>) -> Result<T, NoMe
     Ok(value)
 }
 
-/// Answers a line of a planner's script, in which this event was read, or none, and adds the line of the answer.
+/// Answers a line of a planner's script, given the event parsed from it, if any, and appends the
+/// line of the answer.
 fn answer_own_line<'i, S: Sheet<'i>, J: Naming, R: Wait>(
     rt: &R,
     desk: &SharedDesk<S, J>,
@@ -91,7 +92,7 @@ fn answer_own_line<'i, S: Sheet<'i>, J: Naming, R: Wait>(
     }
 }
 
-/// The call that a line asks for, if it asks for one.
+/// Returns the call that a line asks for, if any.
 fn call_in(read: &Option<Event>) -> Option<Call>
     ensures { result ≡ call_in read.now }
 {
@@ -101,7 +102,7 @@ fn call_in(read: &Option<Event>) -> Option<Call>
     }
 }
 
-/// The script that a planner is to follow, of a desk of the instance.
+/// The script that a planner follows, at a desk of the instance.
 #[derive(Drop)]
 pub(crate) struct Attendance<'i, 'x, J: Naming, G: Gate> {
     pub(crate) alloc: Global,
@@ -112,7 +113,7 @@ pub(crate) struct Attendance<'i, 'x, J: Naming, G: Gate> {
     ghost same: { J.problem ≡ instance.now },
 }
 
-/// Answers the lines of a planner's script, and gives the lines of the answers with the planner, who leaves his seat.
+/// Answers the lines of a planner's script, and returns the answers with the planner, who leaves.
 fn attend<'i, 'x, S: Sheet<'i>, J: Naming, R: Wait, G: Gate>(
     attendance: Attendance<'i, 'x, J, G>,
     rt: &R,
@@ -131,7 +132,8 @@ fn attend<'i, 'x, S: Sheet<'i>, J: Naming, R: Wait, G: Gate>(
         gate,
         desk: _,
     } = attendance;
-    // The answers seldom have more than twice the bytes of the script. Room that they leave is never written, and so costs nothing.
+    // The answers are seldom more than twice as long as the script. Capacity that they leave unused
+    // is never written, and so costs nothing.
     let Ok(mut text) = String::with_capacity(alloc, script.len().saturating_mul(2)) else {
         let_go(seat);
         return Err(NoMemory);
@@ -164,8 +166,8 @@ fn attend<'i, 'x, S: Sheet<'i>, J: Naming, R: Wait, G: Gate>(
     Ok((seat.leave(), text))
 }
 
-/// A planner at the desk that he shares, over a grid sheet. It names the instance's lifetime once, as what goes to a
-/// thread has to.
+/// A planner with his script at the shared desk, over a grid sheet. It has one lifetime for the
+/// instance, as a value that moves to a thread must.
 #[derive(Drop)]
 pub(crate) struct GridAttendance<'i, 'x, J: Naming, G: Gate> {
     pub(crate) desk: &'x SharedDesk<GridSheet<'i>, J>,
@@ -173,8 +175,7 @@ pub(crate) struct GridAttendance<'i, 'x, J: Naming, G: Gate> {
     pub(crate) attendance: Attendance<'i, 'x, J, G>,
 }
 
-/// That a thread's answers are those of this planner to this script, and that it gives him back as
-/// he left.
+/// The promise of a thread: it returns this planner as he left, with the answers to this script.
 #[derive(Drop)]
 pub(crate) struct Promised<'i, 'x, J: Naming> {
     planner: Snapshot<Planner<GridSheet<'i>, J>>,
@@ -191,7 +192,7 @@ impl<'i, 'x, J: Naming> Model for Promised<'i, 'x, J> {
 }
 
 impl<'i, 'x, J: Naming> Promised<'i, 'x, J> {
-    /// Of this planner, and this script.
+    /// Makes the promise for this planner and this script.
     pub(crate) fn of(planner: &Planner<GridSheet<'i>, J>, script: &'x [u8]) -> Self
         ensures { result ≡ (planner.now, script.now) }
     {
@@ -208,7 +209,7 @@ impl<'i, 'x, J: Naming> Promise<Result<(Planner<GridSheet<'i>, J>, String), NoMe
         IsAttended J.problem J.opening p done.0 (string_bytes done.1)) };
 }
 
-/// Answers the lines of the script of a planner over a grid sheet, and gives him back.
+/// Answers a planner's script over a grid sheet, and returns the planner with the answers.
 pub(crate) fn attend_on_grid<'i, 'x, J: Naming, R: Wait, G: Gate>(
     work: GridAttendance<'i, 'x, J, G>,
     rt: &R,

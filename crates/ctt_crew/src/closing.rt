@@ -1,4 +1,4 @@
-//! The end of a crew's desk, and what the crew wrote.
+//! The end of a crew's desk, and the crew's report.
 
 ghost use Rattle.std.specs.Prelude.{◌≡◌, All, IfErr, IfOk, IsOkAnd, map, string_bytes};
 ghost use mathlib.Core.List.{IsPrefix};
@@ -19,10 +19,11 @@ use std::alloc::Global;
 use std::fmt::Write;
 use std::sync::Wait;
 
-/// More bytes than the line that says a planner has, and than the two last lines of what a crew wrote have.
+/// More bytes than the heading of a planner's answers has, and more than the last two lines of a
+/// report have together.
 const LINE: usize = 128;
 
-/// Room for the answers of all planners, each behind his line, and for the two last lines.
+/// Returns a capacity for all planners' answers, each after a heading, and for the last two lines.
 fn room_for(answers: &[String]) -> usize {
     let mut room = LINE;
     for lines in answers {
@@ -31,7 +32,7 @@ fn room_for(answers: &[String]) -> usize {
     room
 }
 
-/// What a crew wrote: the answers of each planner, the number of accepted drafts, and the costs.
+/// Writes the answers of each planner, the number of accepted drafts, and the costs.
 fn crew_report(
     alloc: Global,
     answers: Vec<String>,
@@ -41,7 +42,7 @@ fn crew_report(
     ensures { IfOk result (λ text. text.items
         ≡ crew_text (map string_bytes answers.items) entries cost.now) }
 {
-    // Each planner's answers are let go once they are copied, so that all of them never lie in memory twice.
+    // Each planner's answers are freed once they are copied, so they are never all in memory twice.
     let mut text = String::with_capacity(alloc, room_for(&answers))?;
     for (planner, lines) in answers.into_iter().enumerate() {
         writeln!(text, "planner {planner}")?;
@@ -52,7 +53,8 @@ fn crew_report(
     Ok(text.into_bytes())
 }
 
-/// What a crew wrote whose desk is closed.
+/// Writes the report of a crew whose desk is closed: the answers of each planner after a heading,
+/// the number of accepted drafts, and the costs.
 pub fn closing_report<S: Timetable, J: Naming>(
     alloc: Global,
     closed: &Closed<S, J>,
@@ -79,7 +81,7 @@ pub fn end_desk<S: Timetable, J: Naming, R: Wait>(
     }
 }
 
-/// Ends a desk that these planners have left.
+/// Ends a desk that these planners have left. Fails if one of them has seen more than the desk has.
 fn closed_after<S: Timetable, J: Naming, R: Wait>(
     rt: &R,
     desk: SharedDesk<S, J>,
@@ -97,7 +99,7 @@ fn closed_after<S: Timetable, J: Naming, R: Wait>(
     }
 }
 
-/// Ends a desk that these planners have left, and gives what they wrote.
+/// Ends a desk that these planners have left, and returns the crew's report.
 fn report_after<S: Timetable, J: Naming, R: Wait>(
     rt: &R,
     alloc: Global,
@@ -119,7 +121,7 @@ fn report_after<S: Timetable, J: Naming, R: Wait>(
     }
 }
 
-/// Ends a desk, and gives what its planners wrote, if each of them came to the end of his script.
+/// Ends a desk, and returns the crew's report if each planner came to the end of his script.
 pub(crate) fn last_report<S: Timetable, J: Naming, R: Wait>(
     rt: &R,
     alloc: Global,

@@ -1,4 +1,4 @@
-//! Why a crew could not work.
+//! Why a crew could not finish.
 
 ghost use Rattle.std.specs.Prelude.{◌≡◌};
 ghost use Rattle.ctt_crew.specs.CrewText.{of_shared};
@@ -9,10 +9,10 @@ use ctt_desk::SharedFault;
 use ctt_text::NoMemory;
 use std::alloc::{AllocError, AllocFailed};
 
-/// Why a crew could not work to its end.
+/// Why a crew could not finish its scripts.
 #[derive(Clone, Copy, PartialEq, Eq)]
 pub enum CrewFault {
-    /// `left_right` refused a planner's place.
+    /// `left_right` refused a place for a planner.
     NoPlace,
     /// The thread of this planner could not be started.
     NoThread(PlannerNo),
@@ -25,7 +25,7 @@ pub enum CrewFault {
 impl From<SharedFault> for CrewFault {
     ghost from_gives = { λ fault given. given ≡ of_shared fault };
 
-    /// A crew's desk opens empty, so it wants memory or a place and nothing else.
+    /// Converts the fault of a crew's desk, which opens empty and so is never `Unlawful`.
     fn from(fault: SharedFault) -> CrewFault {
         match fault {
             SharedFault::NoPlace => CrewFault::NoPlace,

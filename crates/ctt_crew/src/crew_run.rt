@@ -21,7 +21,7 @@ use std::sync::Wait;
 use std::thread;
 use std::thread::{PromisedHandle, Threads};
 
-/// The planners as they left, in order, and what they were answered, when all threads have ended.
+/// Joins the threads, and returns the planners as they left and their answers, both in order.
 fn joined<'i, 'x, J: Naming, R: Threads>(
     rt: &R,
     alloc: Global,
@@ -43,7 +43,7 @@ fn joined<'i, 'x, J: Naming, R: Threads>(
     Ok((planners, answers))
 }
 
-/// Adds a planner's thread, if it was started.
+/// Adds a planner's thread if it was started.
 fn added<T: Drop, E: Drop>(
     threads: &mut Vec<T>,
     started: Result<T, E>,
@@ -59,8 +59,8 @@ fn added<T: Drop, E: Drop>(
     }
 }
 
-/// The planners as they left, and what each was answered, when all of them have come to the end of
-/// their scripts.
+/// Runs each planner on a thread of his own. Returns the planners as they left and their answers,
+/// both in order, when all scripts have ended.
 #[tactic(auto, using(crate::proofs::CrewLemmas::added_fits))]
 fn work_at_once<'i, 'x, J: Naming + Send + Sync, R: Threads + Wait + Sync, G: Gate>(
     rt: &R,
@@ -107,7 +107,7 @@ fn work_at_once<'i, 'x, J: Naming + Send + Sync, R: Threads + Wait + Sync, G: Ga
     )
 }
 
-/// The planners, each with his script.
+/// Pairs each planner with his script.
 fn attendances<'i, 'x, P: Drop, J: Naming, G: Gate>(
     alloc: Global,
     instance: &'i Instance,
@@ -140,7 +140,7 @@ fn attendances<'i, 'x, P: Drop, J: Naming, G: Gate>(
     Ok(works)
 }
 
-/// A desk of which is known which one it is, with its planners.
+/// Starts a named desk with its planners.
 fn desk_named<S: Timetable, J: Naming, R: Wait>(
     rt: &R,
     named: Named<S, J>,
@@ -151,8 +151,8 @@ fn desk_named<S: Timetable, J: Naming, R: Wait>(
     Ok(SharedDesk::new(rt, named)?)
 }
 
-/// The planners as they left a desk, and what each was answered, when all of them have come to the
-/// end of their scripts.
+/// Runs the planners' scripts at a desk. Returns the planners as they left and their answers, both
+/// in order, when all scripts have ended.
 fn attended_at<'i, J: Naming + Send + Sync, R: Threads + Wait + Sync, G: Gate>(
     rt: &R,
     alloc: Global,
@@ -173,7 +173,7 @@ fn attended_at<'i, J: Naming + Send + Sync, R: Threads + Wait + Sync, G: Gate>(
     work_at_once(rt, alloc, desk, works)
 }
 
-/// Runs scripts on a desk of which is known which one it is.
+/// Runs scripts at a desk of this name, and returns the crew's report.
 fn crew_named<'i, J: Naming + Send + Sync, R: Threads + Wait + Sync, G: Gate>(
     rt: &R,
     alloc: Global,
@@ -200,7 +200,7 @@ fn crew_named<'i, J: Naming + Send + Sync, R: Threads + Wait + Sync, G: Gate>(
     last_report::<GridSheet<'i>, J, R>(rt, alloc, desk, done)
 }
 
-/// The empty timetable, as an opening.
+/// Makes an opening of the empty timetable.
 fn empty_opening<'i, S: Sheet<'i>>(
     alloc: Global,
     instance: &'i Instance,
@@ -211,10 +211,10 @@ fn empty_opening<'i, S: Sheet<'i>>(
     Opened::<S>::new(alloc, instance, &[])
 }
 
-/// Runs each script by a planner on a thread of his own, all on one desk that opens empty, and gives
-/// what they were answered, how many drafts were accepted, and the costs.
+/// Runs each script by a planner on a thread of his own, all at one desk that opens empty. Returns
+/// the report: the planners' answers, the number of accepted drafts, and the costs.
 ///
-/// The gate is called round each line that has words.
+/// The gate is called before and after each line that has words.
 pub fn crew<'i, R: Threads + Wait + Sync, G: Gate>(
     rt: &R,
     alloc: Global,

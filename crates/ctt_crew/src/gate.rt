@@ -1,19 +1,19 @@
-//! What a crew's lines wait for.
+//! Hooks around the lines of a crew's scripts.
 
 use ctt_core::PlannerNo;
 use std::marker::Sync;
 
-/// What is called round each line of a crew's scripts that has words. Lines are counted from 1 among
-/// these, in each script by itself.
+/// Hooks that run before and after each line with words in a crew's scripts. Such lines are counted
+/// from 1 in each script.
 pub trait Gate: Sync {
-    /// The planner comes to this line.
+    /// Runs before the planner's line is answered.
     fn before(&self, planner: PlannerNo, line: u64);
 
-    /// The planner was answered.
+    /// Runs after the planner's line was answered.
     fn after(&self, planner: PlannerNo, line: u64);
 }
 
-/// A gate at which nobody waits.
+/// A gate that does nothing.
 #[derive(Clone, Copy)]
 pub struct NoGate;
 

@@ -1,4 +1,4 @@
-//! A crew: scripts that several planners play at once at one running desk, and what they are told.
+//! A crew: planners who run their scripts on threads at one shared desk, and their answers.
 #![tactic(auto)]
 
 mod attending;

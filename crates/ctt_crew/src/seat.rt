@@ -1,4 +1,4 @@
-//! A planner of a crew, with or without an open draft, and what he is answered.
+//! A planner of a crew, with or without an open draft, and the answers that he gets.
 
 ghost use Rattle.std.specs.Prelude.{ℕ, ◌≡◌, ◌++◌, IfErr, OnOk, string_bytes};
 ghost use Rattle.ctt_edits.specs.Calls.{CallFits};
@@ -28,22 +28,22 @@ pub enum Seat<'i, S: Timetable, J: Naming> {
     Drafting(Drafting<'i, S, J>),
 }
 
-/// What a planner of a crew is answered.
+/// The answer to a planner of a crew.
 #[derive(Drop)]
 pub enum Told {
-    /// As by a desk for one thread.
+    /// An answer that a single-threaded desk gives as well.
     Answer(Answer),
-    /// The draft was refused, since this row has changed. It has ended; its calls come back with
-    /// their replies.
+    /// The draft was refused because this row has changed. It has ended; its calls are returned
+    /// with their replies.
     Stale(Row, AskedCalls),
-    /// He has seen more drafts than the desk has, namely this many; or it has another number of his drafts
-    /// than he committed, namely this one.
+    /// The length of the journal, if the planner has seen more drafts than that; otherwise the
+    /// number of his drafts in the journal, which is not the number that he committed.
     NotYours(u64),
     /// `left_right` refused to enter.
     NoPlace,
 }
 
-/// What is told of a timetable that could not be read.
+/// Returns the answer to a planner who could not read the published timetable.
 fn unread<J: Naming>(fault: SharedFault) -> Told
     ensures fits { ToldFits J.problem result }
     ensures told { result ≡ told_unread fault }
@@ -54,7 +54,7 @@ fn unread<J: Naming>(fault: SharedFault) -> Told
     }
 }
 
-/// What is told of a commit: how many drafts were then accepted, or why it is refused.
+/// Returns the answer to a commit: how many drafts were then accepted, or why it was refused.
 fn told_of<J: Naming>(outcome: Result<Receipt<J>, Told>) -> Told
     ensures fits { IfErr outcome (ToldFits J.problem) → ToldFits J.problem result }
     ensures told { result ≡ told_of outcome }
@@ -65,7 +65,7 @@ fn told_of<J: Naming>(outcome: Result<Receipt<J>, Told>) -> Told
     }
 }
 
-/// Adds the entry of a draft, as a journal has it.
+/// Appends the entry of a draft, as written in a journal.
 fn write_draft<'i, S: Sheet<'i>, J: Naming>(
     drafting: &Drafting<'i, S, J>,
     text: &mut String,
@@ -97,7 +97,7 @@ impl<'i, S: Sheet<'i>, J: Naming> Seat<'i, S, J> {
         }
     }
 
-    /// Makes the call in the draft. Of all that a line may ask for, this is the most frequent; it moves no seat.
+    /// Makes a call in the draft. As the most frequent event, it changes the seat in place.
     #[inline(always)]
     pub fn ask(&mut self, call: Call) -> Told
         requires { CallFits J.problem call }
@@ -113,7 +113,7 @@ impl<'i, S: Sheet<'i>, J: Naming> Seat<'i, S, J> {
         }
     }
 
-    /// Looks at the draft. It is no call: nothing is kept of it.
+    /// Answers a look at the draft. A look is not a call: nothing of it is stored.
     fn peek(&self, look: &Look) -> Told
         requires { LookFits J.problem look.now }
         ensures fits { ToldFits J.problem result }
@@ -128,7 +128,7 @@ impl<'i, S: Sheet<'i>, J: Naming> Seat<'i, S, J> {
         }
     }
 
-    /// Asks how the draft stands. It is no call: the draft stays as it is.
+    /// Returns how the draft stands. This is not a call: the draft is unchanged.
     pub fn status(&mut self) -> Told
         ensures fits { ToldFits J.problem result }
         ensures states { States J.problem J.opening self.old self.new result }
@@ -142,7 +142,7 @@ impl<'i, S: Sheet<'i>, J: Naming> Seat<'i, S, J> {
         }
     }
 
-    /// Commits the draft, and gives the receipt where it is accepted, or else what the planner is told.
+    /// Commits the draft. Returns the receipt if it is accepted, or else the answer to the planner.
     pub fn commit<R: Wait>(
         self,
         rt: &R,
@@ -171,7 +171,7 @@ impl<'i, S: Sheet<'i>, J: Naming> Seat<'i, S, J> {
         }
     }
 
-    /// Brings the draft up to date.
+    /// Refreshes the draft.
     fn refresh(self) -> (Self, Told)
         ensures fits { ToldFits J.problem result.1 }
         ensures refreshes { Refreshes J.problem J.opening self.entry result.0 result.1 }
@@ -191,7 +191,7 @@ impl<'i, S: Sheet<'i>, J: Naming> Seat<'i, S, J> {
         }
     }
 
-    /// Gives the draft up.
+    /// Abandons the draft.
     fn abandon(self) -> (Self, Told)
         ensures fits { ToldFits J.problem result.1 }
         ensures abandons { Abandons self.entry result.0 result.1 }
@@ -205,7 +205,7 @@ impl<'i, S: Sheet<'i>, J: Naming> Seat<'i, S, J> {
         }
     }
 
-    /// Looks at the timetable as it stands, if no draft is open.
+    /// Looks at the latest published timetable, if no draft is open.
     fn show(self, look: &Look) -> (Self, Told)
         requires { LookFits J.problem look.now }
         ensures fits { ToldFits J.problem result.1 }
@@ -229,7 +229,7 @@ impl<'i, S: Sheet<'i>, J: Naming> Seat<'i, S, J> {
         }
     }
 
-    /// Looks at the timetable as it stands. An open draft goes on as it was.
+    /// Looks at the latest published timetable. An open draft is unchanged.
     pub fn view(&mut self, look: &Look) -> Told
         requires { LookFits J.problem look.now }
         ensures fits { ToldFits J.problem result }
@@ -245,7 +245,7 @@ impl<'i, S: Sheet<'i>, J: Naming> Seat<'i, S, J> {
         }
     }
 
-    /// Does what a line asks for. The planner goes on from where that leaves him.
+    /// Handles an event, and returns the seat that it leaves with the answer.
     pub fn take<R: Wait>(self, rt: &R, desk: &SharedDesk<S, J>, event: Event) -> (Self, Told)
         requires fits { (n : ℕ) × EventFits J.problem n event }
         ensures fits { ToldFits J.problem result.1 }
@@ -277,7 +277,7 @@ impl<'i, S: Sheet<'i>, J: Naming> Seat<'i, S, J> {
         }
     }
 
-    /// The planner, who leaves his seat. An open draft is given up. It takes no memory.
+    /// Returns the planner, and abandons an open draft. Allocates nothing.
     pub fn leave(self) -> Planner<S, J>
         ensures { result ≡ leaver self.entry }
     {
@@ -289,7 +289,7 @@ impl<'i, S: Sheet<'i>, J: Naming> Seat<'i, S, J> {
 }
 
 impl<'i, S: Sheet<'i>, J: Naming> Seat<'i, S, J> {
-    /// Adds the entry of the open draft, as a journal has it, if a draft is open.
+    /// Appends the entry of the open draft, as written in a journal, if a draft is open.
     pub fn write_entry(&self, text: &mut String) -> Result<(), NoMemory>
         ensures { OnOk result (string_bytes text.new
             ≡ string_bytes text.old ++ open_entry J.problem self.now) }

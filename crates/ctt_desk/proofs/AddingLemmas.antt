@@ -1,4 +1,4 @@
--- The exchange that adds an entry keeps the rule.
+-- The compare-exchange that adds an entry preserves the rule.
 use Rattle.std.proofs.Common.{◌≡◌, ℕ, ◌+◌, ◌<◌, ◌==◌, Bool, true, false, List, [], ◌∷◌, ◌++◌, length, refl, ap, sym, subst, arith, inl, length-append, None, eq-eqb}
 use Rattle.std.proofs.lemmas.List.{append-nil}
 use Rattle.std.proofs.lemmas.Bool.Decides.{nat_tests}
@@ -47,14 +47,15 @@ adds_goes log v e old len pre false is =
       rw is tt,
     )
 
--- whatever the book is, the exchange adds the entry to all that was seen, or finds that the history is longer
+-- for every book, the exchange appends the entry to the history that was seen, or finds that the
+-- history is longer
 pub adds_moves : (v : List JournalEntry) (e : JournalEntry) (old : ℕ) → length v ≡ old
     → Moves IsKept shown moved 0 (v, (no_nib, None)) (λ n. either (n == old) (old + 1) n) (Adds (step 0 old (old + 1) e) (v, (no_nib, None)))
 adds_moves v e old len cs log kept pre away =
     let P : List Cell → Type 0 = λ c. (0 < length c) × ((cell c 0).1 ≡ true) × Goes IsKept shown moved 0 (v, (no_nib, None)) (λ n. either (n == old) (old + 1) n) (Adds (step 0 old (old + 1) e) (v, (no_nib, None))) c log in
     subst P (sym kept.words) (omega arith, refl, adds_goes log v e old len pre (length log == old) refl)
 
--- what the exchange left, where it found the length that was expected
+-- the history after an exchange that found the expected length
 pub added : (found drafts : ℕ) (e : JournalEntry) (v w : List JournalEntry) → found ≡ drafts → MatchBool (found == drafts) (w ≡ v ++ e ∷ []) (Unit {0}) → w ≡ v ++ e ∷ []
 added found drafts e v w is h = rw (eq-eqb found drafts is) at h
 

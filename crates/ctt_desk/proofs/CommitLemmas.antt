@@ -1,4 +1,4 @@
--- What a commit makes of the journal and its timetable.
+-- How a commit changes the journal and its timetable.
 use Rattle.std.proofs.Common.{◌≡◌, ℕ, List, [], ◌∷◌, ◌++◌, Option, Some, sym, ap, ◌∙◌, subst}
 use Rattle.std.specs.Prelude.{IsSomeAnd}
 use Rattle.ctt_text.specs.Problem.{Problem}
@@ -14,7 +14,7 @@ use Rattle.ctt_core.proofs.RunLemmas.{after-push}
 use Rattle.ctt_desk.specs.Histories.{Standing, entry_of}
 use Rattle.ctt_desk.specs.Published.{Leads}
 
--- a draft that can be settled was told what it is told now
+-- the replies in a draft that can be settled on t are those that its calls get on t
 pub told_now : (i : Problem) (t : List Placed) (d : DraftValue) → d.problem ≡ i → Settles d t → IsTold d.problem d.base d.asked → replies_in d.asked ≡ replies i t (calls_of d.asked)
 told_now i t d of settles told = told.told ∙ sym settles.same.replies_same ∙ ap (λ x. replies x t (calls_of d.asked)) of
 
@@ -30,7 +30,7 @@ leads_more i t0 h f p d made of settles is longer =
       ends = leaves ∙ sym (after-push i t0 h (entry_of p d.asked)) ∙ ap (after i t0) (sym longer);
     }
 
--- a timetable that was the opening after the journal h is that after the journal f, when these changes are made
+-- a timetable that is the opening after the journal h becomes the opening after f by these changes
 pub stands_more : (i j k : Problem) (t0 t u : List Placed) (h f : List JournalEntry) (made : List (List Cell)) → Standing i j t0 t h → Leads i t0 made h f → Legal i t0 f → k ≡ j → u ≡ apply_all made t → Lawful k u → Standing i k t0 u f
 stands_more i j k t0 t u h f made s leads legal same is lawful = record {
   same = same ∙ s.same;

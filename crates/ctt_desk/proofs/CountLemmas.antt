@@ -20,14 +20,14 @@ nought_more (x ∷ xs) h (suc p) = nought_more xs (λ q. h (suc q)) p
 pub own-fewer : (p : ℕ) (h : List JournalEntry) → length (own p h) ≤ length h
 own-fewer p h = omega (arith, length-filter (λ (e : JournalEntry). e.planner == p) h, count_by-le-length (λ (e : JournalEntry). e.planner == p) h)
 
--- and a journal that is longer by one has more
+-- he has fewer entries than a journal that is longer by one
 pub fewer : (p count : ℕ) (h more : List JournalEntry) (e : JournalEntry) → more ≡ h ++ e ∷ [] → count ≡ length (own p h) → count < length more
 fewer p count h more e is same = omega (arith, own-fewer p h, ap length is, length-append h (e ∷ []))
 
 own_none : (p q : ℕ) (asked : List Asked) → p ≢ q → length (own q (entry_of p asked ∷ [])) ≡ 0
 own_none p q asked apart = ap (λ b. length (cond b (entry_of p asked ∷ []) [])) (ne_eqb p q apart)
 
--- the count of a planner, read
+-- the stored count of a planner is the number of his entries
 pub count_read : (planners p k count : ℕ) (counts : List ℕ) (h : List JournalEntry) → Counted planners counts h → p < planners → k ≡ p → count ≡ get_or counts k count → count ≡ length (own p h)
 count_read planners p k count counts h c lt at read =
     read ∙ ap (λ n. get_or counts n count) at ∙ get_or_default counts p count 0 (omega (arith, lt, c.0)) ∙ c.1 p lt

@@ -1,4 +1,4 @@
--- What a history has of one planner, and what an accepted commit makes of it.
+-- The drafts of one planner in a history, and how an accepted commit changes them.
 use Rattle.std.proofs.Common.{◌≡◌, ◌==◌, ◌+◌, ◌≤◌, ℕ, cond, List, [], ◌∷◌, ◌++◌, length, take, None, inl, inr, refl, sym, ap, ◌∙◌, subst, arith, eq-eqb, length-append}
 use Rattle.std.proofs.lemmas.List.{append-nil, take_all}
 use Rattle.std.proofs.lemmas.List.Elements.{filter-append}
@@ -30,12 +30,13 @@ own-append p xs ys = filter-append (λ (e : JournalEntry). e.planner == p) xs ys
 pub own_more : (p n : ℕ) (h more : List JournalEntry) → IsPrefix h more → n ≤ length (own p h) → n ≤ length (own p more)
 own_more p n h more begins least = omega (arith, least, ap length (sym (ap (own p) begins.1) ∙ own-append p h begins.0), length-append (own p h) (own p begins.0))
 
--- nor has what a planner has seen who is told that the journal has another number of his
+-- nor has the new front of a planner whose commit is refused as not his
 pub own_seen : (p n count : ℕ) (j old new : List JournalEntry) → IsNotHis j p n old new count → n ≤ length (own p old) → n ≤ length (own p new)
 own_seen p n count j old new (inl w) least = subst (λ h. n ≤ length (own p h)) (sym w.0) least
 own_seen p n count j old new (inr w) least = own_more p n old new w.0.1 least
 
--- the journal j, with one entry more, is the front f of a planner who has all his drafts in it
+-- a draft that extends the journal j to f is accepted, if j has as many of the planner's drafts as
+-- he committed
 accepted_by : (i : Problem) (t0 : List Placed) (d : DraftingValue) (q : PlannerValue) (j f : List JournalEntry) → f ≡ j ++ entry_of d.planner.number d.asked ∷ [] → IsPrefix d.planner.front j → length (own d.planner.number j) ≡ d.planner.committed → d.planner.committed ≤ length (own d.planner.number d.planner.front) → Legal i t0 f → stale i d.base (after i t0 j) (calls_of d.asked) ≡ None
     → q ≡ record { number = d.planner.number; committed = d.planner.committed + 1; front = f } → IsAccepted i t0 d q f
 accepted_by i t0 d q j f is begins count least legal fresh becomes =
@@ -57,14 +58,14 @@ accepted_by i t0 d q j f is begins count least legal fresh becomes =
       planner = becomes;
     }
 
--- one entry more of planner p
+-- one more entry of planner p
 pub counted_now : (p n : ℕ) (j f : List JournalEntry) (asked : List Asked) → f ≡ j ++ entry_of p asked ∷ [] → length (own p j) ≡ n → length (own p f) ≡ n + 1
 counted_now p n j f asked is count = ap (λ l. length (own p l)) is ∙ ap length (own-append p j (entry_of p asked ∷ []) ∙ ap (λ l. own p j ++ l) (own-entry p asked)) ∙ length-append (own p j) (entry_of p asked ∷ []) ∙ ap (λ n. n + 1) count
 
 grown : (i : Problem) (t0 : List Placed) (p q : PlannerValue) (f : List JournalEntry) → q ≡ seen_up_to p f → IsPrefix p.front f → Legal i t0 f → Grows i t0 p q
 grown i t0 p q f is begins legal = subst (λ (x : PlannerValue). Grows i t0 p x) (sym is) (record { number = refl; committed = refl; begins = begins; legal = legal })
 
--- why a draft is not accepted, by what the lock says
+-- why a draft is not accepted, from what was found under the lock
 pub foreign : (i : Problem) (t0 : List Placed) (v d : DraftingValue) (q : PlannerValue) (j f : List JournalEntry) (count : ℕ) → v ≡ d → IsNotHis j v.planner.number v.planner.committed v.planner.front f count → q ≡ seen_up_to v.planner f → Legal i t0 f → IsForeign i t0 d q count
 foreign i t0 v d q j f count is (inl w) becomes legal = subst (λ (x : DraftingValue). IsForeign i t0 x q count) is (record {
   planner = grown i t0 v.planner q f becomes (subst (λ (x : List JournalEntry). IsPrefix v.planner.front x) (sym w.0) (prefix_self v.planner.front)) legal;
@@ -78,7 +79,7 @@ foreign i t0 v d q j f count is (inr w) becomes legal = subst (λ (x : DraftingV
   );
 })
 
--- and why it is accepted
+-- that a draft is accepted, from what was found under the lock
 pub accepted : (i : Problem) (t0 : List Placed) (v d : DraftingValue) (q : PlannerValue) (j f : List JournalEntry) → v ≡ d → f ≡ j ++ entry_of v.planner.number v.asked ∷ [] → IsPrefix v.planner.front j → length (own v.planner.number j) ≡ v.planner.committed → v.planner.committed ≤ length (own v.planner.number v.planner.front) → Legal i t0 f → stale i v.base (after i t0 j) (calls_of v.asked) ≡ None
     → q ≡ record { number = v.planner.number; committed = v.planner.committed + 1; front = f } → IsAccepted i t0 d q f
 accepted i t0 v d q j f same is begins count least legal fresh becomes = subst (λ (x : DraftingValue). IsAccepted i t0 x q f) same (accepted_by i t0 v q j f is begins count least legal fresh becomes)

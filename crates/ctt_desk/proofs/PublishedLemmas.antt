@@ -1,4 +1,4 @@
--- Each step keeps the rule over the published copies.
+-- Each step preserves the protocol of the published copies.
 use Rattle.std.proofs.Common.{◌≡◌, ◌≢◌, ℕ, List, [], ◌∷◌, ◌++◌, set, refl, sym, subst, ⊎_elim}
 use mathlib.Core.List.{IsPrefix}
 use mathlib.Core.Option.{some, some-ne-none}
@@ -11,7 +11,7 @@ use Rattle.ctt_desk.specs.declared.shown.View.{View}
 use Rattle.ctt_desk.specs.Published.{IsAfter, Keeps, Shows, seeing}
 use Rattle.ctt_desk.proofs.PrefixLemmas.{prefix_self, prefix_trans}
 
--- a step of one seat, at which what is published grows or stays
+-- a step of one seat, in which the published history grows or stays the same
 pub sees : (i : Problem) (opening : List Placed) (seat : ℕ) (v : View) (j j' : Problem) (t t' : List Placed) (h h' : List JournalEntry) → IsPrefix h h' → IsAfter i opening j' t' h' → (views : List View) → Keeps i opening j t h views → get_elem? views seat ≡ some v
     → (w : View) × Keeps i opening j' t' h' (set views seat w) × Shows i opening v j' t' h' w
 sees i opening seat v j j' t t' h h' grows right views kept at = (
@@ -26,7 +26,7 @@ sees i opening seat v j j' t t' h h' grows right views kept at = (
   record { grows = prefix_trans v.seen h h' (kept.seen seat v at) grows; all = refl; right = right },
 )
 
--- a reader's place is made
+-- a new seat, which has seen nothing
 pub comes : (i : Problem) (opening : List Placed) (j : Problem) (t : List Placed) (h : List JournalEntry) (views : List View) → Keeps i opening j t h views → Keeps i opening j t h (views ++ seeing [] ∷ [])
 comes i opening j t h views kept = record {
   right = kept.right;

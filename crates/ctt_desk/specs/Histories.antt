@@ -1,4 +1,4 @@
--- The journal under the lock, and what a commit makes of it.
+-- The journal under the lock, and how a commit changes it.
 use Rattle.std.specs.Prelude.{ℕ, ◌≡◌, ◌≢◌, ◌==◌, ◌<◌, ◌⊎◌, List, length, None, Some, slice_index_or}
 use Rattle.std.specs.List.{filter}
 use mathlib.Core.List.{IsPrefix}
@@ -17,22 +17,22 @@ use Rattle.ctt_desk.specs.declared.locked.Cause.TheVariants.{NotYours, Stale, No
 abbrev pub own : ℕ → List JournalEntry → List JournalEntry
 own p h = filter (λ (e : JournalEntry). e.planner == p) h
 
--- the entry of a draft in which this was asked
+-- the journal entry of a draft of planner p with these calls and replies
 abbrev pub entry_of : ℕ → List Asked → JournalEntry
 entry_of p asked = record { planner = p; asked = asked }
 
--- the journal is legal on the opening, and the timetable is the opening after it, and lawful
+-- the journal is legal on the opening, and the timetable t is the opening after it, and is lawful
 pub record Standing (i j : Problem) (opening t : List Placed) (journal : List JournalEntry) : Type 0 where
   pub same : j ≡ i
   pub legal : Legal i opening journal
   pub list : t ≡ after i opening journal
   pub lawful : Lawful i t
 
--- so many drafts has each planner in the journal
+-- counts has the number of drafts of each planner in the journal
 abbrev pub Counted : ℕ → List ℕ → List JournalEntry → Type 0
 Counted planners counts journal = (length counts ≡ planners) × ((p : ℕ) → p < planners → slice_index_or counts p 0 ≡ length (own p journal))
 
--- beside that, what holds whenever the lock is free
+-- what else holds whenever the lock is free: the stored opening is the desk's, and counts is right
 pub record IsLocked (opening opened : List Placed) (planners : ℕ) (counts : List ℕ) (journal : List JournalEntry) : Type 0 where
   pub opens : opened ≡ opening
   pub counted : Counted planners counts journal
@@ -41,22 +41,23 @@ pub record IsLocked (opening opened : List Placed) (planners : ℕ) (counts : Li
 abbrev pub IsHis : List JournalEntry → ℕ → ℕ → Type 0
 IsHis journal p committed = length (own p journal) ≡ committed
 
--- and no row that the draft read differs after it
+-- besides, no row that the draft d read differs in the timetable after the journal
 pub record IsFreshAt (i : Problem) (opening : List Placed) (journal : List JournalEntry) (p committed : ℕ) (d : DraftValue) : Type 0 where
   pub his : IsHis journal p committed
   pub fresh : stale i d.base (after i opening journal) (calls_of d.asked) ≡ None
 
--- the front that was old is now the journal
+-- the front, which was a prefix of the journal, is now the whole journal
 abbrev pub IsSeen : List JournalEntry → List JournalEntry → List JournalEntry → Type 0
 IsSeen journal old new = (new ≡ journal) × IsPrefix old new
 
--- more was seen than the journal has; or it has another number of drafts of planner p
+-- either the planner has seen more than the count drafts of the journal; or the journal has count
+-- drafts of planner p, which is not the number that he committed
 abbrev pub IsNotHis : List JournalEntry → ℕ → ℕ → List JournalEntry → List JournalEntry → ℕ → Type 0
 IsNotHis journal p committed old new count =
     ((new ≡ old) × (count ≡ length journal) × (count < length old))
     ⊎ (IsSeen journal old new × (count ≡ length (own p journal)) × (count ≢ committed))
 
--- why the draft d of planner p, whose front was old and is new, is not accepted behind the journal
+-- why the draft d of planner p is not accepted after the journal; his front was old and is now new
 abbrev pub IsCause : Problem → List Placed → List JournalEntry → ℕ → ℕ → List JournalEntry → List JournalEntry → DraftValue → Cause → Type 0
 IsCause i opening journal p committed old new d (NotYours count) = IsNotHis journal p committed old new count
 IsCause i opening journal p committed old new d (Stale row) = IsSeen journal old new × IsHis journal p committed × (stale i d.base (after i opening journal) (calls_of d.asked) ≡ Some row)

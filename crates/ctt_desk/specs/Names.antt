@@ -1,10 +1,10 @@
--- What the name of a desk says of it.
+-- What the name of a desk says about it.
 use Rattle.std.specs.Prelude.{ℕ, ◌≡◌, List, []}
 use Rattle.logbook.specs.Pages.{Book}
 use Rattle.ctt_text.specs.Problem.{Problem}
 use Rattle.ctt_text.specs.declared.placed.Placed.{Placed}
 
--- the instance without courses, which a name says where nobody chose
+-- the empty instance, which a name has unless a caller chooses another
 abbrev pub nothing : Problem
 nothing = record {
   name = [];
@@ -21,13 +21,13 @@ nothing = record {
   barred = [];
 }
 
--- a desk's opening: its instance, its lectures, and the book of its history
+-- a desk's opening: its instance, its lectures, and the logbook of its history
 pub record OpenedValue : Type 0 where
   pub problem : Problem
   pub list : List Placed
   pub book : Book
 
--- the name says this opening, and so many planners
+-- the name says the instance, lectures and logbook of this opening, and this number of planners
 pub record IsNamed (problem : Problem) (opening : List Placed) (planners : ℕ) (book : Book) (opened : OpenedValue) (count : ℕ) : Type 0 where
   pub of : opened.problem ≡ problem
   pub opens : opened.list ≡ opening

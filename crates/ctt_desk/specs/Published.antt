@@ -1,4 +1,4 @@
--- What is published, what an accepted commit changes of it, the rule over it, and what a step of a reader or of the writer tells.
+-- Published timetables: their updates, their protocol, and the steps of readers and of the writer.
 use Rattle.std.specs.Prelude.{◌≡◌, ℕ, List}
 use mathlib.Core.List.{IsPrefix}
 use mathlib.Core.Option.{some}
@@ -17,19 +17,20 @@ pub record ShownValue : Type 0 where
   pub list : List Placed
   pub history : List JournalEntry
 
--- the timetable t of the problem j is the opening after a legal history
+-- the timetable t of the problem j, which is i, is the opening after a legal history
 pub record IsAfter (i : Problem) (opening : List Placed) (j : Problem) (t : List Placed) (history : List JournalEntry) : Type 0 where
   pub same : j ≡ i
   pub legal : Legal i opening history
   pub list : t ≡ after i opening history
 
--- what an accepted commit changes, and the histories before it and with it
+-- the changes of an accepted commit, and the histories before and after it
 pub record UpdateValue : Type 0 where
   pub changes : List (List Cell)
   pub before : List JournalEntry
   pub front : List JournalEntry
 
--- the changes lead from the opening after the history before to the opening after the longer one
+-- the history before is a prefix of front, and the changes lead from the opening after the one to
+-- the opening after the other
 pub record Leads (i : Problem) (opening : List Placed) (changes : List (List Cell)) (before front : List JournalEntry) : Type 0 where
   pub grows : IsPrefix before front
   pub fit : ChangesFit i changes (after i opening before)
@@ -39,12 +40,13 @@ pub record Leads (i : Problem) (opening : List Placed) (changes : List (List Cel
 abbrev pub seeing : List JournalEntry → View
 seeing history = record { seen = history }
 
--- what is published is the opening after a legal history, which begins with what each seat has seen
+-- the protocol: the published timetable is the opening after a legal history, and each seat has
+-- seen a prefix of that history
 pub record Keeps (i : Problem) (opening : List Placed) (j : Problem) (t : List Placed) (history : List JournalEntry) (views : List View) : Type 0 where
   pub right : IsAfter i opening j t history
   pub seen : (seat : ℕ) (v : View) → get_elem? views seat ≡ some v → IsPrefix v.seen history
 
--- all that is published is seen afterwards, and it begins with all that was seen before
+-- a step: the published history extends what the seat had seen, and the seat has then seen it all
 pub record Shows (i : Problem) (opening : List Placed) (v : View) (j : Problem) (t : List Placed) (history : List JournalEntry) (w : View) : Type 0 where
   pub grows : IsPrefix v.seen history
   pub all : w ≡ seeing history

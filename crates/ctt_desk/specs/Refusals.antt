@@ -1,4 +1,4 @@
--- Why a draft is refused, or not opened or refreshed, or a look not answered.
+-- Why a draft is refused, not opened or not refreshed, or a look is not answered.
 use Rattle.std.specs.Prelude.{◌≡◌, List}
 use Rattle.ctt_text.specs.Problem.{Problem}
 use Rattle.ctt_text.specs.declared.placed.Placed.{Placed}
@@ -11,19 +11,21 @@ use Rattle.ctt_desk.specs.declared.refusal.RefreshRefusal.TheVariants.{NoPlace a
 use Rattle.ctt_desk.specs.declared.shared_fault.SharedFault.{SharedFault}
 use Rattle.ctt_desk.specs.declared.shared_fault.SharedFault.TheVariants.{Unlawful, NoPlace, NoMemory as OutOfMemory}
 
--- why a draft was refused, and what is left; rows are compared only where the journal, which q has seen, has as many of his drafts as he committed
+-- why a draft was refused, and what is returned; rows are compared only if the journal, which q has
+-- seen, has as many of his drafts as he committed
 abbrev pub IsRefused : {X Y : Type 0} → Problem → List Placed → DraftingValue → Refusal X Y → Type 0
 IsRefused i opening d (NotYours q count) = IsForeign i opening d q count
 IsRefused i opening d (Stale q row asked) = IsStale i opening d q row asked × IsHis q.front q.number q.committed
 IsRefused i opening d (NoMemory back) = (back ≡ d) × IsFreshSomewhere i opening d
 
--- why a draft was not brought up to date, and what is left
+-- why a draft was not refreshed, and what is returned
 abbrev pub IsNotRefreshed : {X Y : Type 0} → Problem → List Placed → DraftingValue → RefreshRefusal X Y → Type 0
 IsNotRefreshed i opening d (NotEntered back) = back ≡ d
 IsNotRefreshed i opening d (NotRefreshed back) = (back ≡ d) × IsFreshSomewhere i opening d
 IsNotRefreshed i opening d (Outdated q row asked) = IsStale i opening d q row asked
 
--- what has become of the planner p where he could not read: without a place he is as before, and where memory was wanted he has seen more
+-- the planner p, who could not read, is now q: unchanged if he got no place, and with at least as
+-- much seen if memory ran out
 abbrev pub IsUnread : Problem → List Placed → PlannerValue → PlannerValue → SharedFault → Type 0
 IsUnread i opening p q (Unlawful at f) = ⊥
 IsUnread i opening p q NoPlace = q ≡ p

@@ -1,9 +1,9 @@
-//! The book in which a desk's history grows.
+//! The logbook in which a desk's history grows.
 
 use ctt_core::JournalEntry;
 use logbook::{Gain, Play, Rule};
 
-/// The rule of the book: its word is the length of its history.
+/// The rule of the logbook: its first word is the length of the history.
 pub struct BookRule;
 
 impl Rule<JournalEntry, u64> for BookRule {
@@ -24,7 +24,7 @@ impl Rule<JournalEntry, u64> for BookRule {
     ghost moves = { λ ask before after answer. Unit {0} };
 }
 
-/// Who adds an entry trades nothing for it.
+/// The empty gain: a step that adds an entry gets nothing in return.
 pub struct NoTrade;
 
 impl Gain<JournalEntry, u64> for NoTrade {

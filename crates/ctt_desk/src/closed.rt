@@ -1,4 +1,4 @@
-//! Desks that were closed.
+//! Closed desks.
 
 ghost use Rattle.std.specs.Prelude.{◌≡◌, IfOk, length};
 ghost use Rattle.ctt_rules.specs.Hard.{Lawful};
@@ -13,15 +13,15 @@ use ctt_rules::Cost;
 use ctt_text::{NoMemory, Placed};
 use std::marker::Model;
 
-/// What a desk left: its journal and its timetable. Contracts see the journal.
+/// What a closed desk leaves: its journal and its timetable. Contracts see the journal.
 pub struct Closed<S: Timetable, J: Naming> {
     pub(crate) journal: Vec<JournalEntry>,
     pub(crate) sheet: S,
-    /// The journal, as what was seen.
+    /// The journal as a seen history.
     pub(crate) front: Front<J>,
 }
 
-// A derived `Drop` is proved anew in each crate above.
+// A derived `Drop` would be proved again in every dependent crate.
 impl<S: Timetable, J: Naming> Drop for Closed<S, J> {
     fn drop(self) {
         let Closed {
@@ -47,7 +47,7 @@ impl<S: Timetable, J: Naming> Model for Closed<S, J> {
 }
 
 impl<S: Timetable, J: Naming> Closed<S, J> {
-    /// The lectures, by course and slot: the opening after the journal.
+    /// Returns the lectures of the final timetable, ordered by course and slot.
     pub fn list(&self) -> Result<Vec<Placed>, NoMemory>
         ensures list { IfOk result (λ list. list.items ≡ after J.problem J.opening self.now) }
         ensures lawful { Lawful J.problem (after J.problem J.opening self.now) }
@@ -55,14 +55,14 @@ impl<S: Timetable, J: Naming> Closed<S, J> {
         self.sheet.list()
     }
 
-    /// What the timetable costs.
+    /// Returns the costs of the final timetable.
     pub fn cost(&self) -> Cost
         ensures { result ≡ penalty J.problem (after J.problem J.opening self.now) }
     {
         self.sheet.cost()
     }
 
-    /// How many drafts were accepted.
+    /// Returns how many drafts were accepted.
     pub fn accepted(&self) -> u64
         ensures accepted { result ≡ length self.now }
         ensures legal { Legal J.problem J.opening self.now }
@@ -70,14 +70,14 @@ impl<S: Timetable, J: Naming> Closed<S, J> {
         self.journal.len() as u64
     }
 
-    /// The journal, as what was seen.
+    /// Returns the journal as a seen history.
     pub(crate) fn front(&self) -> &Front<J>
         ensures { result.now ≡ self.now }
     {
         &self.front
     }
 
-    /// The accepted drafts, in the order of their commits.
+    /// Returns the accepted drafts in commit order.
     pub fn journal(&self) -> &[JournalEntry]
         ensures journal { result.now ≡ self.now }
         ensures legal { Legal J.problem J.opening self.now }

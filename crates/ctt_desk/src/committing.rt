@@ -16,8 +16,8 @@ use ctt_text::let_go;
 use std::sync::{MutexGuard, Wait};
 
 impl<'i, S: Sheet<'i>, J: Naming> Drafting<'i, S, J> {
-    /// Commits the draft: it is accepted where no row that it read has changed since it was opened,
-    /// or last refreshed.
+    /// Commits the draft, which is accepted only if no row that it read has changed since it was
+    /// opened or last refreshed.
     pub fn commit<R: Wait>(
         self,
         rt: &R,

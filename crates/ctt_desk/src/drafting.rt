@@ -22,9 +22,8 @@ use ctt_text::{Instance, NoMemory, let_go};
 use std::alloc::Global;
 use std::marker::Model;
 
-/// A planner with an open draft. Contracts see the planner, the timetable on which the draft
-/// stands, the history after which that was taken, and its calls with their replies. Whoever drops
-/// it abandons the draft.
+/// A planner with an open draft. Contracts see the planner, the base of the draft, the history that
+/// led to the base, and the calls with their replies. Dropping it abandons the draft.
 #[derive(Drop)]
 pub struct Drafting<'i, S: Timetable, J: Naming> {
     pub(crate) planner: Planner<S, J>,
@@ -52,7 +51,7 @@ impl<'i, S: Timetable, J: Naming> Model for Drafting<'i, S, J> {
         × IsPrefix d.since d.planner.front };
 }
 
-/// A copy of the calls of a draft with their replies.
+/// Copies the calls of a draft with their replies.
 fn asked_again<'i, S: Sheet<'i>>(
     alloc: Global,
     draft: &Draft<'i, S>,
@@ -65,7 +64,7 @@ fn asked_again<'i, S: Sheet<'i>>(
     AskedCalls::copy_of(alloc, draft.asked())
 }
 
-/// Ends a draft, and gives its calls with their replies. It takes no memory.
+/// Ends a draft, and returns its calls with their replies. Allocates nothing.
 pub(crate) fn end_draft<'i, S: Sheet<'i>>(draft: Draft<'i, S>) -> AskedCalls
     ensures { result ≡ draft.entry.asked }
 {
@@ -75,15 +74,15 @@ pub(crate) fn end_draft<'i, S: Sheet<'i>>(draft: Draft<'i, S>) -> AskedCalls
 }
 
 impl<'i, S: Sheet<'i>, J: Naming> Drafting<'i, S, J> {
-    /// The instance whose courses are timetabled.
+    /// Returns the instance whose courses are timetabled.
     pub fn instance(&self) -> &'i Instance
         ensures { result.now ≡ J.problem }
     {
         self.draft.instance()
     }
 
-    /// Makes a call in the draft, where nobody else's work is seen. Where memory is wanted the call
-    /// was not made.
+    /// Makes a call in the draft, which sees nobody else's work. No call is made if memory runs
+    /// out.
     pub fn call(&mut self, call: Call) -> Result<Reply, NoMemory>
         requires { CallFits J.problem call }
         ensures ok { IfOk result (λ told.
@@ -98,8 +97,8 @@ impl<'i, S: Sheet<'i>, J: Naming> Drafting<'i, S, J> {
         self.draft.call(call)
     }
 
-    /// What a look shows in the draft, where nobody else's work is seen. It is no call: nothing is
-    /// stored of it.
+    /// Answers a look at the draft, which sees nobody else's work. A look is not a call: nothing of
+    /// it is stored.
     pub fn peek(&self, look: &Look) -> Result<Reply, NoMemory>
         requires { LookFits J.problem look.now }
         ensures shown { IfOk result (λ told.
@@ -112,8 +111,7 @@ impl<'i, S: Sheet<'i>, J: Naming> Drafting<'i, S, J> {
         self.draft.peek(look)
     }
 
-    /// The edit that takes back the last accepted edit of the draft that is not taken back yet, if
-    /// there is one. It fits.
+    /// Returns the edit that undoes the draft's last accepted edit that is not yet undone, if any.
     pub fn undoing(&self) -> Result<Option<Edit>, NoMemory>
         ensures edit { IfOk result (λ edit.
             edit ≡ undoing J.problem self.now.base (calls_of self.now.asked)) }
@@ -122,7 +120,7 @@ impl<'i, S: Sheet<'i>, J: Naming> Drafting<'i, S, J> {
         self.draft.undoing()
     }
 
-    /// Computes nothing: its contract says that the calls of the draft fit, and their replies.
+    /// Computes nothing: its contract says that the draft's calls and their replies fit.
     pub fn calls_fit(&self)
         ensures { Each (AskedFits J.problem) self.now.asked }
     {
@@ -130,7 +128,7 @@ impl<'i, S: Sheet<'i>, J: Naming> Drafting<'i, S, J> {
         self.draft.lawful();
     }
 
-    /// Gives the draft up. It takes no memory.
+    /// Abandons the draft. Allocates nothing.
     pub fn abandon(self) -> Planner<S, J>
         ensures { result ≡ self.entry.planner }
     {
@@ -144,7 +142,7 @@ impl<'i, S: Sheet<'i>, J: Naming> Drafting<'i, S, J> {
         planner
     }
 
-    /// The entry that the draft is, if it is accepted.
+    /// Returns the journal entry that the draft becomes if it is accepted.
     pub fn entry(&self) -> Result<JournalEntry, NoMemory>
         ensures entry { IfOk result (λ entry.
             entry ≡ entry_of self.now.planner.number self.now.asked) }

@@ -1,4 +1,4 @@
-//! What was seen of a desk's history.
+//! Prefixes of a desk's history that were seen.
 
 ghost use Rattle.std.specs.Prelude.{◌≡◌, ◌+◌, ◌<◌, ◌≤◌, ◌^◌, ◌++◌, ◌∷◌, ◌⊎◌, ◌↔◌, IsTrue, IfSome, [], length};
 ghost use mathlib.Core.List.{IsPrefix};
@@ -15,7 +15,7 @@ use ctt_draft::Draft;
 use logbook::{Offer, Plain, Seen, Word};
 use std::marker::{Model, PhantomData};
 
-/// The word by which the history grows. It lies under the lock.
+/// The logbook word through which the history grows. It is under the lock.
 #[derive(Drop)]
 pub(crate) struct Head<J: Naming> {
     word: Word<JournalEntry, u64, BookRule>,
@@ -23,14 +23,14 @@ pub(crate) struct Head<J: Naming> {
     ghost head_is: { word ≡ head_of J.book },
 }
 
-/// A legal history that was seen, with which the desk's begins.
+/// A legal prefix of the desk's history that was seen.
 pub(crate) struct Front<J: Naming> {
     drafts: u64,
     seen: Seen<JournalEntry, u64, BookRule>,
     desk: PhantomData<J>,
 }
 
-// A derived `Drop` is proved anew in each crate above.
+// A derived `Drop` would be proved again in every dependent crate.
 impl<J: Naming> Drop for Front<J> {
     fn drop(self) {
         let Front {
@@ -54,7 +54,7 @@ impl<J: Naming> Model for Front<J> {
         × Legal J.problem J.opening f.seen.log };
 }
 
-/// A desk's word, and the front that has seen nothing, of a book that was just opened.
+/// Returns the head and the empty front of a logbook that was just opened.
 pub(crate) fn first<J: Naming>(
     word: Word<JournalEntry, u64, BookRule>,
     seen: Seen<JournalEntry, u64, BookRule>,
@@ -77,7 +77,7 @@ pub(crate) fn first<J: Naming>(
 }
 
 impl<J: Naming> Front<J> {
-    /// How many drafts were seen.
+    /// Returns how many drafts were seen.
     pub(crate) fn len(&self) -> u64
         ensures length { result ≡ length self.now }
         ensures legal { Legal J.problem J.opening self.now }
@@ -85,7 +85,7 @@ impl<J: Naming> Front<J> {
         self.drafts
     }
 
-    /// A copy.
+    /// Returns a copy.
     pub(crate) fn again(&self) -> Self
         ensures same { result ≡ self.now }
         ensures legal { Legal J.problem J.opening result }
@@ -97,7 +97,7 @@ impl<J: Naming> Front<J> {
         }
     }
 
-    /// Whether the other front begins with this one: it does where it is no shorter.
+    /// Returns whether the other front begins with this one: it does if it is at least as long.
     pub(crate) fn begins(&self, other: &Self) -> bool
         ensures begins { IsTrue result → IsPrefix self.now other.now }
         ensures shorter { IsTrue result ↔ (length self.now ≤ length other.now) }
@@ -108,7 +108,7 @@ impl<J: Naming> Front<J> {
         self.drafts <= other.drafts
     }
 
-    /// The longer of two fronts, which begins with the other.
+    /// Returns the longer of two fronts, which begins with the other.
     pub(crate) fn longer(&self, other: &Self) -> Self
         ensures one { (result ≡ self.now) ⊎ (result ≡ other.now) }
         ensures this { IsPrefix self.now result }
@@ -125,7 +125,7 @@ impl<J: Naming> Front<J> {
     }
 }
 
-/// A planner with his draft, of whose calls an entry is to be made.
+/// A planner, and the draft whose calls become his journal entry.
 #[derive(Drop)]
 pub(crate) struct Proposal<'a, 'i, S: Timetable> {
     planner: PlannerNo,
@@ -141,8 +141,9 @@ impl<'a, 'i, S: Timetable> Plain<Proposal<'a, 'i, S>, JournalEntry, u64> for Add
     ghost state = { λ p. None };
 }
 
-/// The history that was seen, with the entry of a draft, by which the desk's grows. There is none,
-/// and nothing has grown, where the desk's is longer, which the lock excludes.
+/// Appends the entry of a draft to the desk's history, and returns the longer front. Returns
+/// `None`, and appends nothing, if the desk's history is longer than `front`, which the lock rules
+/// out.
 pub(crate) fn extended<'i, S: Timetable, J: Naming>(
     front: &Front<J>,
     head: &Head<J>,

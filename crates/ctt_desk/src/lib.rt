@@ -1,5 +1,5 @@
-//! The running desk: planners on threads draft on copies that are published, and commit under one
-//! lock.
+//! The shared desk: planners on threads draft on published copies of the timetable, and commit
+//! under one lock.
 #![tactic(auto)]
 
 mod book;

@@ -1,4 +1,4 @@
-//! What lies under the lock.
+//! The state under the desk's lock.
 
 ghost use Rattle.std.specs.Prelude.{◌≡◌, ◌++◌, ◌∷◌, [], ◌<◌, None, Some, IfOk, IfErr};
 ghost use mathlib.Core.List.{IsPrefix};
@@ -28,16 +28,16 @@ use std::sync::Wait;
 /// Why a draft is not accepted.
 #[derive(Drop)]
 pub(crate) enum Cause {
-    /// The planner has seen more drafts than the journal has, namely this many; or the journal has
-    /// another number of this planner's drafts, namely this one.
+    /// The length of the journal, if the planner has seen more drafts than that; otherwise the
+    /// number of his drafts in the journal, which is not the number that he committed.
     NotYours(u64),
-    /// The least row that was read and has changed.
+    /// The least row that the draft read and that has changed.
     Stale(Row),
     /// There is not enough memory.
     NoMemory,
 }
 
-/// The desk's opening, its journal, the timetable after it, and the end by which that is published.
+/// The desk's opening, its journal, the current timetable, and the writer that publishes it.
 /// Contracts see the journal.
 pub(crate) struct Locked<S: Timetable, J: Naming>
 where
@@ -48,10 +48,10 @@ where
     /// How many drafts each planner has in the journal.
     counts: Vec<u64>,
     sheet: S,
-    /// The journal, as what was seen.
+    /// The journal as a seen history.
     front: Front<J>,
     head: Head<J>,
-    /// It is there whenever the lock is free.
+    /// `Some` whenever the lock is free.
     publisher: Option<Publisher<S, J>>,
 }
 
@@ -74,7 +74,7 @@ where
         × IsSomeAnd l.publisher (λ p. p.history ≡ l.journal.items) };
 }
 
-/// No draft for each of so many planners.
+/// Returns a count of 0 for each planner.
 pub(crate) fn no_counts(alloc: Global, planners: u16) -> Result<Vec<u64>, AllocError>
     ensures { IfOk result (λ counts. Counted planners counts.items []) }
 {
@@ -85,7 +85,7 @@ pub(crate) fn no_counts(alloc: Global, planners: u16) -> Result<Vec<u64>, AllocE
     Ok(counts)
 }
 
-/// Puts the writing end back.
+/// Puts the publisher back into its empty slot.
 fn put_back<S: Timetable, J: Naming>(slot: &mut Option<Publisher<S, J>>, publisher: Publisher<S, J>)
     requires { slot.old ≡ None }
     ensures { slot.new ≡ Some publisher }
@@ -95,7 +95,7 @@ fn put_back<S: Timetable, J: Naming>(slot: &mut Option<Publisher<S, J>>, publish
 }
 
 impl<S: Timetable, J: Naming> Locked<S, J> {
-    /// A desk that opens so, with an empty journal, and whose opening is published.
+    /// Starts a desk with an empty journal, whose opening is already published.
     pub(crate) fn new(
         alloc: Global,
         opening: Vec<Placed>,
@@ -125,7 +125,7 @@ impl<S: Timetable, J: Naming> Locked<S, J> {
         }
     }
 
-    /// Gives up the writing end, and gives the journal with its timetable.
+    /// Ends the publishing, and returns the journal with its timetable.
     pub(crate) fn close<R: Wait>(self, rt: &R) -> Closed<S, J>
         ensures { result ≡ self }
     {
@@ -148,8 +148,9 @@ impl<S: Timetable, J: Naming> Locked<S, J> {
 }
 
 impl<'i, S: Sheet<'i>, J: Naming> Locked<S, J> {
-    /// Accepts a draft of which nothing that it read has changed; the planner's front is then the
-    /// journal. A refused draft goes back.
+    /// Accepts a draft if the journal has as many of the planner's drafts as he committed and no
+    /// row that the draft read has changed; `front` is then the journal. A refused draft is
+    /// returned with the cause.
     pub(crate) fn commit<R: Wait>(
         &mut self,
         rt: &R,
@@ -194,7 +195,7 @@ impl<'i, S: Sheet<'i>, J: Naming> Locked<S, J> {
         }
     }
 
-    /// The least row that a draft read and that is another one in the timetable now.
+    /// Returns the least row that a draft read and that differs in the current timetable.
     fn stale(&self, draft: &Draft<'i, S>) -> Option<Row>
         requires { draft.now.problem ≡ J.problem }
         ensures row { result
@@ -206,8 +207,8 @@ impl<'i, S: Sheet<'i>, J: Naming> Locked<S, J> {
         draft.stale(sheet).unwrap()
     }
 
-    /// Settles a draft, enters it into the journal, and publishes what it changes. All growths come
-    /// first, and then the history's, so what is begun ends.
+    /// Settles a draft, appends it to the journal, and publishes its changes. All memory is
+    /// allocated before the history grows, and nothing fails after that.
     fn accept<R: Wait>(
         &mut self,
         rt: &R,

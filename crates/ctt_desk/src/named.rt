@@ -7,14 +7,14 @@ use crate::opened::Opened;
 use ctt_board::Timetable;
 use std::marker::PhantomData;
 
-/// An opening with a number of planners, of a desk of which its name says both.
+/// An opening and a number of planners, as the name of the desk gives them.
 #[derive(Drop)]
 pub struct Named<S: Timetable, J: Naming> {
     /// The opening.
     pub opened: Opened<S>,
     /// How many planners the desk has.
     pub count: u16,
-    /// The name.
+    /// The desk's name.
     pub name: PhantomData<J>,
     ghost named: { IsNamed J.problem J.opening J.planners J.book opened count },
 }

@@ -2,8 +2,8 @@
 
 use std::marker::Brand;
 
-/// Which desk it is. A desk, its planners, their draftings and the receipts have one name, so none
-/// of them is used with another desk. A caller chooses what a name says where it passes `Brand`.
+/// The name of a desk. A desk, its planners, their drafts and the receipts share one name, so none
+/// of them can be used with another desk. A caller that passes `Brand` chooses what the name says.
 pub trait Naming {
     ghost use Rattle.std.specs.Prelude.{ℕ, List};
     ghost use Rattle.logbook.specs.Pages.{Book};
@@ -16,10 +16,10 @@ pub trait Naming {
     /// The lectures with which the desk opened.
     ghost opening: { List Placed };
 
-    /// How many planners it has.
+    /// How many planners the desk has.
     ghost planners: { ℕ };
 
-    /// The book of its history.
+    /// The logbook of the desk's history.
     ghost book: { Book };
 }
 

@@ -1,4 +1,4 @@
-//! A desk's opening, before the desk has a name.
+//! Openings of desks that have no name yet.
 
 ghost use Rattle.std.specs.Prelude.{◌≡◌, Ok, IfOk, IfErr};
 ghost use Rattle.std.specs.List.{AllByRecursion as Each};
@@ -15,14 +15,14 @@ use logbook::{Seen, Start, Word};
 use std::alloc::Global;
 use std::marker::Model;
 
-/// The timetable with which a desk opens. Contracts see its instance, its lectures and the book of
-/// its history, from which a caller names the desk.
+/// The timetable that a desk opens with. Contracts see its instance, its lectures and the logbook
+/// of its history, which a caller uses to name the desk.
 #[derive(Drop)]
 pub struct Opened<S: Timetable> {
     pub(crate) alloc: Global,
     pub(crate) opening: Vec<Placed>,
     pub(crate) sheet: S,
-    /// The word by which the history will grow, and that there is none yet.
+    /// The logbook word through which the history grows, and the history, which is still empty.
     pub(crate) word: Word<JournalEntry, u64, BookRule>,
     pub(crate) seen: Seen<JournalEntry, u64, BookRule>,
 }
@@ -45,8 +45,8 @@ impl<S: Timetable> Model for Opened<S> {
 }
 
 impl<'i, S: Sheet<'i>> Opened<S> {
-    /// The timetable of these lectures, which are placed in their order, whatever it is. It is
-    /// refused at the first lecture that cannot be placed.
+    /// Places these lectures, in this order, on an empty timetable. Fails at the first lecture that
+    /// cannot be placed, or if memory runs out.
     pub fn new(
         alloc: Global,
         instance: &'i Instance,

@@ -24,18 +24,18 @@ use ctt_text::NoMemory;
 use std::alloc::Global;
 use std::marker::Model;
 
-/// One who drafts. Contracts see the number, how many drafts were committed, and the front: the
-/// history that the planner has seen.
+/// A planner, who opens and commits drafts. Contracts see the number, how many drafts the planner
+/// has committed, and the front: the history that the planner has seen.
 pub struct Planner<S: Timetable, J: Naming> {
     pub(crate) alloc: Global,
     pub(crate) number: PlannerNo,
     pub(crate) committed: u64,
     pub(crate) front: Front<J>,
-    /// It is there but while the planner reads.
+    /// `None` only while the planner reads.
     pub(crate) place: Option<Place<S, J>>,
 }
 
-// A derived `Drop` is proved anew in each crate above.
+// A derived `Drop` would be proved again in every dependent crate.
 impl<S: Timetable, J: Naming> Drop for Planner<S, J> {
     fn drop(self) {
         let Planner {
@@ -63,7 +63,7 @@ impl<S: Timetable, J: Naming> Model for Planner<S, J> {
 }
 
 impl<S: Timetable, J: Naming> Planner<S, J> {
-    /// A planner of the desk who has committed nothing.
+    /// Makes a planner who has committed and seen nothing.
     pub(crate) fn new(alloc: Global, number: u16, front: &Front<J>, place: Place<S, J>) -> Self
         requires number { number < J.planners }
         requires front { front.now ≡ [] }
@@ -78,7 +78,7 @@ impl<S: Timetable, J: Naming> Planner<S, J> {
         }
     }
 
-    /// The planner's number.
+    /// Returns the planner's number, counted from 0.
     pub fn number(&self) -> PlannerNo
         ensures number { result ≡ self.now.number }
         ensures of_desk { self.now.number < J.planners }
@@ -86,7 +86,8 @@ impl<S: Timetable, J: Naming> Planner<S, J> {
         self.number
     }
 
-    /// How many drafts the planner has committed: no more than he has seen of his own.
+    /// Returns how many drafts the planner has committed: at most as many of his own as he has
+    /// seen.
     pub fn committed(&self) -> u64
         ensures committed { result ≡ self.now.committed }
         ensures seen { self.now.committed ≤ length (own self.now.number self.now.front) }
@@ -94,7 +95,7 @@ impl<S: Timetable, J: Naming> Planner<S, J> {
         self.committed
     }
 
-    /// How many drafts of the desk's history the planner has seen.
+    /// Returns how many drafts of the desk's history the planner has seen.
     pub fn seen(&self) -> u64
         ensures seen { result ≡ length self.now.front }
         ensures legal { Legal J.problem J.opening self.now.front }
@@ -102,7 +103,7 @@ impl<S: Timetable, J: Naming> Planner<S, J> {
         self.front.len()
     }
 
-    /// The history that the planner has seen.
+    /// Returns a copy of the history that the planner has seen.
     pub(crate) fn front(&self) -> Front<J>
         ensures same { result ≡ self.now.front }
         ensures legal { Legal J.problem J.opening result }
@@ -110,7 +111,7 @@ impl<S: Timetable, J: Naming> Planner<S, J> {
         self.front.again()
     }
 
-    /// Whether a history begins with the planner's front.
+    /// Returns whether a history begins with the planner's front.
     pub(crate) fn begins(&self, history: &Front<J>) -> bool
         ensures begins { IsTrue result → IsPrefix self.now.front history.now }
         ensures shorter { IsTrue result ↔ (length self.now.front ≤ length history.now) }
@@ -118,7 +119,7 @@ impl<S: Timetable, J: Naming> Planner<S, J> {
         self.front.begins(history)
     }
 
-    /// The planner, who has seen a history.
+    /// Replaces the planner's front.
     pub(crate) fn seeing(self, front: Front<J>) -> Self
         requires { self.committed ≤ length (own self.number front) }
         ensures { result ≡ seen_up_to self front }
@@ -128,8 +129,7 @@ impl<S: Timetable, J: Naming> Planner<S, J> {
         planner
     }
 
-    /// The planner with one commit more, which is the last one in a history that he has seen, and its
-    /// receipt.
+    /// Counts a commit, the last entry of `front`, and returns the planner with its receipt.
     #[inline(always)]
     pub(crate) fn accepted(self, front: Front<J>) -> (Self, Receipt<J>)
         requires { length (own self.number front) ≡ self.committed + 1 }
@@ -148,7 +148,7 @@ impl<S: Timetable, J: Naming> Planner<S, J> {
         (planner, receipt)
     }
 
-    /// Takes in what a receipt shows.
+    /// Replaces the planner's front with the receipt's history, if that is longer.
     pub fn learn(&mut self, receipt: &Receipt<J>)
         ensures grows { Grows J.problem J.opening self.old self.new }
         ensures receipt { IsPrefix receipt.now self.new.front }
@@ -159,7 +159,7 @@ impl<S: Timetable, J: Naming> Planner<S, J> {
 }
 
 impl<'i, S: Sheet<'i>, J: Naming> Planner<S, J> {
-    /// Opens a draft on the timetable that was published last, which the planner has then seen.
+    /// Opens a draft on the latest published timetable, whose history the planner has then seen.
     #[tactic(auto, using(crate::proofs::PrefixLemmas::prefix_same))]
     pub fn open(self) -> Result<Drafting<'i, S, J>, (Self, SharedFault)>
         ensures ok { IfOk result (IsOpen J.problem J.opening self) }
@@ -191,7 +191,7 @@ impl<'i, S: Sheet<'i>, J: Naming> Planner<S, J> {
         }
     }
 
-    /// Looks at the timetable that was published last, which the planner has then seen.
+    /// Looks at the latest published timetable, whose history the planner has then seen.
     pub fn view(&mut self, look: &Look) -> Result<Reply, SharedFault>
         requires { LookFits J.problem look.now }
         ensures ok { IfOk result (IsViewed J.problem J.opening look.now self.old self.new) }
@@ -212,8 +212,8 @@ impl<'i, S: Sheet<'i>, J: Naming> Planner<S, J> {
         }
     }
 
-    /// The least row that a draft read and that is another one in the timetable that was published
-    /// last, which the planner has then seen.
+    /// Returns the least row that a draft read and that differs in the latest published timetable,
+    /// whose history the planner has then seen.
     pub(crate) fn stale(&mut self, draft: &Draft<'i, S>) -> Result<Option<Row>, SharedFault>
         requires { draft.now.problem ≡ J.problem }
         ensures row { IfOk result (λ row. row ≡ stale J.problem draft.now.base
@@ -236,7 +236,7 @@ impl<'i, S: Sheet<'i>, J: Naming> Planner<S, J> {
     }
 }
 
-/// The least row that a draft read and that is another one in a published timetable.
+/// Returns the least row that a draft read and that differs in a published timetable.
 fn stale_on<'i, S: Sheet<'i>, J: Naming>(draft: &Draft<'i, S>, shown: &Shown<S, J>) -> Option<Row>
     requires { draft.now.problem ≡ J.problem }
     ensures { result ≡ stale J.problem draft.now.base shown.now.list (calls_of draft.now.asked) }
@@ -244,7 +244,7 @@ fn stale_on<'i, S: Sheet<'i>, J: Naming>(draft: &Draft<'i, S>, shown: &Shown<S, 
     draft.stale(&shown.sheet).unwrap()
 }
 
-/// A draft on a published timetable, in which nothing was asked yet.
+/// Opens a draft on a published timetable.
 fn draft_on<'i, S: Sheet<'i>, J: Naming>(
     alloc: Global,
     shown: &Shown<S, J>,
@@ -256,7 +256,7 @@ fn draft_on<'i, S: Sheet<'i>, J: Naming>(
     Draft::open(alloc, &shown.sheet)
 }
 
-/// What a look shows of a sheet.
+/// Answers a look at a sheet.
 fn look_at<'i, S: Sheet<'i>>(alloc: Global, sheet: &S, look: &Look) -> Result<Reply, NoMemory>
     requires { LookFits (S.problem sheet.now) look.now }
     ensures told { IfOk result (λ told.

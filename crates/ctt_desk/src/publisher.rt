@@ -1,4 +1,4 @@
-//! The writing end of the published copies.
+//! The writer of the published copies.
 
 ghost use Rattle.std.specs.Prelude.{◌≡◌, ◌<◌, ◌^◌, [], IfOk};
 ghost use Rattle.ctt_desk.specs.Published.{IsAfter};
@@ -15,8 +15,8 @@ use std::alloc::Global;
 use std::marker::Model;
 use std::sync::Wait;
 
-/// The two copies: the one that readers enter, and the one that lacks what was published last.
-/// Contracts see the first.
+/// The two copies: the one that readers enter, and a spare that lacks the latest update. Contracts
+/// see the first.
 pub(crate) struct Publisher<S: Timetable, J: Naming>
 where
     Shown<S, J>: Absorb<(), State = ()>,
@@ -41,7 +41,7 @@ where
 }
 
 impl<S: Timetable, J: Naming> Publisher<S, J> {
-    /// Publishes an opening, in copies of it, with so many places for readers.
+    /// Publishes copies of an opening, with this many places for readers.
     pub(crate) fn new<R: Wait>(
         rt: &R,
         alloc: Global,
@@ -59,7 +59,7 @@ impl<S: Timetable, J: Naming> Publisher<S, J> {
         let second = Shown::copy_of(opening, front)?;
         let third = Shown::copy_of(opening, front)?;
         let mut writer = Writer::new(alloc, first, second, places)?;
-        // `Writer::new` says nothing of the copy that is not shown, so another one takes its place.
+        // `Writer::new` promises nothing about the spare copy, so a third copy replaces it.
         let (open, mut spare) = writer.desk.open(rt);
         *spare = third;
         writer.desk = open.show_as::<Sees<J>>(spare);
@@ -67,13 +67,13 @@ impl<S: Timetable, J: Naming> Publisher<S, J> {
         Ok(Publisher { writer, last })
     }
 
-    /// A place whose planner has seen nothing. There is none where each is taken.
+    /// Returns a reader that has seen nothing, or `None` if `left_right` refuses a place.
     pub(crate) fn place(&self) -> Option<Place<S, J>> {
         self.writer.factory().reader().ok()
     }
 
-    /// Publishes what a commit changes, all at once. It takes no memory, and waits for those who
-    /// still read the copy that was published before the last one.
+    /// Publishes the changes of a commit all at once. Allocates nothing; waits until no reader is
+    /// left in the spare copy.
     pub(crate) fn publish<R: Wait>(self, rt: &R, update: Update<J>) -> Self
         requires { update.before ≡ self.history }
         ensures { result.history ≡ update.front }
@@ -89,7 +89,7 @@ impl<S: Timetable, J: Naming> Publisher<S, J> {
         }
     }
 
-    /// Gives the writing end up.
+    /// Ends the publishing: no reader can enter any more.
     pub(crate) fn end<R: Wait>(self, rt: &R) {
         let Publisher { writer, last: _ } = self;
         let_go(writer.take(rt));

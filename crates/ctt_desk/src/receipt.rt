@@ -8,7 +8,7 @@ use crate::front::Front;
 use crate::naming::Naming;
 use std::marker::Model;
 
-/// That a draft was accepted. Contracts see the history that ends with it.
+/// Evidence that a draft was accepted. Contracts see the history that ends with that draft.
 #[derive(Drop)]
 pub struct Receipt<J: Naming> {
     pub(crate) front: Front<J>,
@@ -27,7 +27,7 @@ impl<J: Naming> Model for Receipt<J> {
 }
 
 impl<J: Naming> Receipt<J> {
-    /// The place of the draft in the journal, from 1.
+    /// Returns the position of the draft in the journal, counted from 1.
     pub fn number(&self) -> u64
         ensures number { result ≡ length self.now }
         ensures legal { Legal J.problem J.opening self.now }
@@ -35,7 +35,7 @@ impl<J: Naming> Receipt<J> {
         self.front.len()
     }
 
-    /// A copy.
+    /// Returns a copy.
     pub fn again(&self) -> Self
         ensures { result ≡ self.now }
     {
@@ -44,7 +44,8 @@ impl<J: Naming> Receipt<J> {
         }
     }
 
-    /// Whether the history of the other receipt begins with this one: it does where it is no shorter.
+    /// Returns whether the other receipt's history begins with this one's: it does if it is at
+    /// least as long.
     pub fn begins(&self, other: &Self) -> bool
         ensures begins { IsTrue result → IsPrefix self.now other.now }
         ensures shorter { IsTrue result ↔ (length self.now ≤ length other.now) }

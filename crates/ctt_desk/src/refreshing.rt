@@ -16,7 +16,7 @@ use ctt_draft::Draft;
 use ctt_edits::Row;
 use ctt_text::NoMemory;
 
-/// Brings a draft up to date with a published timetable.
+/// Makes a published timetable the base of a draft, unless a row that the draft read differs there.
 fn refresh_on<'i, S: Sheet<'i>, J: Naming>(
     draft: &mut Draft<'i, S>,
     shown: &Shown<S, J>,
@@ -33,9 +33,9 @@ fn refresh_on<'i, S: Sheet<'i>, J: Naming>(
 }
 
 impl<'i, S: Sheet<'i>, J: Naming> Drafting<'i, S, J> {
-    /// Brings the draft up to date: where no row that it read has changed since it was opened, or
-    /// last refreshed, it goes on from the timetable that was published last, which the planner has
-    /// then seen.
+    /// Makes the latest published timetable the base of the draft, if no row that the draft read
+    /// has changed since it was opened or last refreshed. The planner has then seen that
+    /// timetable's history.
     #[tactic(auto, using(crate::proofs::PrefixLemmas::prefix_same))]
     pub fn refresh(self) -> Result<Self, RefreshRefusal<'i, S, J>>
         ensures ok { IfOk result (IsRefreshed J.problem J.opening self.entry) }

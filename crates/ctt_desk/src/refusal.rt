@@ -10,25 +10,25 @@ use ctt_edits::Row;
 /// Why a draft was not accepted.
 #[derive(Drop)]
 pub enum Refusal<'i, S: Timetable, J: Naming> {
-    /// The planner has seen more drafts than the journal has, namely this many; or the journal has
-    /// another number of this planner's drafts than the planner committed, namely this one. The
-    /// draft has ended.
+    /// The length of the journal, if the planner has seen more drafts than that; otherwise the
+    /// number of his drafts in the journal, which is not the number that he committed. The draft
+    /// has ended.
     NotYours(Planner<S, J>, u64),
-    /// This row, the least of those that were read and have changed since the draft was opened, or
-    /// last refreshed. The draft has ended; these are its calls with their replies, in order.
+    /// The least row that the draft read and that has changed since the draft was opened or last
+    /// refreshed. The draft has ended; its calls are returned with their replies, in order.
     Stale(Planner<S, J>, Row, AskedCalls),
-    /// There is not enough memory. The draft is as it was.
+    /// There is not enough memory. The draft is unchanged.
     NoMemory(Drafting<'i, S, J>),
 }
 
-/// Why a draft was not brought up to date.
+/// Why a draft was not refreshed.
 #[derive(Drop)]
 pub enum RefreshRefusal<'i, S: Timetable, J: Naming> {
-    /// `left_right` refused to enter. The draft is as it was.
+    /// `left_right` refused to enter. The draft is unchanged.
     NoPlace(Drafting<'i, S, J>),
-    /// There is not enough memory. The draft is as it was.
+    /// There is not enough memory. The draft is unchanged.
     NoMemory(Drafting<'i, S, J>),
-    /// This row, the least of those that were read and have changed since the draft was opened, or
-    /// last refreshed. The draft has ended; these are its calls with their replies, in order.
+    /// The least row that the draft read and that has changed since the draft was opened or last
+    /// refreshed. The draft has ended; its calls are returned with their replies, in order.
     Stale(Planner<S, J>, Row, AskedCalls),
 }

@@ -22,7 +22,7 @@ use left_right::Absorb;
 use std::alloc::Global;
 use std::sync::{Mutex, Wait};
 
-/// A timetable on which planners work in threads. It is ended by `close`.
+/// A timetable on which planners work from several threads. `close` ends it.
 pub struct SharedDesk<S: Timetable, J: Naming>
 where
     Shown<S, J>: Absorb<(), State = ()>,
@@ -30,7 +30,7 @@ where
     pub(crate) locked: Mutex<Locked<S, J>>,
 }
 
-/// The planners with the numbers below this one, in order, each with a place.
+/// Makes `count` planners, numbered from 0, each with a place for reading.
 fn planners<S: Timetable, J: Naming>(
     alloc: Global,
     count: u16,
@@ -55,7 +55,7 @@ fn planners<S: Timetable, J: Naming>(
     Ok(planners)
 }
 
-/// Whether a history begins with the front of each planner.
+/// Returns whether a history begins with the front of each planner.
 fn begins_with_all<S: Timetable, J: Naming>(planners: &[Planner<S, J>], history: &Front<J>) -> bool
     ensures begins { IsTrue result → All (λ p. IsPrefix p.front history.now) planners.now }
     ensures shorter { IsTrue result ↔ All (λ p. length p.front ≤ length history.now) planners.now }
@@ -78,8 +78,8 @@ fn fronts_are_legal<S: Timetable, J: Naming>(planners: &[Planner<S, J>])
 }
 
 impl<S: Timetable, J: Naming> SharedDesk<S, J> {
-    /// The desk that opens so, with so many planners, who are numbered from 0 and have committed
-    /// and seen nothing.
+    /// Starts the desk with its planners, who are numbered from 0 and have committed and seen
+    /// nothing. Fails if memory runs out, or if `left_right` refuses a place.
     pub fn new<R: Wait>(
         rt: &R,
         named: Named<S, J>,
@@ -119,8 +119,8 @@ impl<S: Timetable, J: Naming> SharedDesk<S, J> {
         }
     }
 
-    /// Ends the desk, and gives its journal with its timetable: as `Ok` where the journal begins
-    /// with the front of each of these planners, who stay as they are.
+    /// Ends the desk, and returns its journal with its timetable: as `Ok` if the journal begins
+    /// with the front of each of these planners, who are unchanged.
     pub fn close<R: Wait>(
         self,
         rt: &R,

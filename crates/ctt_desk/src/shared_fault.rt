@@ -5,13 +5,12 @@ use ctt_edits::EditFault;
 use ctt_text::NoMemory;
 use std::alloc::AllocError;
 
-/// What stands against a desk, a draft or a look.
+/// Why a desk was not made, a draft not opened or a look not answered.
 #[derive(Clone, Copy, PartialEq, Eq)]
 pub enum SharedFault {
-    /// The first lecture of the opening that cannot be placed, counted from 1, and what stands
-    /// against it.
+    /// The first lecture of the opening that cannot be placed, counted from 1, and why it cannot.
     Unlawful(u64, EditFault),
-    /// `left_right` refused a place, or to enter.
+    /// `left_right` refused a place, or refused to enter.
     NoPlace,
     /// There is not enough memory.
     NoMemory,

@@ -1,4 +1,4 @@
-//! The copies of the timetable that readers enter, and the rule over them.
+//! The copies of the timetable that readers enter, and their `left_right` protocol.
 
 ghost use Rattle.std.specs.Prelude.{◌≡◌, IfOk};
 ghost use mathlib.Core.List.{IsPrefix};
@@ -17,7 +17,7 @@ use std::alloc::AllocError;
 use std::collections::LinkedList;
 use std::marker::{Model, PhantomData};
 
-/// A published timetable, with the history that it comes from. It is the opening after this history.
+/// A published timetable with its history: the timetable is the opening after that history.
 #[derive(Drop)]
 pub struct Shown<S: Timetable, J: Naming> {
     pub(crate) sheet: S,
@@ -40,7 +40,7 @@ impl<S: Timetable, J: Naming> Model for Shown<S, J> {
 }
 
 impl<S: Timetable, J: Naming> Shown<S, J> {
-    /// A copy of a timetable, behind a history.
+    /// Copies a timetable together with its history.
     pub(crate) fn copy_of(sheet: &S, front: &Front<J>) -> Result<Self, NoMemory>
         requires { IsAfter J.problem J.opening (S.problem sheet.now) (S.list sheet.now) front.now }
         ensures history { IfOk result (λ shown. shown.history ≡ front.now) }
@@ -53,7 +53,7 @@ impl<S: Timetable, J: Naming> Shown<S, J> {
         })
     }
 
-    /// Takes in what a commit changes that comes behind its history. It takes no memory.
+    /// Applies the changes of a commit that follows this copy's history. Allocates nothing.
     pub(crate) fn take_in(&mut self, update: &Update<J>)
         requires { update.now.before ≡ self.old.history }
         ensures history { self.new.history ≡ update.now.front }
@@ -66,7 +66,7 @@ impl<S: Timetable, J: Naming> Shown<S, J> {
     }
 }
 
-// No operation is logged for a copy: the writing end changes the one that nobody reads.
+// No operations are logged: the writer directly changes the copy that nobody reads.
 impl<S: Timetable, J: Naming> Absorb<()> for Shown<S, J> {
     type State = ();
 
@@ -81,12 +81,12 @@ impl<S: Timetable, J: Naming> Absorb<()> for Shown<S, J> {
     }
 }
 
-/// What a seat knows: the history that it has seen. No value of it is made.
+/// The history that a `left_right` seat has seen. No value of this type is ever made.
 pub struct View {
     pub seen: LinkedList<JournalEntry>,
 }
 
-/// The rule over the published copies.
+/// The `left_right` protocol of the published copies.
 pub struct Published<J: Naming> {
     desk: PhantomData<J>,
 }
@@ -100,7 +100,7 @@ impl<S: Timetable, J: Naming> Protocol<Shown<S, J>, View> for Published<J> {
     ghost first = { seeing [] };
 }
 
-/// The step of a reader that enters, and of the writer that publishes.
+/// The outcome of a step in which a reader enters or the writer publishes.
 pub struct Sees<J: Naming> {
     desk: PhantomData<J>,
 }
@@ -111,14 +111,14 @@ impl<S: Timetable, J: Naming> Outcome<Shown<S, J>, View> for Sees<J> {
     ghost then = { λ v x y w. Shows J.problem J.opening v y.problem y.list y.history w };
 }
 
-/// A planner's place, when he is not reading.
+/// The reader handle of a planner who is not reading.
 pub(crate) type Place<S, J> = Reader<Shown<S, J>, View, Published<J>>;
 
-/// A planner's place, with the copy that he reads.
+/// The reader handle of a planner who is reading, with the copy that he reads.
 pub(crate) type Visit<S, J> = Reading<Shown<S, J>, View, Published<J>>;
 
-/// Enters the copy that was published last, and tells its history, which begins with a front. The
-/// place comes back where the writing end is gone, or where the copy were older than the front.
+/// Enters the latest published copy, and returns it with its history, which begins with `front`.
+/// Returns the place if the writer is gone, or if the copy is older than `front`.
 pub(crate) fn enter<S: Timetable, J: Naming>(
     place: Place<S, J>,
     front: &Front<J>,

@@ -14,8 +14,8 @@ use ctt_core::Standing;
 use ctt_edits::{Look, Reply};
 
 impl<'i, S: Sheet<'i>, J: Naming> Drafting<'i, S, J> {
-    /// How the draft stands beside the timetable that was published last, which the planner has
-    /// then seen. The draft goes on as it was, from the base that it had.
+    /// Compares the draft with the latest published timetable, whose history the planner has then
+    /// seen. The draft and its base are unchanged.
     pub fn status(&mut self) -> Result<Standing, SharedFault>
         ensures ok { IfOk result (IsStatus J.problem J.opening self.old self.new) }
         ensures draft { IsSameDraft self.old self.new }
@@ -27,8 +27,8 @@ impl<'i, S: Sheet<'i>, J: Naming> Drafting<'i, S, J> {
         Ok(Standing::of(&self.draft, behind, stale))
     }
 
-    /// Looks at the timetable that was published last, which the planner has then seen. The draft
-    /// goes on as it was, from the base that it had, and the look is no call of it.
+    /// Looks at the latest published timetable, whose history the planner has then seen. The draft
+    /// and its base are unchanged, and the look is not one of its calls.
     pub fn view(&mut self, look: &Look) -> Result<Reply, SharedFault>
         requires { LookFits J.problem look.now }
         ensures ok { IfOk result

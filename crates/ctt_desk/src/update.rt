@@ -1,4 +1,4 @@
-//! What accepted commits change.
+//! The changes of accepted commits.
 
 ghost use Rattle.std.specs.Prelude.{◌≡◌, []};
 ghost use Rattle.ctt_desk.specs.Published.{Leads};
@@ -9,7 +9,7 @@ use ctt_board::Change;
 use std::alloc::Global;
 use std::marker::Model;
 
-/// What an accepted commit changes in a copy, and the histories before it and with it.
+/// The changes that an accepted commit makes in a copy, and the histories before and after it.
 #[derive(Drop)]
 pub(crate) struct Update<J: Naming> {
     changes: Vec<Change>,
@@ -28,7 +28,7 @@ impl<J: Naming> Model for Update<J> {
 }
 
 impl<J: Naming> Update<J> {
-    /// What a commit changes that comes behind one history and makes another of it.
+    /// Makes the update of a commit that extends the history `before` to `front`.
     pub(crate) fn new(changes: Vec<Change>, before: Front<J>, front: Front<J>) -> Self
         requires { Leads J.problem J.opening changes.items before front }
         ensures { result ≡ record { changes = changes.items; before = before; front = front } }
@@ -40,7 +40,7 @@ impl<J: Naming> Update<J> {
         }
     }
 
-    /// What changes nothing behind a history.
+    /// Makes the update that changes nothing and leaves the history as it is.
     pub(crate) fn none(alloc: Global, front: &Front<J>) -> Self
         ensures { result ≡ record { changes = []; before = front.now; front = front.now } }
     {
@@ -51,7 +51,7 @@ impl<J: Naming> Update<J> {
         }
     }
 
-    /// The changes.
+    /// Returns the changes in the order in which they are made.
     pub(crate) fn changes(&self) -> &[Change]
         ensures changes { result.now ≡ self.now.changes }
         ensures leads { Leads J.problem J.opening self.now.changes self.now.before self.now.front }
@@ -59,7 +59,7 @@ impl<J: Naming> Update<J> {
         self.changes.as_slice()
     }
 
-    /// The history that ends with the commit.
+    /// Returns the history after the commit.
     pub(crate) fn front(&self) -> &Front<J>
         ensures { result.now ≡ self.now.front }
     {

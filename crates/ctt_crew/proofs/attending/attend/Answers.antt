@@ -14,7 +14,7 @@ use Rattle.ctt_crew.proofs.AttendLemmas.{begins, call_answered, one_more, passed
 use Rattle.ctt_crew.proofs.attending.attend.Goals as goal
 use Rattle.ctt_crew.proofs.attending.attend.Goals.{in-Some-call_in+else-is_err, in_default-call_in+in-Ok-answer_own_line, then-is_some-via-then-is_some, then-is_some-via-else-is_some+then-has_words}
 
--- a call that is asked for fits where the event does
+-- the call of a line fits if its event does
 call_fits : (i : Problem) (n : ℕ) (read : Option Event) → IfSome read (EventFits i n) → IfSome (call_in read) (CallFits i)
 call_fits i n None h = tt
 call_fits i n (Some (Open p)) h = tt

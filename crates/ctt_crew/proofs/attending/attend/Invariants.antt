@@ -3,6 +3,6 @@ use Rattle.ctt_script.specs.ScriptText.{lines_of}
 use Rattle.ctt_crew.specs.Attended.{IsAttending}
 use Rattle.ctt_crew.proofs.attending.attend.Given as goal
 
--- the lines before those that are left were answered
+-- all lines but those that are left have been answered
 abbrev pub invariant-loop-line : goal.invariant-loop-line
 invariant-loop-line g l = IsAttending g.J.Naming.problem g.J.Naming.opening l.number (lines_of l.attendance.script.now) l.line-iterator l.initial.seat l.seat (string_bytes l.text)

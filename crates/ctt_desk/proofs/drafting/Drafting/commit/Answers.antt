@@ -7,7 +7,7 @@ use Rattle.ctt_desk.specs.Planners.{PlannerValue, DraftingValue, seen_up_to}
 use Rattle.ctt_desk.proofs.OwnLemmas.{accepted, foreign, own_seen}
 use Rattle.ctt_desk.proofs.drafting.Drafting.commit.Goals as goal
 
--- the planner by what his methods say of him, with this front
+-- the planner, rebuilt from what his methods return and from this front
 abbrev planner_of : ℕ → ℕ → List JournalEntry → PlannerValue
 planner_of n k f = record { number = n; committed = k; front = f }
 
@@ -23,7 +23,7 @@ had n k p f number committed front least = subst (λ (x : PlannerValue). x.commi
 abbrev draft_of : PlannerValue → List JournalEntry → DraftValue → DraftingValue
 draft_of p since d = record { planner = p; since = since; base = d.base; asked = d.asked }
 
--- the draft by what is said of it
+-- the draft, rebuilt from its parts
 same_draft : (n k : ℕ) (f : List JournalEntry) (p : PlannerValue) (since : List JournalEntry) (d : DraftValue) → n ≡ p.number → k ≡ p.committed → f ≡ p.front
     → draft_of (planner_of n k f) since d ≡ draft_of p since d
 same_draft n k f p since d number committed front = ap (λ x. draft_of x since d) (same_planner n k p f number committed front)

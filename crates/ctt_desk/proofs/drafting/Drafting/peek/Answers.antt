@@ -11,7 +11,7 @@ use Rattle.ctt_edits.specs.declared.reply.Reply.{Reply}
 use Rattle.ctt_desk.specs.Planners.{present_of}
 use Rattle.ctt_desk.proofs.drafting.Drafting.peek.Goals as goal
 
--- what is shown fits, if it is shown
+-- the reply to a look fits, if there is one
 told_fits : {E : Type 0} (i : Problem) (t : List Placed) (look : Look) (r : Result Reply E) → IfOk r (λ told. told ≡ shown i t look) → IsReply i (shown i t look) → IfOk r (IsReply i)
 told_fits i t look (Ok told) is fits = subst (IsReply i) (sym is) fits
 told_fits i t look (Err e) is fits = tt
