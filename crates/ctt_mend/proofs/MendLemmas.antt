@@ -1,4 +1,4 @@
--- Mended solutions: what is left of them, and what is set aside.
+-- Mended solutions: what remains of them, and what is set aside.
 use Rattle.std.proofs.Common.{◌≡◌, ◌∙◌, ℕ, ◌+◌, true, List, [], ◌∷◌, ◌++◌, drop, Option, Some, None, Result, Ok, Err, append-nil, append_assoc, refl, sym, ap, subst}
 use Rattle.std.specs.List.{AllByRecursion as Each}
 use Rattle.ctt_text.specs.Problem.{Problem}
@@ -16,14 +16,15 @@ use Rattle.ctt_edits.proofs.ReplyLemmas.{MayFit}
 use Rattle.ctt_mend.specs.Laws.{MendedOpens, NoneIsSetAside}
 use Rattle.ctt_mend.specs.Mended.{Aside, after_try, aside_line, aside_text, fault_on, mended, mended_on, or_with, or_without, set_aside, set_aside_on}
 
--- what stands against a lecture names a course of the instance, if it names one
+-- the fault of a lecture names a course of the instance, if it names one
 pub refused_fits : (i : Problem) (o : Option EditFault) (cells : List Cell) (f : EditFault) → MayFit i o → Err f ≡ checked_by o cells → FaultFits i f
 refused_fits i None cells f may e = cc
 refused_fits i (Some found) cells f may e = let same : found ≡ f = cc in subst (FaultFits i) same may.fits
 
--- ---- a list that is gone through
+-- ---- a loop over the list
 
--- of the lectures from this place on, what is left and what is set aside joins what is so far
+-- what remains and what is set aside so far, followed by the same of the lectures from this index
+-- on, is that of the whole list
 pub record Mending (i j : Problem) (ls t left : List Placed) (aside : List ℕ) (at : ℕ) : Type 0 where
   pub same : j ≡ i
   pub left_is : left ++ mended_on i t (drop at ls) ≡ mended i ls
@@ -43,7 +44,7 @@ aside_more i o l said others = append_assoc said (aside_text i (or_with o l []))
     one None = refl
     one (Some f) = ap (λ (line : List ℕ). line ++ aside_text i others) (append-nil (aside_line i (l, f)))
 
--- one lecture more
+-- one more lecture
 pub mending_more : (i j k : Problem) (ls t u left more : List Placed) (said told : List ℕ) (at : ℕ) (l : Placed) (o : Option EditFault) → Mending i j ls t left said at
     → drop at ls ≡ l ∷ drop (at + 1) ls → o ≡ fault_on j t l → k ≡ j → u ≡ after_try o t l → more ≡ left ++ or_without o l [] → told ≡ said ++ aside_text i (or_with o l [])
     → Mending i k ls u more told (at + 1)
@@ -62,7 +63,7 @@ mending_more i j k ls t u left more said told at l o was rest fault same list le
           ∙ ap (λ (others : List Aside). said ++ aside_text i others) (sym puts) ∙ was.aside_is;
     }
 
--- ---- what is left is a part of the list
+-- ---- what remains is a part of the list
 
 module _ (i : Problem) where
   each_left : (P : Placed → Type 0) (t ls : List Placed) → Each P ls → Each P (mended_on i t ls)
@@ -87,7 +88,7 @@ module _ (i : Problem) where
   pub mended_timetable : (ls : List Placed) → IsTimetable i ls → IsTimetable i (mended i ls)
   mended_timetable ls is = record { ascending = ascending_left [] ls is.ascending; fits = each_left (Fits i) [] ls is.fits }
 
-  -- ---- what is left opens a desk
+  -- ---- a desk opens with what remains
 
   -- the lectures of t are before each of these
   abbrev AllBefore : List Placed → List Placed → Type 0
@@ -117,7 +118,7 @@ module _ (i : Problem) where
   opens t n (l ∷ ls) up all = one_opens t n l ls (fault_on i t l) refl (with_last t l all.0) (opens t n ls up.1 all.1)
       (opens (t ++ l ∷ []) (n + 1) ls up.1 (one_further t l ls up.0 all.1))
 
-  -- ---- of what opens a desk all is left
+  -- ---- all remains of what opens a desk
 
   one_kept : (u : List Placed) (n : ℕ) (l : Placed) (ls : List Placed) (o : Option EditFault) (others : Result (List Placed) (ℕ × EditFault)) (A : Option EditFault → List Aside) (M : Option EditFault → List Placed)
       → (others ≡ Ok u → (A None ≡ []) × (M None ≡ ls)) → or_rest o n others ≡ Ok u → (or_with o l (A o) ≡ []) × (or_without o l (M o) ≡ l ∷ ls)

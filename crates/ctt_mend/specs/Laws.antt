@@ -1,4 +1,4 @@
--- What is left of a solution opens a desk, and of one that opens a desk all is left.
+-- A desk opens with what remains of a solution, and all remains of a solution that opens a desk.
 use Rattle.std.specs.Prelude.{◌≡◌, List, [], Ok}
 use Rattle.ctt_text.specs.Problem.{Problem}
 use Rattle.ctt_text.specs.Timetable.{IsTimetable}
@@ -6,10 +6,10 @@ use Rattle.ctt_text.specs.declared.placed.Placed.{Placed}
 use Rattle.ctt_edits.specs.Openings.{opening}
 use Rattle.ctt_mend.specs.Mended.{mended, set_aside}
 
--- what is left of a timetable opens a desk, which begins with it
+-- a desk opens with the lectures that remain of a timetable, and begins with these
 abbrev pub MendedOpens : Type 0
 MendedOpens = (i : Problem) (ls : List Placed) → IsTimetable i ls → opening i (mended i ls) ≡ Ok (mended i ls)
 
--- of lectures that open a desk none is set aside, and all are left, in their order
+-- of lectures that open a desk none is set aside, and all remain, in their order
 abbrev pub NoneIsSetAside : Type 0
 NoneIsSetAside = (i : Problem) (ls t : List Placed) → opening i ls ≡ Ok t → (set_aside i ls ≡ []) × (mended i ls ≡ ls)

@@ -1,13 +1,13 @@
-//! Laws of mended solutions. None of these functions computes anything.
+//! Laws of mended solutions, each the contract of a function that computes nothing.
 
 ghost use Rattle.ctt_mend.specs.Laws.{MendedOpens, NoneIsSetAside};
 
-/// What is left of a timetable opens a desk, which begins with it.
+/// States that a desk opens with the lectures that remain of a timetable, and begins with these.
 pub fn mended_opens()
     ensures { MendedOpens }
 {}
 
-/// Of lectures that open a desk none is set aside, and all are left, in their order.
+/// States that of lectures that open a desk none is set aside, and all remain, in their order.
 pub fn none_is_set_aside()
     ensures { NoneIsSetAside }
 {}

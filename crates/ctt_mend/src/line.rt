@@ -1,4 +1,4 @@
-//! The line of a lecture that is set aside.
+//! Writing the line of a lecture that is set aside.
 
 ghost use Rattle.std.specs.Prelude.{◌≡◌, ◌++◌, OnOk, string_bytes};
 ghost use Rattle.ctt_text.specs.Timetable.{Fits};
@@ -12,7 +12,7 @@ use ctt_text::{Instance, Placed};
 use std::alloc::AllocError;
 use std::fmt::Write;
 
-/// Adds the line of a lecture that is set aside, with what stands against it.
+/// Adds the line of a lecture that is set aside, with the reason.
 pub fn write_aside(
     text: &mut String,
     instance: &Instance,

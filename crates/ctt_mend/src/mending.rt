@@ -1,4 +1,4 @@
-//! Solutions that are mended.
+//! Mending a solution: placing its lectures, and setting aside those that cannot be placed.
 
 ghost use Rattle.std.specs.Prelude.{◌≡◌, ◌++◌, [], OnOk, IfOk, IfSome, string_bytes};
 ghost use Rattle.std.specs.List.{AllByRecursion as Each};
@@ -15,16 +15,16 @@ use ctt_edits::{Edit, EditFault, check};
 use ctt_text::{Instance, NoMemory, Placed, write_solution};
 use std::alloc::Global;
 
-/// A solution that was mended.
+/// A mended solution.
 #[derive(Drop)]
 pub struct Mended {
-    /// The text of the solution: a line for each lecture that is left.
+    /// The text of the solution: one line for each lecture that remains.
     pub solution: Vec<u8>,
-    /// A line for each lecture that is set aside, with what stands against it.
+    /// One line for each lecture that is set aside, with the reason.
     pub aside: String,
 }
 
-/// Places a lecture, or answers what stands against it.
+/// Places a lecture, or returns why it cannot be placed.
 fn place<'i, S: Sheet<'i>>(sheet: &mut S, lecture: &Placed) -> Option<EditFault>
     requires { Fits (S.problem sheet.old) lecture.now }
     ensures fault { result ≡ fault_on (S.problem sheet.old) (S.list sheet.old) lecture.now }
@@ -44,7 +44,7 @@ fn place<'i, S: Sheet<'i>>(sheet: &mut S, lecture: &Placed) -> Option<EditFault>
     }
 }
 
-/// Adds a lecture to those that are left, or its line to those that are set aside.
+/// Adds a lecture to those that remain, or its line to those of the lectures set aside.
 fn note(
     left: &mut Vec<Placed>,
     aside: &mut String,
@@ -66,8 +66,8 @@ fn note(
     Ok(())
 }
 
-/// The lectures that can be placed on this kind of sheet, one after another, and the lines of those
-/// that cannot.
+/// Places the lectures one after another on an empty sheet. Returns those that can be placed, and
+/// the lines of those that cannot.
 fn sift<'i, S: Sheet<'i>>(
     alloc: Global,
     instance: &'i Instance,
@@ -88,8 +88,8 @@ fn sift<'i, S: Sheet<'i>>(
     Ok((left, aside))
 }
 
-/// The texts of a solution of which each lecture is left that can be placed on those left before
-/// it, in the order of the list, and each that cannot is set aside.
+/// Mends a solution: in the order of the list, a lecture remains if it can be placed beside the
+/// earlier ones that remain, and is set aside otherwise.
 pub fn mend<'i, S: Sheet<'i>>(
     alloc: Global,
     instance: &'i Instance,

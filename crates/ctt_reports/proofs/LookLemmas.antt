@@ -1,4 +1,4 @@
--- Why a look is refused, and what is printed of one.
+-- Why a command is refused, and what it prints.
 use Rattle.std.proofs.Common.{◌≡◌, inl, inr, subst, sym, Option, Some, None}
 use Rattle.std.specs.Global.{Global}
 use Rattle.std.specs.declared.string.String.{String}
@@ -11,7 +11,7 @@ use Rattle.ctt_words.specs.declared.job.Whose.{Whose}
 use Rattle.ctt_words.specs.declared.job.Whose.TheVariants.{Course, Curriculum, Room, Teacher}
 use Rattle.ctt_reports.specs.Refusals.{IsOfSubject, IsOfWeek, no_name}
 
--- what a look is refused for is no fault of the output
+-- a refusal of a command is not a fault of the output
 name_plain : (whose : Whose) → IsPlain (no_name whose)
 name_plain (Curriculum name) = tt
 name_plain (Teacher name) = tt
@@ -26,6 +26,6 @@ subject_plain whose solution held problem fault (inr (selection, named, is)) = s
 pub look_plain : (held : Held) (instance : String Global) (barred : Option (String Global)) (whose : Option Whose) (solution : String Global) (fault : Fault) → IsOfWeek held instance barred whose solution fault → IsPlain fault
 look_plain held instance barred whose solution fault is = behind_plain (IsOfSubject whose solution) (subject_plain whose solution) held instance barred fault is
 
--- memory may be wanted at any time
+-- memory may run out at any time
 pub of_memory : (held : Held) (instance : String Global) (barred : Option (String Global)) (whose : Option Whose) (solution : String Global) (fault : Fault) → fault ≡ NoMemory → IsOfWeek held instance barred whose solution fault
 of_memory held instance barred whose solution fault is = inl (inl (inl (memory_of_file held instance fault is)))

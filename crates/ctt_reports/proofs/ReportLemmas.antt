@@ -12,7 +12,7 @@ use Rattle.ctt_findings.specs.ReportText.{IsExplainedJson, IsExplainedText, IsTe
 use Rattle.ctt_findings.specs.declared.finding.Finding.{Finding}
 use Rattle.ctt_reports.specs.Checks.{found_texts}
 
--- the texts of findings are items, or lines
+-- the texts of findings are JSON items, or lines
 items_found : (i : Problem) (later : Bool) (fs : List Finding) → item_texts i later fs ≡ found_texts true i later fs
 items_found i later [] = refl
 items_found i later (f ∷ fs) = ap (λ t. item_text i later f ++ t) (items_found i true fs)

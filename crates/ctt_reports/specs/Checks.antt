@@ -1,4 +1,4 @@
--- What the command `check` prints, and how it ends.
+-- What the command `check` prints, and its outcome.
 use Rattle.std.specs.Prelude.{◌≡◌, ℕ, Bool, true, false, List, [], ◌∷◌, ◌++◌, Option, None}
 use Rattle.std.specs.Global.{Global}
 use Rattle.std.specs.Io.KnownBytes.{Appends}
@@ -16,17 +16,17 @@ use Rattle.ctt_files.specs.declared.outcome.Outcome.{Outcome}
 use Rattle.ctt_files.specs.declared.outcome.Outcome.TheVariants.{Differs, Done, Incomplete, Unlawful}
 use Rattle.ctt_reports.specs.Subjects.{Shows}
 
--- the report, as JSON where that is asked, and else as text
+-- the report, as JSON if that is asked for, or else as text
 abbrev pub IsReport : Bool → Problem → List Placed → List ℕ → Type 0
 IsReport true = IsJsonReport
 IsReport false = IsTextReport
 
--- the same with all findings
+-- the same, with all findings
 abbrev pub IsExplained : Bool → Problem → List Placed → List ℕ → Type 0
 IsExplained true = IsExplainedJson
 IsExplained false = IsExplainedText
 
--- the report, with all findings where that is asked
+-- the report, with all findings if they are asked for
 abbrev pub IsChecked : Bool → Bool → Problem → List Placed → List ℕ → Type 0
 IsChecked json true = IsExplained json
 IsChecked json false = IsReport json
@@ -36,12 +36,12 @@ abbrev pub found_text : Bool → Problem → Bool → Finding → List ℕ
 found_text true i later f = item_text i later f
 found_text false i later f = line i f
 
--- the texts of findings, one behind another
+-- the texts of findings, one after another
 abbrev pub found_texts : Bool → Problem → Bool → List Finding → List ℕ
 found_texts json i later [] = []
 found_texts json i later (f ∷ fs) = found_text json i later f ++ found_texts json i true fs
 
--- how a check ends: by what the timetable is, where that is asked
+-- the outcome of a check: whether the timetable is lawful and complete, if that is asked for
 abbrev pub IsJudged : Bool → Problem → List Placed → Outcome → Type 0
 IsJudged false i t outcome = outcome ≡ Done
 IsJudged true i t Done = Complete i t
@@ -49,12 +49,12 @@ IsJudged true i t Incomplete = Lawful i t × ¬ Complete i t
 IsJudged true i t Unlawful = ¬ Lawful i t
 IsJudged true i t Differs = ⊥
 
--- of the timetable in a file, as a solution of the instance in another, this report is printed, and the check ends so
+-- the files contain an instance and a solution of it, whose report is printed, with this outcome
 abbrev pub PrintsReport : Bool → Bool → Bool → String Global → Option (String Global) → String Global → Outcome → Held → Option (List ℕ) → Option (List ℕ) → Type 0
 PrintsReport json explain strict instance barred solution outcome held old new =
     Shows (λ problem selection timetable bytes. IsChecked json explain problem timetable bytes × IsJudged strict problem timetable outcome) instance barred None solution held (Appends old new)
 
--- a front of the report is printed
+-- a prefix of the report is printed
 abbrev pub PrintsFront : Bool → Bool → String Global → Option (String Global) → String Global → Held → Option (List ℕ) → Option (List ℕ) → Type 0
 PrintsFront json explain instance barred solution held old new =
     Shows (λ problem selection. IsChecked json explain problem) instance barred None solution held (AppendsFront old new)

@@ -1,4 +1,4 @@
--- Why the commands refuse to look.
+-- Why the commands `check`, `week` and `page` are refused.
 use Rattle.std.specs.Prelude.{◌≡◌, ◌⊎◌, Bool, true, false, Option, Some, None}
 use Rattle.std.specs.Global.{Global}
 use Rattle.std.specs.declared.string.String.{String}
@@ -13,35 +13,38 @@ use Rattle.ctt_words.specs.declared.job.Whose.{Whose}
 use Rattle.ctt_words.specs.declared.job.Whose.TheVariants.{Course, Curriculum, Room, Teacher}
 use Rattle.ctt_reports.specs.Subjects.{IsSelection, numbered}
 
--- that there is none of this name
+-- the fault for a name that the instance does not have
 abbrev pub no_name : Whose → Fault
 no_name (Curriculum name) = NoCurriculum name
 no_name (Teacher name) = NoTeacher name
 no_name (Course name) = NoCourse name
 no_name (Room name) = NoRoom name
 
--- the instance does not have what is named
+-- the fault is that the instance does not have what is named
 abbrev pub IsNoName : Problem → Option Whose → Fault → Type 0
 IsNoName i None fault = ⊥
 IsNoName i (Some whose) fault = (numbered i whose ≡ None) × (fault ≡ no_name whose)
 
--- once the instance is read the fault is that the instance does not have what is named; only if it has it,
--- or nothing is named, the fault lies in the solution
+-- a fault after the instance is read: the instance does not have what is named; or it does, or
+-- nothing is named, and the fault lies in the solution
 abbrev pub IsOfSubject : Option Whose → String Global → Held → Problem → Fault → Type 0
 IsOfSubject whose solution held problem fault = IsNoName problem whose fault
     ⊎ ((selection : Option Selection) × IsSelection problem whose selection × IsOfSolution solution held problem fault)
 
--- why each command is refused
+-- why `week` is refused
 abbrev pub IsOfWeek : Held → String Global → Option (String Global) → Option Whose → String Global → Fault → Type 0
 IsOfWeek held instance barred whose solution = IsOfInstanceOr (IsOfSubject whose solution) held instance barred
 
+-- why `check` is refused
 abbrev pub IsOfCheck : Held → String Global → Option (String Global) → String Global → Fault → Type 0
 IsOfCheck held instance barred solution = IsOfWeek held instance barred None solution
 
+-- why `page` is refused
 abbrev pub IsOfPage : Held → String Global → Option (String Global) → String Global → Fault → Type 0
 IsOfPage held instance barred solution = IsOfWeek held instance barred None solution
 
--- a part of the report may have been printed before: where findings are told, also where memory is wanted
+-- the faults after which a part of the report may have been printed: a failed write and, in a
+-- report with findings, also out of memory
 abbrev pub MayHaveTold : Bool → Fault → Type 0
 MayHaveTold true fault = MayHaveWritten fault
 MayHaveTold false fault = fault ≡ CannotWrite

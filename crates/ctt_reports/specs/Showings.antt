@@ -13,17 +13,17 @@ use Rattle.ctt_reports.specs.Checks.{PrintsReport}
 use Rattle.ctt_reports.specs.Refusals.{IsOfWeek}
 use Rattle.ctt_reports.specs.Views.{PrintsPage, PrintsWeek}
 
--- the solution is shown so, and the command ends so
+-- the solution is shown this way, and the command has this outcome
 abbrev pub ShowsSolution : Showing → String Global → Option (String Global) → String Global → Outcome → Held → Option (List ℕ) → Option (List ℕ) → Type 0
 ShowsSolution (Report json explain strict) instance barred solution outcome held old new = PrintsReport json explain strict instance barred solution outcome held old new
 ShowsSolution (Week whose) instance barred solution outcome held old new = (outcome ≡ Done) × PrintsWeek instance barred whose solution held old new
 ShowsSolution Page instance barred solution outcome held old new = (outcome ≡ Done) × PrintsPage instance barred solution held old new
 
--- what is named whose week is shown, if something is
+-- whose week is shown, if one is named
 abbrev pub whose_of : Showing → Option Whose
 whose_of (Week whose) = whose
 whose_of showing = None
 
--- why it is not shown
+-- why the solution is not shown
 abbrev pub IsOfShowing : Showing → Held → String Global → Option (String Global) → String Global → Fault → Type 0
 IsOfShowing showing held instance barred solution = IsOfWeek held instance barred (whose_of showing) solution

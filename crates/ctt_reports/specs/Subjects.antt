@@ -1,4 +1,4 @@
--- What the commands look at: an instance and a solution in files, and of the instance what is named.
+-- What the commands show: an instance and a solution in files, and what is named in the instance.
 use Rattle.std.specs.Prelude.{◌≡◌, ℕ, List, Option, Some, None, option_map, string_bytes}
 use Rattle.std.specs.Global.{Global}
 use Rattle.std.specs.declared.string.String.{String}
@@ -10,19 +10,20 @@ use Rattle.ctt_week.specs.declared.selection.Selection.TheVariants as number
 use Rattle.ctt_words.specs.declared.job.Whose.{Whose}
 use Rattle.ctt_words.specs.declared.job.Whose.TheVariants as name
 
--- what is named, by its number in the instance, if it is there
+-- the number of what is named; none if the instance does not have it
 abbrev pub numbered : Problem → Whose → Option Selection
 numbered i (name.Curriculum text) = option_map number.Curriculum (number_in i.curriculum_names (string_bytes text))
 numbered i (name.Teacher text) = option_map number.Teacher (number_in i.teacher_names (string_bytes text))
 numbered i (name.Course text) = option_map number.Course (number_in i.course_names (string_bytes text))
 numbered i (name.Room text) = option_map number.Room (number_in i.room_names (string_bytes text))
 
--- the selection is what is named, if something is
+-- the selection is what is named, or none if nothing is named
 abbrev pub IsSelection : Problem → Option Whose → Option Selection → Type 0
 IsSelection i None selection = selection ≡ None
 IsSelection i (Some whose) selection = (found : Selection) × (numbered i whose ≡ Some found) × (selection ≡ Some found)
 
--- of an instance and a solution in files, and of what is named in the instance, such bytes are taken
+-- the files contain an instance, which has what is named, and a solution of it; a text for these
+-- fulfils IsText, and its bytes fulfil Taken
 pub record Shows (IsText : Problem → Option Selection → List Placed → List ℕ → Type 0) (instance : String Global) (barred : Option (String Global)) (whose : Option Whose) (solution : String Global) (held : Held) (Taken : List ℕ → Type 0) : Type 0 where
   pub problem : Problem
   pub is_instance : IsInstanceIn held instance barred problem

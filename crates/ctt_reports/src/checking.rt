@@ -19,7 +19,7 @@ use ctt_findings::{report_around, report_json, report_text};
 use ctt_text::{Instance, NoMemory, Placed, let_go};
 use std::alloc::Global;
 
-/// The report on a timetable, as text or as JSON.
+/// Returns the report on a timetable, as text or as JSON.
 fn report(
     alloc: Global,
     instance: &Instance,
@@ -36,7 +36,7 @@ fn report(
     }
 }
 
-/// What stands before the findings in the report that has them, and behind them.
+/// Returns the parts of the report before and after its findings.
 fn around(
     alloc: Global,
     instance: &Instance,
@@ -80,7 +80,7 @@ fn print_report<W: Sink>(
     print(out, &report)
 }
 
-/// Prints the report on a timetable with all findings, which are written out as they are told.
+/// Prints the report on a timetable with all findings, which are written as they are found.
 fn print_explained<W: Sink>(
     alloc: Global,
     out: &mut W,
@@ -106,7 +106,7 @@ fn print_explained<W: Sink>(
     print(out, &rest)
 }
 
-/// Prints the report on a timetable, with all findings where `explain` asks for them.
+/// Prints the report on a timetable, with all findings if `explain` is set.
 fn print_checked<W: Sink>(
     alloc: Global,
     out: &mut W,
@@ -134,8 +134,9 @@ fn print_checked<W: Sink>(
     }
 }
 
-/// Prints the report on a solution of an instance, each given by the name of its file: as text or as JSON, with
-/// all findings where `explain` asks for them. It ends by what the solution is, where `strict` asks for that.
+/// Prints the report on a solution of an instance, as text or as JSON, with all findings if
+/// `explain` is set. If `strict` is set, the outcome says whether the solution is lawful and
+/// complete. Files are given by name.
 pub(crate) fn check<F: Files, W: Sink>(
     alloc: Global,
     files: &mut F,

@@ -1,4 +1,4 @@
-//! How a check ends.
+//! The outcome of a check.
 
 ghost use Rattle.ctt_text.specs.Timetable.{IsTimetable};
 ghost use Rattle.ctt_reports.specs.Checks.{IsJudged};
@@ -7,7 +7,7 @@ use ctt_files::Outcome;
 use ctt_rules::{is_complete, is_lawful};
 use ctt_text::{Instance, Placed};
 
-/// How a check of a timetable ends: by what it is, where `strict` asks for that.
+/// Returns the outcome of a check: done, unless `strict` is set and the timetable is not complete.
 pub(crate) fn judge(instance: &Instance, timetable: &[Placed], strict: bool) -> Outcome
     requires { IsTimetable instance.now timetable.now }
     ensures { IsJudged strict instance.now timetable.now result }

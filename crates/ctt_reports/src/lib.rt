@@ -1,4 +1,4 @@
-//! The commands that only look: `check`, `week` and `page`.
+//! The commands that show a solution without changing anything: `check`, `week` and `page`.
 #![tactic(auto)]
 
 mod checking;

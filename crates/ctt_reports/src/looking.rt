@@ -14,8 +14,8 @@ use ctt_week::week_text;
 use ctt_words::Whose;
 use std::alloc::Global;
 
-/// Prints the week of a solution of an instance, each given by the name of its file: that of what is named, or that of
-/// all rooms.
+/// Prints the week of what is named, or of all rooms, in a solution of an instance. Files are given
+/// by name.
 pub(crate) fn week<F: Files, W: Sink>(
     alloc: Global,
     files: &mut F,
@@ -45,7 +45,7 @@ pub(crate) fn week<F: Files, W: Sink>(
     print(out, text?.as_bytes())
 }
 
-/// Prints a page for a browser on a solution of an instance, each given by the name of its file.
+/// Prints a page for a browser on a solution of an instance. Files are given by name.
 pub(crate) fn page<F: Files, W: Sink>(
     alloc: Global,
     files: &mut F,

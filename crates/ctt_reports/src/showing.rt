@@ -1,4 +1,4 @@
-//! The commands by how they show a solution.
+//! Choosing the command by how a solution is shown.
 
 ghost use Rattle.std.specs.Prelude.{◌≡◌, ◌⊎◌, true, OnOk, IfOk, IfErr};
 ghost use Rattle.ctt_files.specs.Faults.{IfUnwritten, MayHaveWritten};
@@ -11,7 +11,7 @@ use ctt_files::{Fault, Files, Outcome};
 use ctt_words::Showing;
 use std::alloc::Global;
 
-/// Shows a solution of an instance, each given by the name of its file, as it is asked for.
+/// Shows a solution of an instance as a report, as its week or as a page. Files are given by name.
 pub fn show<F: Files, W: Sink>(
     alloc: Global,
     files: &mut F,

@@ -1,4 +1,4 @@
-//! What is looked at: an instance, and a solution of it.
+//! Reading what a command shows: an instance, and a solution of it.
 
 ghost use Rattle.std.specs.Prelude.{◌≡◌, IfOk, IfErr, IfSome, string_bytes};
 ghost use Rattle.ctt_text.specs.Timetable.{IsTimetable};
@@ -13,7 +13,7 @@ use ctt_week::Selection;
 use ctt_words::Whose;
 use std::alloc::Global;
 
-/// An instance, what of it is named, and a solution of it.
+/// An instance, what is named in it, and a solution of it.
 #[derive(Drop)]
 pub(crate) struct Subject {
     pub(crate) instance: Instance,
@@ -21,7 +21,7 @@ pub(crate) struct Subject {
     pub(crate) timetable: Vec<Placed>,
 }
 
-/// The number of what is named, if something is.
+/// Finds the number of what is named, if something is.
 fn find(instance: &Instance, whose: Option<Whose>) -> Result<Option<Selection>, Fault>
     ensures found { IfOk result (IsSelection instance.now whose) }
     ensures fits { IfOk result (λ selection. IfSome selection (SelectionFits instance.now)) }
@@ -48,7 +48,7 @@ fn find(instance: &Instance, whose: Option<Whose>) -> Result<Option<Selection>, 
     }
 }
 
-/// What is named, if something is, and the solution that a file holds.
+/// Finds what is named, if something is, and then reads the solution from its file.
 fn fetch_behind<F: Files>(
     alloc: Global,
     files: &mut F,
@@ -71,8 +71,8 @@ fn fetch_behind<F: Files>(
     Ok((selection, timetable))
 }
 
-/// What is looked at, given by the names of its files. What is named is looked for behind the instance, and before the
-/// solution is read.
+/// Reads the instance, finds what is named in it, and reads the solution, in this order. Files are
+/// given by name.
 pub(crate) fn fetch_subject<F: Files>(
     alloc: Global,
     files: &mut F,

@@ -38,7 +38,7 @@ module _ (v w : DeskValue) (event : Event) (answer : Answer) (same : SameDesk v 
       let stands : Stands v at.0 = at.1 in
       subst (AnswerFits v.problem) (sym (answer_is at.0 stands)) (answer_fits v.problem is v.opening lawful (length v.drafts) at.0 event stands.fit stands.right (subst (λ k. EventFits v.problem k event) count fits))
 
-  -- the desk has gone on, and the text by a line
+  -- the desk has answered the event, and the text has grown by a line
   pub event_answered : (old new : List ℕ) → new ≡ old ++ line (answer_words v.problem answer) → Answered v w old new (Some event ∷ [])
   event_answered old new e = record {
     same = same;
@@ -89,11 +89,11 @@ answered_on v w u a b c xs ys h k = record {
     says : (next : List Turn) → answers_after w.problem w.opening next ys ≡ answers_after v.problem v.opening next ys
     says next = ap (λ i. answers_after i w.opening next ys) h.same.problem ∙ ap (λ t. answers_after v.problem t next ys) h.same.opening
 
--- a desk that stood at a run and has answered items stands at a run
+-- a desk that was at a run and has answered items is at a run
 pub at_run : (v w : DeskValue) (old new : List ℕ) (items : List (Option Event)) → IsAtRun v → Answered v w old new items → IsAtRun w
 at_run v w old new items at h = (run_after v.problem v.opening at.0 items, h.goes_on at.0 at.1)
 
--- the same behind another text
+-- the same after another text
 pub answered_behind : (v w : DeskValue) (front old new : List ℕ) (items : List (Option Event)) → Answered v w old new items → Answered v w (front ++ old) (front ++ new) items
 answered_behind v w front old new items h = record {
   same = h.same;
@@ -133,7 +133,7 @@ module _ (v : DeskValue) (all : List (List ℕ)) (before : Option (List ℕ)) wh
       taken = Appends-trans before taken later h.written k.prefix h.taken k.taken;
     }
 
-    -- where a write fails, or no more is done, a front was written
+    -- if a write fails, or nothing more is done, a prefix was written
     pub front_written : AppendsFront taken later kept → WroteFront v (items_of v.problem all) before later
     front_written k past stands =
         let some : List ℕ = take k.0 kept in
@@ -157,6 +157,6 @@ module _ (v : DeskValue) (all : List (List ℕ)) (before : Option (List ℕ)) wh
     answered = subst (λ items. Answered v w [] (h.written ++ kept) items) (sym (h.lines ∙ ap (λ ls. h.done ++ items_of v.problem ls) none ∙ append-nil h.done)) h.answered;
   }
 
-  -- the desk stands at a run, and is of the instance
+  -- the desk is at a run, and belongs to the instance
   pub still_at_run : (w : DeskValue) (left : List (List ℕ)) (taken : Option (List ℕ)) (kept : List ℕ) → IsAtRun v → Answering v w all left before taken kept → IsAtRun w
   still_at_run w left taken kept at h = at_run v w [] (h.written ++ kept) h.done at h.answered

@@ -1,4 +1,4 @@
--- What a plain desk answers, and the journal of a right run, can be written.
+-- The answers of a plain desk, and the journal of a correct run, can be written.
 use Rattle.std.proofs.Common.{subst, ◌≡◌, ℕ, zero, suc, ◌+◌, ◌<◌, ◌≤◌, Bool, true, false, cond, List, [], ◌∷◌, map, take, length, Option, Some, None, arith, inl, inr}
 use Rattle.std.specs.Prelude.{IfSome}
 use Rattle.std.specs.List.{find, AllByRecursion as Each}
@@ -29,7 +29,7 @@ use Rattle.ctt_core.specs.Entries.{EntryFits}
 use Rattle.ctt_script.specs.Entries.{IsEntry, RowFits, AnswerFits}
 use Rattle.ctt_edits.proofs.ReplyLemmas.{replies_fit}
 
--- what a call is told on a lawful timetable can be written
+-- the reply to a call on a lawful timetable can be written
 reply_fits : (i : Problem) → IsProblem i → (t : List Placed) → Lawful i t → (call : Call) → CallFits i call → IsReply i (reply i t call)
 reply_fits i is t lawful call f = replies_fit i t call is lawful f
 
@@ -56,7 +56,7 @@ module _ (i : Problem) where
       (Each-of_map (RowFits i) CourseRow (below p (course_count i)) (all_below p (course_count i)))
       (Each-of_map (RowFits i) SlotRow (below q (slot_count i)) (all_below q (slot_count i)))
 
-  -- a row for which a draft is stale is one of the instance
+  -- a row that makes a draft stale is one of the instance
   pub stale_fits : (base now : List Placed) (calls : List Call) → IfSome (stale i base now calls) (RowFits i)
   stale_fits base now calls = found (RowFits i) (differs base now) (all_reads i calls) (rows_fit (all_read_course i calls) (all_read_slot calls))
 
@@ -132,7 +132,7 @@ entries_are : (i : Problem) (n : ℕ) (h : List JournalEntry) → Each (EntryFit
 entries_are i n [] fit small asked = tt
 entries_are i n (e ∷ es) fit small asked = ((fit.0, (small.0.1, Each-map (FitsShort i) (λ a. IsShortReply a.reply) (λ a f. f.1) e.asked asked.0)), entries_are i n es fit.1 small.1 asked.1)
 
--- the journal of a right run that is not too long can be written
+-- the journal of a correct run that is not too long can be written
 pub journal_is : (i : Problem) (t0 : List Placed) (n : ℕ) (past : List Turn) → IsProblem i → Lawful i t0 → RunFits i n past → Right i t0 past → n ≤ 1000 → length past ≤ 999999999 → Each (IsEntry i) (accepted_of past) × AreFew (accepted_of past)
 journal_is i t0 n past is lawful fit right planners short =
     let g : Good i t0 (accepted_of past) (commits past) (λ p. draft p past) = right_is_good i t0 n past lawful fit right in

@@ -1,4 +1,4 @@
--- What the words of a call give fits the instance.
+-- What is parsed as a call fits the instance.
 use Rattle.std.proofs.Common.{◌≡◌, ℕ, ◌<◌, List, [], length, Bool, true, false, cond, Option, Some, None, refl, ◌∙◌, ap, subst, mul_comm, arith}
 use Rattle.std.specs.Prelude.{nat_lt, slice_index_or, codes}
 use Rattle.std.specs.Option.{option_map}
@@ -30,7 +30,7 @@ use Rattle.ctt_script.specs.CallPlaces.{course, room, teacher, curriculum, slot,
 use Rattle.ctt_text.proofs.FormLaws.{Yields, yields_done, yields_bind}
 use Rattle.ctt_text.proofs.PlaceLaws.{yields_word}
 
--- a value that a test lets through
+-- a value that passes a test
 pub when : {A : Type 0} (b : Bool) (x a : A) → cond b (Some x) None ≡ Some a → (b ≡ true) × (x ≡ a)
 when true x a h = (refl, cc)
 when false x a h = cc
@@ -47,12 +47,12 @@ is_below limit w n h =
     let known = when _ (value w) n h in
     subst (λ k. k < limit) known.1 (ltb-true (value w) limit (and_parts (is_number w) (nat_lt (value w) limit) known.0).1)
 
--- a place of a word
+-- a place of the grammar
 module _ {A : Type 0} (P : A → Type 0) (meaning : List ℕ → Option A) (otherwise : A) where
   pub yields_meaning : ((w : List ℕ) (a : A) → meaning w ≡ Some a → P a) → Yields P (word meaning otherwise)
   yields_meaning h = yields_word BadWord meaning otherwise P h
 
--- a word of which nothing needs to be known
+-- a word about which nothing needs to be known
 pub yields_any : {A : Type 0} (meaning : List ℕ → Option A) (otherwise : A) → Yields (λ _. Unit {0}) (word meaning otherwise)
 yields_any meaning otherwise = yields_meaning (λ _. Unit {0}) meaning otherwise (λ w a h. tt)
 
@@ -61,14 +61,14 @@ yields_label : (text : List ℕ) → Yields (λ _. Unit {0}) (label text)
 unfolding fixed
 yields_label text = yields_any (exactly text) tt
 
--- a name that is not `*` is that of no room named so
+-- if a word is not `*`, neither is the name that it matches
 not_star : (names : List (List ℕ)) (w : List ℕ) (n : ℕ) → bytes_eq w (codes "*") ≡ false → number_in names w ≡ Some n → bytes_eq (slice_index_or names n []) (codes "*") ≡ false
 not_star names w n other h =
     let known = when (is_among names w) (place_of names w) n h in
     let same : w ≡ slice_index_or names n [] = bytes_sound w _ (passes_at_first (bytes_eq w) names [] (place_below (bytes_eq w) names known.0)) ∙ ap (λ k. slice_index_or names k []) known.1 in
     subst (λ v. bytes_eq v (codes "*") ≡ false) same other
 
--- a number below a limit, or any
+-- a number below a limit, or `*`
 below_choice : (limit : ℕ) (w : List ℕ) (o : Option ℕ) → any_or (number_below limit) w ≡ Some o → FitsIfGiven limit o
 below_choice limit w o h = by (bytes_eq w (codes "*")) (number_below limit w) refl h
   where
@@ -126,7 +126,7 @@ module _ (i : Problem) (is : IsProblem i) where
   unfolding edit_form
   yields_edit = yields_bind _ (EditFits i) _ _ (yields_any _ _) (λ k t. yields_edit_after k)
 
-  -- a room, or any
+  -- a room, or `*`
   room_chosen : (w : List ℕ) (o : Option ℕ) → any_or (number_in i.room_names) w ≡ Some o → IsRoomIfGiven i o
   room_chosen w o h = by (bytes_eq w (codes "*")) (number_in i.room_names w) refl refl h
     where
@@ -139,7 +139,7 @@ module _ (i : Problem) (is : IsProblem i) where
   unfolding room_choice
   yields_room_choice = yields_meaning _ _ None room_chosen
 
-  -- a slot, or any
+  -- a slot, or `* *`
   yields_slot_after : (day : Option ℕ) → FitsIfGiven i.days day → Yields (FitsIfGiven (slot_count i)) (slot_after i day)
   unfolding slot_after
   yields_slot_after None d = yields_bind (λ _. Unit {0}) (FitsIfGiven (slot_count i)) _ _ (yields_label (codes "*")) (λ star t. yields_done JournalFault (FitsIfGiven (slot_count i)) None tt)

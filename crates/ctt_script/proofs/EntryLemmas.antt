@@ -1,4 +1,4 @@
--- What the words of a reply and of a journal give fits the instance.
+-- What is parsed as a reply or as a journal fits the instance.
 use Rattle.std.proofs.Common.{◌≡◌, ℕ, ◌≤◌, List, [], ◌∷◌, length, Bool, Option, Some, None, ℤ, pos, refl, sym, subst, ap, ◌∙◌}
 use Rattle.std.specs.Prelude.{nat_lt, nat_le, nat_eq, unsigned_abs, cond, ◌&&◌, zero, suc, true, false}
 use Rattle.std.specs.Option.{option_map}

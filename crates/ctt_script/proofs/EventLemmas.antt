@@ -1,4 +1,4 @@
--- What the words of a script's line give fits the instance.
+-- What is parsed as a line of a script fits the instance.
 use Rattle.std.proofs.Common.{◌≡◌, ℕ, ◌<◌, List, Bool, true, false, cond, Option, Some, None, Result, Ok, Err, refl, sym, subst}
 use Rattle.std.specs.Prelude.{codes, IfOk, IfSome}
 use Rattle.std.specs.Str.{bytes_eq}
@@ -71,7 +71,7 @@ module _ (i : Problem) (is : IsProblem i) where
   unfolding own_form
   yields_own n p lt = yields_bind _ (EventFits i n) _ _ (yields_any _ _) (λ s t. yields_own_after n p lt s)
 
-  -- an item is one of the instance and of so many planners
+  -- an item fits the instance and the number of planners
   item_by_fits : (n : ℕ) (form : Form JournalFault Event) → Yields (EventFits i n) form → (line : List ℕ) (o : Option Event) → o ≡ item_by form line → IfSome o (EventFits i n)
   item_by_fits n form yields line None h = tt
   item_by_fits n form yields line (Some e) h = yields (words line) e (item_fills form line e (sym h))
@@ -82,7 +82,7 @@ module _ (i : Problem) (is : IsProblem i) where
   pub own_item_fits : (n p : ℕ) → p < n → (line : List ℕ) (o : Option Event) → o ≡ own_item i p line → IfSome o (EventFits i n)
   own_item_fits n p lt line o h = item_by_fits n (own_form i p) (yields_own n p lt) line o h
 
-  -- an event of words, read with the number of the first that cannot stand, or without
+  -- an event in one planner's own script fits the instance and the number of planners
   pub own_event_fits : (n p : ℕ) → p < n → (ws : List (List ℕ)) (r : Result Event ℕ) → r ≡ own_event i p ws → IfOk r (EventFits i n)
   own_event_fits n p lt ws (Ok e) h = yields_own n p lt ws e (asked_fills (own_form i p) ws e (word_or_none e (read missing (own_form i p) ws 1) (sym h)))
   own_event_fits n p lt ws (Err k) h = tt

@@ -1,4 +1,4 @@
--- What was read of a journal, and the cause of each fault.
+-- What is parsed of a journal, and the cause of each fault.
 use Rattle.std.proofs.Common.{◌≡◌, ◌⊎◌, ℕ, List, [], Vec, Global, Option, Some, None, Result, Ok, Err, IfOk, IfErr, MatchResult, inl, inr, ⊎_elim, refl, sym, ap, subst, ◌∙◌}
 use Rattle.std.specs.List.{AllByRecursion as Each}
 use Rattle.std.specs.Str.{IsUtf8}
@@ -39,13 +39,13 @@ use Rattle.ctt_script.specs.JournalText.{JournalSpells, JournalBreaksAt, journal
 use Rattle.ctt_script.proofs.CallLemmas.{yields_call}
 use Rattle.ctt_script.proofs.EntryLemmas.{yields_journal}
 
--- a fault of a place, which names a word
+-- a fault of the grammar, which names a word
 abbrev IsOfWord : JournalFault → Type 0
 IsOfWord (NotText byte) = ⊥
 IsOfWord NoMemory = ⊥
 IsOfWord fault = Unit {0}
 
--- a form whose faults are all of places
+-- a grammar all of whose faults name words
 abbrev Names : {A : Type 0} → Form JournalFault A → Type 0
 Names form = FormFaults IsOfWord form
 
@@ -162,11 +162,11 @@ names_journal : (i : Problem) → Names (journal_form i)
 unfolding journal_form fixed count number
 names_journal i = names_bind _ _ (names_word _ _) (λ start. names_bind _ _ (names_word _ _) (λ n. names_bind _ _ (names_list (entry_form i) n (names_entry i)) (λ es. names_bind _ _ (names_word _ _) (λ end. tt))))
 
--- reading words gives no fault but those of places
+-- parsing words returns only faults that name words
 of_word : (i : Problem) (ws : List (List ℕ)) (e : JournalFault) → journal_answer i ws ≡ Err e → IsOfWord e
 of_word i ws e h = answer_faults IsOfWord missing (journal_form i) ws e (λ k. tt) (names_journal i) h
 
--- reading answers entries exactly where the words spell them
+-- parsing returns entries if and only if the words spell them
 pub reads_journals : (i : Problem) (ws : List (List ℕ)) (entries : List JournalEntry) → (journal_answer i ws ≡ Ok entries → JournalSpells i ws entries) × (JournalSpells i ws entries → journal_answer i ws ≡ Ok entries)
 reads_journals i ws entries = (
   λ h. let r = answer_fills missing (journal_form i) ws entries h in record { front = r.0; rest = r.1; all = r.2; fills = r.3 },
@@ -180,13 +180,13 @@ has_cause i text utf8 NoMemory h = tt
 has_cause i text utf8 (Missing n) h = (utf8, answer_breaks missing (journal_form i) (words text) (Missing n) h)
 has_cause i text utf8 (BadWord n) h = (utf8, answer_breaks missing (journal_form i) (words text) (BadWord n) h)
 
--- what is read as a call fits
+-- what is parsed as a call fits
 pub call_fits : (i : Problem) → IsProblem i → (left after : Left) (call : Call) → reads (call_form i) left ≡ Ok (call, after) → CallFits i call
 call_fits i is left after call h =
     let r = read_fills missing (call_form i) left.words left.next (call, after) h in
     yields_call i is r.front call r.fills
 
--- a fault that is not the one that reading meets is want of memory
+-- a fault other than that of the grammar is that memory ran out
 fault_or_memory : (e : JournalFault) (x : Result (List JournalEntry) JournalFault) → Fails wants_memory e x → (x ≡ Err e) ⊎ (e ≡ NoMemory)
 fault_or_memory (NotText n) x h = inl h
 fault_or_memory NoMemory x h = inr refl
@@ -194,7 +194,7 @@ fault_or_memory (Missing n) x h = inl h
 fault_or_memory (BadWord n) x h = inl h
 
 module _ (i : Problem) (text : List ℕ) where
-  -- what a function that reads the text returns
+  -- what a function that parses the text returns
   abbrev pub Returns : Result (Vec JournalEntry Global) JournalFault → Type 0
   Returns r = Gives wants_memory (λ list. list.items) r (journal_answer i (words text))
 
@@ -202,7 +202,7 @@ module _ (i : Problem) (text : List ℕ) where
   gives_spelled (Ok list) h = (reads_journals i (words text) list.items).0 h
   gives_spelled (Err e) h = tt
 
-  -- what was read can be written
+  -- what was parsed can be written
   pub gives_fits : IsProblem i → (r : Result (Vec JournalEntry Global) JournalFault) → Returns r → IfOk r (λ list. Each (EntryFits i) list.items)
   gives_fits is (Ok list) h =
       let s = (reads_journals i (words text) list.items).0 h in
@@ -225,7 +225,8 @@ module _ (i : Problem) (text : List ℕ) where
   gives_cause utf8 (Ok list) h = tt
   gives_cause utf8 (Err e) h = has_cause i text utf8 e h
 
-  -- a fault of a reader stands against each journal, and is the one at the word that breaks the form
+  -- words that spell a journal fail only if memory runs out; others fail with the fault of the word
+  -- that breaks the grammar, or if memory runs out
   refuses : (e : JournalFault) → Fails wants_memory e (journal_answer i (words text)) → (t : List JournalEntry) → JournalSpells i (words text) t → e ≡ NoMemory
   refuses e h t s = ⊎_elim (λ met. ok_is_err (e ≡ NoMemory) t e (sym ((reads_journals i (words text) t).1 s) ∙ met)) (λ memory. memory) (fault_or_memory e (journal_answer i (words text)) h)
 

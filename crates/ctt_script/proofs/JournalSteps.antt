@@ -1,4 +1,4 @@
--- Reading a journal step by step.
+-- Parsing a journal step by step.
 use Rattle.std.proofs.Common.{◌≡◌, ℕ, ◌+◌, List, [], ◌∷◌, ◌++◌, Bool, true, false, cond, Option, Some, None, Result, Ok, Err, pos, refl, ◌∙◌, ap}
 use Rattle.std.specs.Prelude.{◌&&◌, nat_lt}
 use Rattle.ctt_text.specs.Left.{Left}
@@ -21,7 +21,7 @@ pub read_word : {A : Type 0} (meaning : List ℕ → Option A) (otherwise : A) (
     → reading missing (word meaning otherwise) left ≡ and_then (word_at missing left) (λ w after. told_as BadWord (meaning w) left.next after)
 read_word meaning otherwise left = steps.read_known missing BadWord meaning otherwise left
 
--- a number below a limit, by what was read as a number
+-- a number below a limit, by what was parsed as a number
 pub read_number_below : (limit : ℕ) (left : Left)
     → reading missing (word (number_below limit) 0) left ≡ and_then (reading missing (number BadWord) left) (λ n after. judged (cond (nat_lt n limit) None (Some BadWord)) left.next n after)
 unfolding read number known one
@@ -51,12 +51,12 @@ read_bind form g left = steps.read_bind missing form g left
 pub read_done : {A : Type 0} (a : A) (left : Left) → reading missing (done a) left ≡ Ok (a, left)
 read_done a left = steps.read_done missing a left
 
--- one more behind those before it
+-- one more item after the earlier ones
 pub read_one_more : {A : Type 0} (form : Form JournalFault A) (so_far : List A) (left : Left) → reading missing (one_more form so_far) left ≡ and_then (reading missing form left) (λ a after. Ok (so_far ++ a ∷ [], after))
 unfolding one_more read
 read_one_more form so_far left = read_bind form (λ a. done (so_far ++ a ∷ [])) left
 
--- a step behind two others, and steps that are the same
+-- a step after two others, and steps that are the same
 nested : {A B C : Type 0} (x : Result (A × Left) JournalFault) (f : A → Left → Result (B × Left) JournalFault) (g : B → Left → Result (C × Left) JournalFault) → and_then (and_then x f) g ≡ and_then x (λ a l. and_then (f a l) g)
 nested (Ok a) f g = refl
 nested (Err e) f g = refl
@@ -65,7 +65,7 @@ same_then : {A B : Type 0} (x : Result (A × Left) JournalFault) (f g : A → Le
 same_then (Ok a) f g h = h a.0 a.1
 same_then (Err e) f g h = refl
 
--- a price and the edit that has it, behind those before it
+-- a price and its edit, after the earlier ones
 pub read_one_priced : (i : Problem) (so_far : List PricedEdit) (left : Left)
     → reading missing (one_more (priced i) so_far) left ≡ and_then (reading missing (word price_of (pos 0)) left) (λ p after. and_then (reading missing (edit_form i) after) (λ e last. Ok (so_far ++ record { edit = e; price = p } ∷ [], last)))
 unfolding priced

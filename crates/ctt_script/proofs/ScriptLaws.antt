@@ -1,4 +1,4 @@
--- Lines of a script, as their events.
+-- Lines of a script, and their events.
 use Rattle.std.proofs.Common.{◌≡◌, ℕ, ◌+◌, ◌-◌, ◌<◌, map, filter, ◌==◌, List, [], ◌∷◌, ◌++◌, length, take, drop, position, arith, Bool, true, false, cond, Option, Some, None, Result, Ok, Err, refl, sym, ap, subst, ◌∙◌}
 use Rattle.std.specs.Str.{IsUtf8, is_utf8}
 use Rattle.std.proofs.lemmas.List.{append-nil}
@@ -23,7 +23,7 @@ use Rattle.ctt_script.specs.JournalWords.{missing, reads}
 use Rattle.ctt_script.specs.ScriptPlaces.{event_form, own_form}
 use Rattle.ctt_script.specs.ScriptText.{whole, whole_or_word, or_left, if_none_left, asked_by, item_by, item, own_item, has_words, lines_of, items_of}
 
--- what was read whole has nothing left
+-- what was parsed to the end has nothing left
 abbrev IsWhole : {A : Type 0} → A → Result (A × Left) JournalFault → Type 0
 IsWhole {A} a r = (left : Left) × (r ≡ Ok (a, left)) × (left.words ≡ [])
 
@@ -41,19 +41,19 @@ or_left_is : {A : Type 0} (a b : A) (ws : List (List ℕ)) (n : ℕ) → or_left
 or_left_is a b [] n h = let same : b ≡ a = cc in ap Some same
 or_left_is a b (w ∷ ws) n h = cc
 
--- what was read whole is the same with a number for the first word that cannot stand, and without
+-- a full parse is the same with the number of the first word that is not allowed and without
 pub word_or_none : {A : Type 0} (a : A) (r : Result (A × Left) JournalFault) → whole_or_word r ≡ Ok a → whole r ≡ Some a
 word_or_none a (Ok x) h = or_left_is a x.0 x.1.words x.1.next h
 word_or_none a (Err e) h = cc
 
--- an event is asked for exactly by the words that fill the form with it
+-- words are an event if and only if they match the grammar with it
 pub asked_fills : (form : Form JournalFault Event) (ws : List (List ℕ)) (e : Event) → asked_by form ws ≡ Some e → Fills form ws e
 asked_fills form ws e h =
     let w = whole_is e (read missing form ws 1) h in
     let r = read_fills missing form ws 1 (e, w.0) w.1 in
     subst (λ q. Fills form q e) (sym (r.all ∙ ap (λ q. r.front ++ q) w.2 ∙ append-nil r.front)) r.fills
 
--- the event of a line fills the form
+-- the event of a line matches the grammar
 pub item_fills : (form : Form JournalFault Event) (line : List ℕ) (e : Event) → item_by form line ≡ Some e → Fills form (words line) e
 item_fills form line e h = by (is_utf8 line) h
   where
@@ -61,7 +61,7 @@ item_fills form line e h = by (is_utf8 line) h
     by true k = asked_fills form (words line) e k
     by false k = cc
 
--- a line that is no text is bad
+-- a line that is not UTF-8 is bad
 pub bad_text : (form : Form JournalFault Event) (line : List ℕ) → ¬ IsUtf8 line → None ≡ item_by form line
 bad_text form line not = by (is_utf8 line) refl
   where
@@ -69,13 +69,13 @@ bad_text form line not = by (is_utf8 line) refl
     by true e = absurd (not (IsUtf8-from_is_utf8 line e))
     by false e = refl
 
--- a line that is a text is what its words ask for
+-- a UTF-8 line is the event of its words
 pub text_asks : (form : Form JournalFault Event) (line text : List ℕ) (left : Left) (o : Option Event) → IsUtf8 line → text ≡ line → left ≡ record { words = words text; next = 1 } → o ≡ whole (reads form left) → o ≡ item_by form line
 text_asks form line text left o utf8 same all is =
     let start : left ≡ record { words = words line; next = 1 } = all ∙ ap (λ bs. record { words = words bs; next = 1 }) same in
     rw (is_utf8-from_IsUtf8 line utf8) (is ∙ ap (λ l. whole (reads form l)) start)
 
--- a line that asks for an event has words, where no event is asked for without one
+-- a line that is an event has words, if the empty list of words is not an event
 asks_words : (form : Form JournalFault Event) → asked_by form [] ≡ None → (line : List ℕ) (e : Event) → item_by form line ≡ Some e → has_words line ≡ true
 asks_words form none line e h = by (words line) refl (is_utf8 line) h
   where
@@ -100,7 +100,7 @@ pub own_item_has_words : (i : Problem) (p : ℕ) (line : List ℕ) (o : Option E
 own_item_has_words i p line None h = tt
 own_item_has_words i p line (Some e) h = asks_words (own_form i p) (no_own_event i p) line e (sym h)
 
--- a search for a byte finds the first place of it
+-- a search for a byte finds its first index
 pub first_byte_is : (a : ℕ) (text : List ℕ) (r : Option ℕ) → IsFirstByte (is_byte a) text r → r ≡ position (λ b. b == a) text
 first_byte_is a text r h = by r (position is_a text) h refl
   where
@@ -125,7 +125,7 @@ first_byte_is a text r h = by r (position is_a text) h refl
         let at : position_or_len is_a text ≡ k = position_or_len_is is_a text k 0 (omega (arith, h.0.high)) (λ i lt. fails (is_a (slice_index text i)) (h.0.before i (omega arith) lt)) (λ _. h.1) in
         ap Some (sym (first.0 ∙ at))
 
--- the lines of a text, by the place of the first byte that ends a line
+-- the lines of a text, by the index of its first newline
 abbrev ends_line : ℕ → Bool
 ends_line b = b == 10
 
@@ -134,7 +134,7 @@ first_line text end h =
     let at = position_is ends_line text end h in
     rw at.0 (slice_split_first ends_line text 0 (subst (λ n. n < length text) at.0 at.1))
 
--- the same where what is left is cut out up to the end
+-- the same if what is left is a slice up to the end
 pub first_line_cut : (text : List ℕ) (end : ℕ) → position (λ b. b == 10) text ≡ Some end → lines_of text ≡ take end text ∷ lines_of (take (length text - (end + 1)) (drop (end + 1) text))
 first_line_cut text end h =
     let all : take (length text - (end + 1)) (drop (end + 1) text) ≡ drop (end + 1) text = grind (arith, common_steps) in

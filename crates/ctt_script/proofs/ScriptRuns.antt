@@ -30,13 +30,13 @@ run_length i t0 past [] = omega arith
 run_length i t0 past (None ∷ items) = omega (arith, run_length i t0 past items)
 run_length i t0 past (Some e ∷ items) = omega (arith, run_length i t0 (answered i t0 past e ∷ past) items)
 
--- a text has no more items than bytes and one
+-- a text has at most one item more than it has bytes
 few_items : (i : Problem) (text : List ℕ) → length (script i text) ≤ length text + 1
 few_items i text =
     let items : length (script i text) ≡ length (filter has_words (lines_of text)) = length-map (filter has_words (lines_of text)) (item i) in
     omega (arith, items, length-filter_le has_words (lines_of text), length-slice_split (λ b. b == 10) text, filtered (λ b. b == 10) text, length-filter_le (λ b. b == 10) text)
 
--- a front of the answers was written
+-- a prefix of the answers was written
 pub front_said : (v : DeskValue) (i : Problem) (t0 : List Placed) (left : Option (List ℕ)) (read text : List ℕ) (before after : Option (List ℕ)) → v.problem ≡ i → v.opening ≡ t0 → Stands v [] → text ≡ read → IfSome left (λ bytes. read ≡ bytes) → WroteFront v (script i text) before after
     → IfSome left (λ bytes. AppendsFront before after (answer_text i t0 bytes))
 front_said v i t0 None read text before after same t0_is stands whole known h = tt
@@ -61,12 +61,12 @@ pub read_short : (left : Option (List ℕ)) (read : List ℕ) (limit : ℕ) → 
 read_short None read limit known short = tt
 read_short (Some bytes) read limit known short = omega (arith, ap length known, short)
 
--- of a reader that was not read as much is left as before
+-- a reader that was not read has as much left as before
 pub not_read : (left : Option (List ℕ)) (pulls : ℕ) → IfSome left (λ old. IfSome left (λ new. pulls + length new ≤ pulls + length old + 1))
 not_read None pulls = tt
 not_read (Some bytes) pulls = omega arith
 
--- the desk stands at the events of the script
+-- the desk is at the run of the script's events
 pub script_done : (v w : DeskValue) (i : Problem) (left : Option (List ℕ)) (read text : List ℕ) (before after : Option (List ℕ)) → v.problem ≡ i → Stands v [] → text ≡ read → IfSome left (λ bytes. read ≡ bytes) → Wrote v w (script i text) before after
     → IfSome left (λ bytes. Stands w (script_run i w.opening bytes))
 script_done v w i None read text before after same stands whole known h = tt

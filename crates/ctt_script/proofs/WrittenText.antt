@@ -1,4 +1,4 @@
--- The text that is written of a journal, as its words.
+-- The words of the text that is written for a journal.
 use Rattle.std.proofs.Common.{◌≡◌, ℕ, suc, ◌<◌, ◌≤◌, List, [], ◌∷◌, ◌++◌, length, flat_map, Bool, true, false, not, ◌&&◌, Option, Some, None, ℤ, pos, negsuc, refl, sym, ap, subst, ◌∙◌, arith, append_assoc}
 use Rattle.std.specs.Prelude.{codes, nat_lt, slice_index_or, unsigned_abs}
 use Rattle.std.specs.List.{list_all, AllByRecursion as Each}
@@ -65,7 +65,7 @@ is_solid bs h =
         let parts = and_parts (not (is_blank b)) (list_all (λ b. not (is_blank b)) bs) e in
         (turned (is_blank b) parts.0, each bs parts.1)
 
--- a word with a blank behind it, in a text that goes on
+-- a word with a blank after it, in a text that goes on
 word_then : (w : List ℕ) (c : ℕ) (tail rest : List ℕ) → IsWord w → is_blank c ≡ true → words ((w ++ c ∷ tail) ++ rest) ≡ w ∷ words (tail ++ rest)
 word_then w c tail rest is blank = ap (λ bs. words bs) (append_assoc w (c ∷ tail) rest) ∙ word_first w c (tail ++ rest) is blank
 
@@ -93,7 +93,7 @@ module _ {A : Type 0} (P : A → Type 0) (text : A → List ℕ) (spelled : A �
       ∙ ap (λ ws. spelled x ++ ws) (parts_words h xs each.1 rest)
       ∙ sym (append_assoc (spelled x) (flat_map spelled xs) (words rest))
 
--- two texts, one behind the other
+-- two texts, one after the other
 two_words : (a b : List ℕ) (us vs : List (List ℕ)) (rest : List ℕ) → ((r : List ℕ) → words (a ++ r) ≡ us ++ words r) → ((r : List ℕ) → words (b ++ r) ≡ vs ++ words r) → words ((a ++ b) ++ rest) ≡ (us ++ vs) ++ words rest
 two_words a b us vs rest h k = ap (λ bs. words bs) (append_assoc a b rest) ∙ h (b ++ rest) ∙ ap (λ ws. us ++ ws) (k rest) ∙ sym (append_assoc us vs (words rest))
 
@@ -304,7 +304,7 @@ module _ (i : Problem) (is : IsProblem i) (named : IsNamed i) where
       (λ q. parts_words (IsEntry i) (entry_text i) (entry_words i) entry_part es (entries_are es f short) q)
       (λ q. line_words (codes "END.") [] q (is_solid (codes "END.") refl, tt)))
 
-  -- what is written is read again as the same entries, whatever follows it
+  -- parsing what is written returns the same entries, whatever follows it
   pub written_spells : (es : List JournalEntry) → AreFew es → Each (EntryFits i) es → Each IsShort es → (rest : List ℕ) → JournalSpells i (words (journal_text i es ++ rest)) es
   written_spells es few f short rest = record {
     front = journal_words i es;

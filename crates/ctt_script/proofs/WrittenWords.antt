@@ -1,4 +1,4 @@
--- What is written of a call, a reply or a journal fills the form with it.
+-- The words written for a call, a reply or a journal match the grammar and give it back.
 use Rattle.std.proofs.Common.{◌≡◌, ℕ, suc, ◌^◌, ◌<◌, ◌≤◌, List, [], ◌∷◌, length, flat_map, true, false, Option, Some, None, ℤ, pos, negsuc, refl, sym, ap, subst, arith}
 use Rattle.std.specs.Prelude.{codes, nat_lt, nat_le, nat_eq, slice_index_or, unsigned_abs}
 use Rattle.std.specs.List.{list_all, AllByRecursion as Each}
@@ -95,7 +95,7 @@ price_says (negsuc n) h = ap (λ o. option_map negated o) (amount_says (suc n) h
 name_says : (names : List (List ℕ)) (n : ℕ) → AreDistinct names → n < length names → number_in names (slice_index_or names n []) ≡ Some n
 name_says names n distinct lt = rw (among_at names n lt) (ap (λ k. Some k) (place_at names n distinct lt))
 
--- a word of a journal, and what comes after it
+-- a word of a journal, and what follows it
 word_then : {A B : Type 0} (meaning : List ℕ → Option A) (otherwise : A) (g : A → Form JournalFault B) (w : List ℕ) (ws : List (List ℕ)) (a : A) (b : B) → meaning w ≡ Some a → Fills (g a) ws b → Fills (word meaning otherwise >>= g) (w ∷ ws) b
 word_then meaning otherwise g w ws a b h k = then_fills BadWord meaning otherwise g w ws a b h k
 
@@ -111,11 +111,11 @@ amount_then : {B : Type 0} (g : ℕ → Form JournalFault B) (n : ℕ) (ws : Lis
 unfolding amount
 amount_then g n ws b h k = word_then amount_of 0 g (decimal n) ws n b (amount_says n h) k
 
--- a form, and what is made of its value
+-- a grammar, and what is made of its value
 fills_map : {A B : Type 0} (form : Form JournalFault A) (h : A → B) (ws : List (List ℕ)) (a : A) → Fills form ws a → Fills (form >>= λ x. done (h x)) ws (h a)
 fills_map form h ws a fills = subst (λ us. Fills (form >>= λ x. done (h x)) us (h a)) (append-nil ws) (fills_both form (λ x. done (h x)) ws [] a (h a) fills refl)
 
--- what stands behind a word that means this
+-- what follows a word with this meaning
 after_word : {A B : Type 0} (meaning : List ℕ → Option A) (otherwise : A) (g : A → Form JournalFault B) (w : List ℕ) (ws : List (List ℕ)) (a : A) (b : B) → meaning w ≡ Some a → Fills (word meaning otherwise >>= g) (w ∷ ws) b → Fills (g a) ws b
 unfolding known one ◌>>=◌
 after_word meaning otherwise g w ws a b h fills = (rw h at fills).1
@@ -124,7 +124,7 @@ after_word meaning otherwise g w ws a b h fills = (rw h at fills).1
 any_given : {A : Type 0} (meaning : List ℕ → Option A) (w : List ℕ) (a : A) → bytes_eq w (codes "*") ≡ false → meaning w ≡ Some a → any_or meaning w ≡ Some (Some a)
 any_given meaning w a other h = rw (other, h) refl
 
--- digits are no `*`
+-- digits are not `*`
 no_star : (ds : List ℕ) → list_all is_digit ds ≡ true → bytes_eq ds (codes "*") ≡ false
 no_star [] digits = refl
 no_star (b ∷ bs) digits =
@@ -303,7 +303,7 @@ module _ (i : Problem) (is : IsProblem i) (named : IsNamed i) where
   entries_are [] f short = tt
   entries_are (e ∷ es) f short = ((f.0, short.0), entries_are es f.1 short.1)
 
-  -- the words of a journal fill the form with it
+  -- the words of a journal match the grammar and give it back
   pub journal_fills : (es : List JournalEntry) → AreFew es → Each (EntryFits i) es → Each IsShort es → Fills (journal_form i) (journal_words i es) es
   unfolding journal_form
   journal_fills es few f short =

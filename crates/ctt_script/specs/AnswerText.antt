@@ -1,4 +1,4 @@
--- The answers to a script, a line for each of its items.
+-- The answers to a script, one line for each of its items.
 use Rattle.std.specs.Prelude.{ℕ, List, [], ◌∷◌, ◌++◌, Option, Some, None, codes}
 use Rattle.std.specs.Fmt.{decimal}
 use Rattle.ctt_text.specs.Problem.{Problem}
@@ -14,18 +14,21 @@ use Rattle.ctt_script.specs.ScriptText.{script}
 use Rattle.ctt_line.specs.Lines.{line}
 use Rattle.ctt_script.specs.WrittenWords.{course_word, day_word, period_word, reply_words}
 
+-- a row: `course` and its name, or `slot`, its day and its period
 abbrev pub row_words : Problem → Row → List (List ℕ)
 row_words i (CourseRow c) = codes "course" ∷ course_word i c ∷ []
 row_words i (SlotRow s) = codes "slot" ∷ day_word i s ∷ period_word i s ∷ []
 
--- fresh, or stale by a row
+-- `fresh`, or `stale` and the row that has changed
 abbrev pub freshness_words : Problem → Option Row → List (List ℕ)
 freshness_words i None = codes "fresh" ∷ []
 freshness_words i (Some row) = codes "stale" ∷ row_words i row
 
+-- the status of a draft
 abbrev pub standing_words : Problem → Standing → List (List ℕ)
 standing_words i s = codes "draft" ∷ decimal s.edits ∷ decimal s.behind ∷ freshness_words i s.stale
 
+-- the words of an answer
 abbrev pub answer_words : Problem → Answer → List (List ℕ)
 answer_words i Opened = codes "opened" ∷ []
 answer_words i AlreadyOpen = codes "already" ∷ codes "open" ∷ []
@@ -38,28 +41,30 @@ answer_words i Refreshed = codes "refreshed" ∷ []
 answer_words i Abandoned = codes "abandoned" ∷ []
 answer_words i NoMemory = codes "no" ∷ codes "memory" ∷ []
 
--- the answer to a line that is no event
+-- the answer to a line that is not an event
 abbrev pub bad_line : List ℕ
 bad_line = line (codes "bad" ∷ codes "line" ∷ [])
 
--- an event, as a plain desk answers it
+-- the turn in which a plain desk answers this event after the turns `past`
 abbrev pub answered : Problem → List Placed → List Turn → Event → Turn
 answered i t0 past event = record { event = event; answer = plain i t0 past event }
 
--- the answers to items after a run, and the run that they go on to
+-- the answers to these items after the run `past`
 abbrev pub answers_after : Problem → List Placed → List Turn → List (Option Event) → List ℕ
 answers_after i t0 past [] = []
 answers_after i t0 past (None ∷ items) = bad_line ++ answers_after i t0 past items
 answers_after i t0 past (Some event ∷ items) = line (answer_words i (plain i t0 past event)) ++ answers_after i t0 (answered i t0 past event ∷ past) items
 
+-- the run `past`, continued by the events of these items
 abbrev pub run_after : Problem → List Placed → List Turn → List (Option Event) → List Turn
 run_after i t0 past [] = past
 run_after i t0 past (None ∷ items) = run_after i t0 past items
 run_after i t0 past (Some event ∷ items) = run_after i t0 (answered i t0 past event ∷ past) items
 
--- the answers to a script, and its events as they are answered
+-- the answers to a script, from the opening timetable on
 abbrev pub answer_text : Problem → List Placed → List ℕ → List ℕ
 answer_text i t0 text = answers_after i t0 [] (script i text)
 
+-- the run of a script: its events with their answers, the newest first
 abbrev pub script_run : Problem → List Placed → List ℕ → List Turn
 script_run i t0 text = run_after i t0 [] (script i text)

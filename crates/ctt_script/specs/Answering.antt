@@ -1,4 +1,4 @@
--- A desk that answers items one after another, and what is written of its answers.
+-- A desk that answers items one after another, and how much of its answers is written.
 use Rattle.std.specs.Prelude.{◌≡◌, ℕ, List, [], ◌++◌, Option}
 use Rattle.std.specs.Io.KnownBytes.{Appends}
 use Rattle.ctt_core.specs.Runs.{Turn}
@@ -9,17 +9,18 @@ use Rattle.ctt_script.specs.AnswerText.{answers_after, run_after}
 use Rattle.ctt_devices.specs.Output.{AppendsFront}
 use Rattle.ctt_script.specs.ScriptText.{items_of}
 
--- the desk stands at some run
+-- the desk is in the state that some run leads to
 abbrev pub IsAtRun : DeskValue → Type 0
 IsAtRun v = (past : List Turn) × Stands v past
 
--- the desk v has answered these items and is the desk w; the text has grown by the answers
+-- by answering these items the desk v became the desk w; the text has grown by the answers
 pub record Answered (v w : DeskValue) (old new : List ℕ) (items : List (Option Event)) : Type 0 where
   pub same : SameDesk v w
   pub goes_on : (past : List Turn) → Stands v past → Stands w (run_after v.problem v.opening past items)
   pub grown : (past : List Turn) → Stands v past → new ≡ old ++ answers_after v.problem v.opening past items
 
--- of all lines these are left; the answers to the others were written, but for the text that is kept back
+-- of all lines those in `left` remain; the answers to the others are written, except for `kept`,
+-- which is still buffered
 pub record Answering (v w : DeskValue) (all left : List (List ℕ)) (before after : Option (List ℕ)) (kept : List ℕ) : Type 0 where
   pub done : List (Option Event)
   pub written : List ℕ
@@ -27,12 +28,12 @@ pub record Answering (v w : DeskValue) (all left : List (List ℕ)) (before afte
   pub answered : Answered v w [] (written ++ kept) done
   pub taken : Appends before after written
 
--- the desk v has answered these items and is the desk w; the answers were written
+-- by answering these items the desk v became the desk w; all answers are written
 pub record Wrote (v w : DeskValue) (items : List (Option Event)) (before after : Option (List ℕ)) : Type 0 where
   pub text : List ℕ
   pub taken : Appends before after text
   pub answered : Answered v w [] text items
 
--- of the answers to items a front was written
+-- a prefix of the answers to these items is written
 abbrev pub WroteFront : DeskValue → List (Option Event) → Option (List ℕ) → Option (List ℕ) → Type 0
 WroteFront v items before after = (past : List Turn) → Stands v past → AppendsFront before after (answers_after v.problem v.opening past items)

@@ -1,4 +1,4 @@
--- The places of the words of a call.
+-- The grammar of calls.
 use Rattle.std.specs.Prelude.{ℕ, List, Option, Some, None, if◌then◌else◌, codes}
 use Rattle.std.specs.Str.{bytes_eq}
 use Rattle.std.specs.Option.{option_map}
@@ -25,7 +25,7 @@ use Rattle.ctt_script.specs.Amounts.{number_below}
 use Rattle.ctt_script.specs.Kinds.{edit_kind, pattern_kind, look_kind, call_kind}
 use Rattle.ctt_script.specs.JournalWords.{word, name, label}
 
--- names of the instance
+-- names in the instance, each parsed to its number
 unfoldable pub course : Problem → Form JournalFault ℕ
 course i = name i.course_names
 
@@ -38,14 +38,14 @@ teacher i = name i.teacher_names
 unfoldable pub curriculum : Problem → Form JournalFault ℕ
 curriculum i = name i.curriculum_names
 
--- a day, and a period in the day
+-- a day and a period of that day, parsed to their slot
 unfoldable pub slot : Problem → Form JournalFault ℕ
 slot i = do
   day ← word (number_below i.days) 0
   period ← word (number_below i.periods) 0
   done (slot_of i day period)
 
--- what stands behind the word of an edit
+-- what follows the keyword of an edit
 unfoldable pub edit_after : Problem → EditKind → Form JournalFault Edit
 edit_after i edit.Place = do
   c ← course i
@@ -74,20 +74,21 @@ edit_after i edit.Drop = do
   s ← slot i
   done (Drop c s)
 
+-- an edit
 unfoldable pub edit_form : Problem → Form JournalFault Edit
 edit_form i = do
   kind ← word edit_kind edit.Place
   edit_after i kind
 
--- `*`, which stands for any, or what the word means else
+-- `Some None` for `*`, which stands for any, or else what the word means
 abbrev pub any_or : {A : Type 0} → (List ℕ → Option A) → List ℕ → Option (Option A)
 any_or meaning w = if bytes_eq w (codes "*") then Some None else option_map Some (meaning w)
 
--- a room, or any
+-- a room, or `*` for any
 unfoldable pub room_choice : Problem → Form JournalFault (Option ℕ)
 room_choice i = word (any_or (number_in i.room_names)) None
 
--- a day and a period in the day, or `*` twice for any slot
+-- what follows the day of a slot: its period or, if the day was `*`, a second `*`
 unfoldable pub slot_after : Problem → Option ℕ → Form JournalFault (Option ℕ)
 slot_after i None = do
   star ← label (codes "*")
@@ -96,12 +97,13 @@ slot_after i (Some day) = do
   period ← word (number_below i.periods) 0
   done (Some (slot_of i day period))
 
+-- a day and a period of that day, or `* *` for any slot
 unfoldable pub slot_choice : Problem → Form JournalFault (Option ℕ)
 slot_choice i = do
   day ← word (any_or (number_below i.days)) None
   slot_after i day
 
--- what follows the word of an edit pattern
+-- what follows the keyword of an edit pattern
 unfoldable pub pattern_after : Problem → PatternKind → Form JournalFault Pattern
 pattern_after i pattern.Place = do
   c ← course i
@@ -127,12 +129,13 @@ pattern_after i pattern.Reroom = do
   s ← slot i
   done (AnyReroom c s r)
 
+-- an edit pattern
 unfoldable pub pattern_form : Problem → Form JournalFault Pattern
 pattern_form i = do
   kind ← word pattern_kind pattern.Place
   pattern_after i kind
 
--- what stands behind the word of a look
+-- what follows the keyword of a look
 unfoldable pub look_after : Problem → LookKind → Form JournalFault Look
 look_after i look.Course = do
   c ← course i
@@ -159,12 +162,13 @@ look_after i look.Cheapest = do
   p ← pattern_form i
   done (Cheapest n p)
 
+-- a look
 unfoldable pub look_form : Problem → Form JournalFault Look
 look_form i = do
   kind ← word look_kind look.Cost
   look_after i kind
 
--- what stands behind the word of a call
+-- what follows the keyword of a call
 unfoldable pub call_after : Problem → CallKind → Form JournalFault Call
 call_after i (kind.Edit k) = do
   e ← edit_after i k
@@ -173,6 +177,7 @@ call_after i (kind.Look k) = do
   l ← look_after i k
   done (Looks l)
 
+-- a call: an edit or a look
 unfoldable pub call_form : Problem → Form JournalFault Call
 call_form i = do
   kind ← word call_kind (kind.Look look.Cost)

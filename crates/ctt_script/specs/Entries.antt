@@ -12,18 +12,19 @@ use Rattle.ctt_core.specs.declared.answer.Answer.{Answer}
 use Rattle.ctt_core.specs.declared.answer.Answer.TheVariants.{Replied, Draft, Stale}
 use Rattle.ctt_core.specs.declared.journal.JournalEntry.{JournalEntry}
 
--- its calls are few, and its replies short
+-- the entry has at most 999,999,999 calls, and no list in a reply is longer than that
 abbrev pub IsShort : JournalEntry → Type 0
 IsShort e = AreFew e.asked × Each (λ (a : Asked). IsShortReply a.reply) e.asked
 
--- what fits and is short can be written
+-- a call with its reply that can be written
 abbrev pub IsAsked : Problem → Asked → Type 0
 IsAsked i a = AskedFits i a × IsShortReply a.reply
 
+-- an entry that can be written
 abbrev pub IsEntry : Problem → JournalEntry → Type 0
 IsEntry i e = EntryFits i e × IsShort e
 
--- its number is one of the instance
+-- the number of the row is in range for the instance
 abbrev pub RowFits : Problem → Row → Type 0
 RowFits i (CourseRow c) = c < course_count i
 RowFits i (SlotRow s) = s < slot_count i

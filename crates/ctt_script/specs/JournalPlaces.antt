@@ -1,4 +1,4 @@
--- The places of the words of a journal.
+-- The grammar of journals.
 use Rattle.std.specs.Prelude.{List, codes}
 use Rattle.ctt_text.specs.Problem.{Problem}
 use Rattle.ctt_text.specs.Forms.{Form, done, ◌>>=◌, list_of}
@@ -17,6 +17,7 @@ asked_form i = do
   r ← reply_form i
   done (record { call = c; reply = r })
 
+-- an entry: `entry`, a planner, a count, and that many calls with their replies
 unfoldable pub entry_form : Problem → Form JournalFault JournalEntry
 entry_form i = do
   start ← label (codes "entry")
@@ -25,6 +26,7 @@ entry_form i = do
   calls ← list_of (asked_form i) n
   done (record { planner = p; asked = calls })
 
+-- a journal: `journal`, a count, that many entries, and `END.`
 unfoldable pub journal_form : Problem → Form JournalFault (List JournalEntry)
 journal_form i = do
   start ← label (codes "journal")

@@ -1,4 +1,4 @@
--- The places of a journal's text. They have one fault for a word that cannot stand there.
+-- The single words of the grammar of journals. Each word that is not allowed has the same fault.
 use Rattle.std.specs.Prelude.{ℕ, List, Bool, true, false, Option, Result}
 use Rattle.ctt_text.specs.Left.{Left}
 use Rattle.ctt_text.specs.Forms.{Form}
@@ -7,11 +7,11 @@ use Rattle.ctt_text.specs.Reading.{Gives, Reads, reading}
 use Rattle.ctt_script.specs.declared.journal_fault.JournalFault.{JournalFault}
 use Rattle.ctt_script.specs.declared.journal_fault.JournalFault.TheVariants.{Missing, BadWord, NoMemory}
 
--- one word, which gives what it means (and something, where it means nothing)
+-- one word, parsed to its meaning; a word without a meaning is not allowed
 abbrev pub word : {A : Type 0} → (List ℕ → Option A) → A → Form JournalFault A
 word meaning otherwise = known BadWord meaning otherwise
 
--- one of these names
+-- one of these names, parsed to its position
 abbrev pub name : List (List ℕ) → Form JournalFault ℕ
 name names = known_name BadWord names
 
@@ -19,21 +19,23 @@ name names = known_name BadWord names
 abbrev pub label : List ℕ → Form JournalFault Unit
 label text = fixed BadWord text
 
+-- the fault of a missing word
 abbrev pub missing : ℕ → JournalFault
 missing k = Missing k
 
+-- the fault is that memory ran out
 abbrev pub wants_memory : JournalFault → Bool
 wants_memory NoMemory = true
 wants_memory _ = false
 
--- reading what is left of the text of a journal
+-- parsing the rest of a journal's text
 abbrev pub reads : {A : Type 0} → Form JournalFault A → Left → Result (A × Left) JournalFault
 reads form left = reading missing form left
 
--- What a function that reads a part of the text returned, is what the form of that part gives.
+-- A parser returned what the grammar of its part of the text gives, unless memory ran out.
 abbrev pub GivesRead : {X Y : Type 0} → (X → Y) → Result X JournalFault → Result Y JournalFault → Type 0
 GivesRead view result read = Gives wants_memory view result read
 
--- The same of a function that wants no memory: also its fault is the one that reading meets.
+-- A parser that allocates nothing returned exactly what the grammar gives, its fault included.
 abbrev pub IsRead : {X Y : Type 0} → (X → Y) → Result X JournalFault → Result Y JournalFault → Type 0
 IsRead view result read = Reads view result read

@@ -1,4 +1,4 @@
--- The words by which calls, replies and faults are known.
+-- The keywords of calls, replies and faults.
 use Rattle.std.specs.Prelude.{ℕ, List, Option, Some, None, if◌then◌else◌, codes}
 use Rattle.std.specs.Str.{bytes_eq}
 use Rattle.std.specs.Option.{option_map}
@@ -17,7 +17,7 @@ use Rattle.ctt_script.specs.declared.kinds.ReplyKind.TheVariants.{Done, Refused,
 use Rattle.ctt_script.specs.declared.kinds.FaultKind.{FaultKind}
 use Rattle.ctt_script.specs.declared.kinds.FaultKind.TheVariants.{NotPlaced, SameSlot, SameCourse, AlreadyThere, CourseFull, Unavailable, Barred, Clash, RoomTaken}
 
--- what stands beside the word in a table, if the word stands there
+-- the kind that a keyword stands for; none for any other word
 unfoldable pub edit_kind : List ℕ → Option EditKind
 edit_kind word =
     if bytes_eq word (codes "place") then Some Place
@@ -48,6 +48,7 @@ pattern_kind word =
     else if bytes_eq word (codes "reroom") then Some pattern.Reroom
     else None
 
+-- an edit, or else a look
 abbrev pub or_look : Option EditKind → Option LookKind → Option CallKind
 or_look (Some edit) look = Some (Edit edit)
 or_look None look = option_map Look look

@@ -1,4 +1,4 @@
--- The places of the words of a reply.
+-- The grammar of replies.
 use Rattle.std.specs.Prelude.{ℕ, List, pos}
 use Rattle.ctt_text.specs.Problem.{Problem}
 use Rattle.ctt_text.specs.declared.placed.Placed.{Placed}
@@ -22,7 +22,7 @@ use Rattle.ctt_script.specs.Kinds.{reply_kind, fault_kind}
 use Rattle.ctt_script.specs.JournalWords.{word}
 use Rattle.ctt_script.specs.CallPlaces.{course, room, slot, edit_form}
 
--- what stands behind the word of a fault
+-- what follows the keyword of a fault
 unfoldable pub fault_after : Problem → FaultKind → Form JournalFault EditFault
 fault_after i fault.NotPlaced = done NotPlaced
 fault_after i fault.SameSlot = done SameSlot
@@ -38,11 +38,13 @@ fault_after i fault.RoomTaken = do
   c ← course i
   done (RoomTaken c)
 
+-- a fault
 unfoldable pub fault_form : Problem → Form JournalFault EditFault
 fault_form i = do
   kind ← word fault_kind fault.NotPlaced
   fault_after i kind
 
+-- a lecture: a course, a room and a slot
 unfoldable pub lecture : Problem → Form JournalFault Placed
 lecture i = do
   c ← course i
@@ -50,9 +52,11 @@ lecture i = do
   s ← slot i
   done (record { course = c; slot = s; room = r })
 
+-- a number of at most 999,999,999
 unfoldable pub count : Form JournalFault ℕ
 count = number BadWord
 
+-- a count, and that many lectures
 unfoldable pub lectures : Problem → Form JournalFault (List Placed)
 lectures i = do
   n ← count
@@ -61,6 +65,7 @@ lectures i = do
 unfoldable pub amount : Form JournalFault ℕ
 amount = word amount_of 0
 
+-- the costs for capacity, days, compactness and stability
 unfoldable pub costs : Form JournalFault Cost
 costs = do
   capacity ← amount
@@ -69,31 +74,33 @@ costs = do
   stability ← amount
   done (record { capacity = capacity; days = days; compactness = compactness; stability = stability })
 
--- a course, and how many of its lectures are missing
+-- a course, and the number of its missing lectures
 unfoldable pub shortfall : Problem → Form JournalFault Shortfall
 shortfall i = do
   c ← course i
   n ← count
   done (record { course = c; missing = n })
 
+-- a count, and that many courses with missing lectures
 unfoldable pub shortfalls : Problem → Form JournalFault (List Shortfall)
 shortfalls i = do
   n ← count
   list_of (shortfall i) n
 
--- a price, and the edit that has it
+-- a price, and its edit
 unfoldable pub priced : Problem → Form JournalFault PricedEdit
 priced i = do
   p ← word price_of (pos 0)
   e ← edit_form i
   done (record { edit = e; price = p })
 
+-- a count, and that many edits with their prices
 unfoldable pub priced_edits : Problem → Form JournalFault (List PricedEdit)
 priced_edits i = do
   n ← count
   list_of (priced i) n
 
--- what stands behind the word of a reply
+-- what follows the keyword of a reply
 unfoldable pub reply_after : Problem → ReplyKind → Form JournalFault Reply
 reply_after i reply.Done = done Done
 reply_after i reply.Refused = do
@@ -115,6 +122,7 @@ reply_after i reply.Edits = do
   xs ← priced_edits i
   done (AreCheapest xs)
 
+-- a reply
 unfoldable pub reply_form : Problem → Form JournalFault Reply
 reply_form i = do
   kind ← word reply_kind reply.Done

@@ -1,4 +1,4 @@
--- The places of the words of a line of a script.
+-- The grammar of a line of a script.
 use Rattle.std.specs.Prelude.{ℕ, List, Option, Some, if◌then◌else◌, codes}
 use Rattle.std.specs.Str.{bytes_eq}
 use Rattle.std.specs.Option.{option_map}
@@ -18,11 +18,11 @@ use Rattle.ctt_script.specs.Kinds.{step_kind}
 use Rattle.ctt_script.specs.JournalWords.{word}
 use Rattle.ctt_script.specs.CallPlaces.{look_form, call_after}
 
--- a look at what is published, or one of 64 planners
+-- the first word: `show`, for a look at the published timetable, or one of 64 planners
 unfoldable pub first_of : List ℕ → Option Start
 first_of word = if bytes_eq word (codes "show") then Some begin.Show else option_map begin.Planner (number_below 64 word)
 
--- what stands behind a planner's number and the word of a step
+-- what follows the keyword of a planner's step
 unfoldable pub step_after : Problem → ℕ → StepKind → Form JournalFault Event
 step_after i p step.Open = done (Open p)
 step_after i p step.Commit = done (Commit p)
@@ -36,7 +36,7 @@ step_after i p (step.Ask k) = do
   c ← call_after i k
   done (Ask p c)
 
--- what stands behind the first word
+-- what follows the first word
 unfoldable pub event_after : Problem → Start → Form JournalFault Event
 event_after i begin.Show = do
   l ← look_form i
@@ -45,21 +45,24 @@ event_after i (begin.Planner p) = do
   kind ← word step_kind step.Open
   step_after i p kind
 
+-- an event
 unfoldable pub event_form : Problem → Form JournalFault Event
 event_form i = do
   first ← word first_of begin.Show
   event_after i first
 
--- in the script of one planner: a look at what is published, or a step
+-- the first word in one planner's own script: `show`, or the keyword of a step
 unfoldable pub own_first_of : List ℕ → Option OwnStart
 own_first_of word = if bytes_eq word (codes "show") then Some own.Show else option_map own.Step (step_kind word)
 
+-- what follows the first word in the own script of planner p
 unfoldable pub own_after : Problem → ℕ → OwnStart → Form JournalFault Event
 own_after i p own.Show = do
   l ← look_form i
   done (Show l)
 own_after i p (own.Step kind) = step_after i p kind
 
+-- an event in the own script of planner p
 unfoldable pub own_form : Problem → ℕ → Form JournalFault Event
 own_form i p = do
   first ← word own_first_of own.Show

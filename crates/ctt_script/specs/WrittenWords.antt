@@ -1,4 +1,4 @@
--- The words that are written of calls, replies and journals.
+-- The words in which calls, replies and journals are written.
 use Rattle.std.specs.Prelude.{ℕ, List, [], ◌∷◌, ◌++◌, flat_map, length, codes, slice_index_or, Option, Some, None}
 use Rattle.std.specs.Fmt.{decimal, signed_decimal}
 use Rattle.ctt_text.specs.Problem.{Problem, day_of, period_of}
@@ -21,7 +21,7 @@ use Rattle.ctt_edits.specs.declared.reply.Reply.TheVariants.{Done, Refused, Lect
 use Rattle.ctt_draft.specs.declared.asked.Asked.{Asked}
 use Rattle.ctt_core.specs.declared.journal.JournalEntry.{JournalEntry}
 
--- names, days and periods
+-- names, and days and periods in decimal
 abbrev pub course_word : Problem → ℕ → List ℕ
 course_word i c = slice_index_or i.course_names c []
 
@@ -41,7 +41,7 @@ edit_words i (Swap c s c2 s2) = codes "swap" ∷ course_word i c ∷ day_word i 
 edit_words i (Reroom c s r) = codes "reroom" ∷ course_word i c ∷ room_word i r ∷ day_word i s ∷ period_word i s ∷ []
 edit_words i (Drop c s) = codes "drop" ∷ course_word i c ∷ day_word i s ∷ period_word i s ∷ []
 
--- `*` for what is left open
+-- `*` for what a pattern leaves open
 abbrev pub room_choice_word : Problem → Option ℕ → List ℕ
 room_choice_word i None = codes "*"
 room_choice_word i (Some r) = room_word i r

@@ -1,14 +1,14 @@
-//! Words as amounts, prices and numbers below a limit.
+//! Parsing words as amounts, prices and numbers below a limit.
 
 ghost use Rattle.std.specs.Prelude.{◌≡◌, ◌<◌, ◌≤◌, IfSome};
 ghost use Rattle.ctt_script.specs.Amounts.{amount_of, negated, price_of, number_below};
 
 use ctt_text::number;
 
-/// The greatest amount that a journal may give.
+/// The greatest amount in a journal, which is the greatest `i64`.
 const GREATEST: u128 = 9_223_372_036_854_775_807;
 
-/// The amount that a word is: digits alone, of a value of at most 9,223,372,036,854,775,807.
+/// Parses an amount: decimal digits only, with a value of at most 9,223,372,036,854,775,807.
 pub(crate) fn amount(word: &[u8]) -> Option<u64>
     ensures amount { result ≡ amount_of word.now }
     ensures small { IfSome result (λ n. n ≤ 9223372036854775807) }
@@ -29,7 +29,6 @@ pub(crate) fn amount(word: &[u8]) -> Option<u64>
     Some(value as u64)
 }
 
-/// An amount with its sign turned.
 fn negated(amount: u64) -> i64
     requires { amount ≤ 9223372036854775807 }
     ensures { result ≡ negated amount }
@@ -37,7 +36,7 @@ fn negated(amount: u64) -> i64
     -(amount as i64)
 }
 
-/// The price that a word is: an amount, which may have `-` before it.
+/// Parses a price: an amount, with an optional `-` in front.
 pub(crate) fn price(word: &[u8]) -> Option<i64>
     ensures { result ≡ price_of word.now }
 {
@@ -49,7 +48,7 @@ pub(crate) fn price(word: &[u8]) -> Option<i64>
     }
 }
 
-/// The number that a word is, if it is below a limit.
+/// Parses a decimal number less than `limit`.
 pub(crate) fn number_below(word: &[u8], limit: u16) -> Option<u16>
     ensures number { result ≡ number_below limit word.now }
     ensures small { IfSome result (λ n. n < limit) }

@@ -1,4 +1,4 @@
-//! Replies and answers as lines.
+//! Writing replies and answers as lines.
 
 ghost use Rattle.std.specs.Prelude.{◌≡◌, ◌++◌, ◌∷◌, OnOk, flat_map, length, string_bytes};
 ghost use Rattle.std.specs.List.{AllByRecursion as Each};
@@ -18,7 +18,7 @@ use ctt_line::{Word, push_line, push_words};
 use ctt_text::Instance;
 use std::alloc::AllocError;
 
-/// Adds the line of items: their kind, how many there are, and the words of each.
+/// Adds the line of a list: its keyword, the number of its items, and the words of each.
 #[tactic(auto, using(crate::proofs::WrittenText::items_end))]
 fn write_items<T: Item>(
     text: &mut String,
@@ -90,7 +90,7 @@ pub fn write_answer(
     }
 }
 
-/// Adds the answer to a line that is no event.
+/// Adds `bad line`, the answer to a line that is not an event.
 pub fn write_bad_line(text: &mut String) -> Result<(), AllocError>
     ensures { OnOk result (string_bytes text.new ≡ string_bytes text.old ++ bad_line) }
 {

@@ -1,4 +1,4 @@
-//! The words of calls.
+//! The words in which calls are written.
 
 ghost use Rattle.std.specs.Prelude.{◌≡◌, ◌<◌, ◌≤◌, ◌+◌, ◌∷◌, [], codes};
 ghost use Rattle.arrayvec.specs.ArrayVec.{array_vec_len};
@@ -14,10 +14,10 @@ use ctt_edits::{Call, Edit, Look, Pattern};
 use ctt_line::Word;
 use ctt_text::{CourseNo, Instance, RoomNo, SlotNo};
 
-/// The words of a line, or of a part of one, that has no list.
+/// The words of a line without a list, or of a part of one: at most nine.
 pub type Words<'i> = ArrayVec<Word<'i>, 9>;
 
-/// The name of a course.
+/// Returns the name of a course.
 pub(crate) fn course<'i>(instance: &'i Instance, number: CourseNo) -> Word<'i>
     requires { number < course_count instance.now }
     ensures { result ≡ course_word instance.now number }
@@ -25,7 +25,7 @@ pub(crate) fn course<'i>(instance: &'i Instance, number: CourseNo) -> Word<'i>
     Word::text(instance.course_name(number))
 }
 
-/// The name of a room.
+/// Returns the name of a room.
 pub(crate) fn room<'i>(instance: &'i Instance, number: RoomNo) -> Word<'i>
     requires { number < room_count instance.now }
     ensures { result ≡ room_word instance.now number }
@@ -33,7 +33,7 @@ pub(crate) fn room<'i>(instance: &'i Instance, number: RoomNo) -> Word<'i>
     Word::text(instance.room_name(number))
 }
 
-/// The day of a slot.
+/// Returns the day of a slot, counted from 0.
 pub(crate) fn day<'i>(instance: &'i Instance, slot: SlotNo) -> Word<'i>
     requires { slot < slot_count instance.now }
     ensures { result ≡ day_word instance.now slot }
@@ -41,7 +41,7 @@ pub(crate) fn day<'i>(instance: &'i Instance, slot: SlotNo) -> Word<'i>
     Word::number(u64::from(instance.day_of(slot)))
 }
 
-/// The period of a slot.
+/// Returns the period of a slot, counted from 0.
 pub(crate) fn period<'i>(instance: &'i Instance, slot: SlotNo) -> Word<'i>
     requires { slot < slot_count instance.now }
     ensures { result ≡ period_word instance.now slot }
@@ -49,7 +49,7 @@ pub(crate) fn period<'i>(instance: &'i Instance, slot: SlotNo) -> Word<'i>
     Word::number(u64::from(instance.period_of(slot)))
 }
 
-/// The words of a kind with a course and a slot.
+/// Returns a keyword, a course, and the day and period of a slot.
 fn of_course_and_slot<'i>(
     kind: &'i str,
     instance: &'i Instance,
@@ -70,7 +70,7 @@ fn of_course_and_slot<'i>(
     words
 }
 
-/// The words of a kind with a course, a room and a slot.
+/// Returns a keyword, a course, a room, and the day and period of a slot.
 fn of_lecture<'i>(
     kind: &'i str,
     instance: &'i Instance,
@@ -95,7 +95,7 @@ fn of_lecture<'i>(
     words
 }
 
-/// The words of an edit.
+/// Returns the words of an edit, beginning with its keyword.
 pub fn words_of_edit<'i>(instance: &'i Instance, edit: &Edit) -> Words<'i>
     requires { EditFits instance.now edit.now }
     ensures words { result.items ≡ edit_words instance.now edit.now }
@@ -122,14 +122,14 @@ pub fn words_of_edit<'i>(instance: &'i Instance, edit: &Edit) -> Words<'i>
     }
 }
 
-/// Any, for what is left open.
+/// Returns `*`, which stands for any room, day, period or course.
 fn any<'i>() -> Word<'i>
     ensures { result ≡ codes "*" }
 {
     Word::text("*")
 }
 
-/// A room, or any.
+/// Returns the name of a room, or `*` for any.
 fn room_choice<'i>(instance: &'i Instance, choice: &Option<RoomNo>) -> Word<'i>
     requires { FitsIfGiven (room_count instance.now) choice.now }
     ensures { result ≡ room_choice_word instance.now choice.now }
@@ -140,7 +140,7 @@ fn room_choice<'i>(instance: &'i Instance, choice: &Option<RoomNo>) -> Word<'i>
     }
 }
 
-/// The day of a slot, or any.
+/// Returns the day of a slot, or `*` for any slot.
 fn day_choice<'i>(instance: &'i Instance, choice: &Option<SlotNo>) -> Word<'i>
     requires { FitsIfGiven (slot_count instance.now) choice.now }
     ensures { result ≡ day_choice_word instance.now choice.now }
@@ -151,7 +151,7 @@ fn day_choice<'i>(instance: &'i Instance, choice: &Option<SlotNo>) -> Word<'i>
     }
 }
 
-/// The period of a slot, or any.
+/// Returns the period of a slot, or `*` for any slot.
 fn period_choice<'i>(instance: &'i Instance, choice: &Option<SlotNo>) -> Word<'i>
     requires { FitsIfGiven (slot_count instance.now) choice.now }
     ensures { result ≡ period_choice_word instance.now choice.now }
@@ -162,7 +162,7 @@ fn period_choice<'i>(instance: &'i Instance, choice: &Option<SlotNo>) -> Word<'i
     }
 }
 
-/// The words of an edit pattern.
+/// Returns the words of an edit pattern, with `*` for what it leaves open.
 fn words_of_pattern<'i>(instance: &'i Instance, pattern: &Pattern) -> Words<'i>
     requires { PatternFits instance.now pattern.now }
     ensures words { result.items ≡ pattern_words instance.now pattern.now }
@@ -204,7 +204,7 @@ fn words_of_pattern<'i>(instance: &'i Instance, pattern: &Pattern) -> Words<'i>
     }
 }
 
-/// One word alone.
+/// Returns one word alone.
 pub(crate) fn one<'i>(word: Word<'i>) -> Words<'i>
     ensures words { result.items ≡ word.entry ∷ [] }
     ensures few { array_vec_len result ≡ 1 }
@@ -214,7 +214,7 @@ pub(crate) fn one<'i>(word: Word<'i>) -> Words<'i>
     words
 }
 
-/// A kind and one word more.
+/// Returns a keyword and one more word.
 pub(crate) fn two<'i>(kind: &'i str, word: Word<'i>) -> Words<'i>
     ensures words { result.items ≡ kind.now ∷ word.entry ∷ [] }
     ensures few { array_vec_len result ≡ 2 }
@@ -224,7 +224,7 @@ pub(crate) fn two<'i>(kind: &'i str, word: Word<'i>) -> Words<'i>
     words
 }
 
-/// The words of a slot.
+/// Returns a keyword, and the day and period of a slot.
 pub(crate) fn words_of_slot<'i>(kind: &'i str, instance: &'i Instance, slot: SlotNo) -> Words<'i>
     requires { slot < slot_count instance.now }
     ensures words { result.items ≡ kind.now ∷ day_word instance.now slot
@@ -236,7 +236,7 @@ pub(crate) fn words_of_slot<'i>(kind: &'i str, instance: &'i Instance, slot: Slo
     words
 }
 
-/// Words after another one.
+/// Puts a word in front of others.
 pub(crate) fn after<'i>(first: Word<'i>, words: Words<'i>) -> Words<'i>
     requires { array_vec_len words ≤ 8 }
     ensures words { result.items ≡ first.entry ∷ words.entry.items }
@@ -247,7 +247,7 @@ pub(crate) fn after<'i>(first: Word<'i>, words: Words<'i>) -> Words<'i>
     words
 }
 
-/// The words of a look.
+/// Returns the words of a look, beginning with its keyword.
 fn words_of_look<'i>(instance: &'i Instance, look: &Look) -> Words<'i>
     requires { LookFits instance.now look.now }
     ensures { result.items ≡ look_words instance.now look.now }
@@ -273,7 +273,7 @@ fn words_of_look<'i>(instance: &'i Instance, look: &Look) -> Words<'i>
     }
 }
 
-/// The words of a call.
+/// Returns the words of a call, beginning with its keyword.
 pub fn words_of_call<'i>(instance: &'i Instance, call: &Call) -> Words<'i>
     requires { CallFits instance.now call.now }
     ensures { result.items ≡ call_words instance.now call.now }

@@ -1,4 +1,4 @@
-//! Reading the words of a call.
+//! Parsing calls.
 
 ghost use Rattle.ctt_script.specs.JournalWords.{reads, IsRead};
 ghost use Rattle.ctt_script.specs.CallPlaces.{edit_after, edit_form, look_after, look_form, call_after, call_form};
@@ -15,7 +15,7 @@ use crate::places::{
 use ctt_edits::{Call, Edit, Look};
 use ctt_text::{Instance, Reader};
 
-/// What stands behind `place`.
+/// Parses what follows `place`: a course, a room and a slot.
 #[tactic(auto, using(crate::proofs::JournalSteps::read_bind, crate::proofs::JournalSteps::read_done), unfolding(crate::specs::CallPlaces::edit_after))]
 fn read_place(reader: &mut Reader, instance: &Instance) -> Result<Edit, JournalFault>
     ensures { IsRead (λ edit. (edit, reader.new)) result
@@ -27,7 +27,7 @@ fn read_place(reader: &mut Reader, instance: &Instance) -> Result<Edit, JournalF
     Ok(Edit::Place(course, slot, room))
 }
 
-/// What stands behind `move`.
+/// Parses what follows `move`: a course, its slot, a room and a target slot.
 #[tactic(auto, using(crate::proofs::JournalSteps::read_bind, crate::proofs::JournalSteps::read_done), unfolding(crate::specs::CallPlaces::edit_after))]
 fn read_move(reader: &mut Reader, instance: &Instance) -> Result<Edit, JournalFault>
     ensures { IsRead (λ edit. (edit, reader.new)) result
@@ -40,7 +40,7 @@ fn read_move(reader: &mut Reader, instance: &Instance) -> Result<Edit, JournalFa
     Ok(Edit::Move(course, slot, target, room))
 }
 
-/// What stands behind `swap`.
+/// Parses what follows `swap`: a course and its slot, and another course and its slot.
 #[tactic(auto, using(crate::proofs::JournalSteps::read_bind, crate::proofs::JournalSteps::read_done), unfolding(crate::specs::CallPlaces::edit_after))]
 fn read_swap(reader: &mut Reader, instance: &Instance) -> Result<Edit, JournalFault>
     ensures { IsRead (λ edit. (edit, reader.new)) result
@@ -53,7 +53,7 @@ fn read_swap(reader: &mut Reader, instance: &Instance) -> Result<Edit, JournalFa
     Ok(Edit::Swap(course, slot, other, other_slot))
 }
 
-/// What stands behind `reroom`.
+/// Parses what follows `reroom`: a course, a room and a slot.
 #[tactic(auto, using(crate::proofs::JournalSteps::read_bind, crate::proofs::JournalSteps::read_done), unfolding(crate::specs::CallPlaces::edit_after))]
 fn read_reroom(reader: &mut Reader, instance: &Instance) -> Result<Edit, JournalFault>
     ensures { IsRead (λ edit. (edit, reader.new)) result
@@ -65,7 +65,7 @@ fn read_reroom(reader: &mut Reader, instance: &Instance) -> Result<Edit, Journal
     Ok(Edit::Reroom(course, slot, room))
 }
 
-/// What stands behind `drop`.
+/// Parses what follows `drop`: a course and its slot.
 #[tactic(auto, using(crate::proofs::JournalSteps::read_bind, crate::proofs::JournalSteps::read_done), unfolding(crate::specs::CallPlaces::edit_after))]
 fn read_drop(reader: &mut Reader, instance: &Instance) -> Result<Edit, JournalFault>
     ensures { IsRead (λ edit. (edit, reader.new)) result
@@ -76,7 +76,7 @@ fn read_drop(reader: &mut Reader, instance: &Instance) -> Result<Edit, JournalFa
     Ok(Edit::Drop(course, slot))
 }
 
-/// What stands behind the word of an edit.
+/// Parses what follows the keyword of an edit.
 fn read_edit_after(
     reader: &mut Reader,
     instance: &Instance,
@@ -94,7 +94,7 @@ fn read_edit_after(
     }
 }
 
-/// The words of an edit.
+/// Parses an edit.
 #[tactic(auto, using(crate::proofs::JournalSteps::read_bind), unfolding(crate::specs::CallPlaces::edit_form))]
 pub(crate) fn read_edit(reader: &mut Reader, instance: &Instance) -> Result<Edit, JournalFault>
     ensures { IsRead (λ edit. (edit, reader.new)) result
@@ -104,7 +104,7 @@ pub(crate) fn read_edit(reader: &mut Reader, instance: &Instance) -> Result<Edit
     read_edit_after(reader, instance, kind)
 }
 
-/// What follows `cheapest`.
+/// Parses what follows `cheapest`: a count of at most 1000 and an edit pattern.
 #[tactic(auto, using(crate::proofs::JournalSteps::read_bind, crate::proofs::JournalSteps::read_done), unfolding(crate::specs::CallPlaces::look_after))]
 fn read_cheapest(reader: &mut Reader, instance: &Instance) -> Result<Look, JournalFault>
     ensures { IsRead (λ look. (look, reader.new)) result
@@ -115,7 +115,7 @@ fn read_cheapest(reader: &mut Reader, instance: &Instance) -> Result<Look, Journ
     Ok(Look::Cheapest(count, pattern))
 }
 
-/// What stands behind the word of a look.
+/// Parses what follows the keyword of a look.
 #[tactic(auto, using(crate::proofs::JournalSteps::read_bind, crate::proofs::JournalSteps::read_done), unfolding(crate::specs::CallPlaces::look_after))]
 fn read_look_after(
     reader: &mut Reader,
@@ -138,7 +138,7 @@ fn read_look_after(
     })
 }
 
-/// The words of a look.
+/// Parses a look.
 #[tactic(auto, using(crate::proofs::JournalSteps::read_bind), unfolding(crate::specs::CallPlaces::look_form))]
 pub(crate) fn read_look(reader: &mut Reader, instance: &Instance) -> Result<Look, JournalFault>
     ensures { IsRead (λ look. (look, reader.new)) result
@@ -148,7 +148,7 @@ pub(crate) fn read_look(reader: &mut Reader, instance: &Instance) -> Result<Look
     read_look_after(reader, instance, kind)
 }
 
-/// What stands behind the word of a call.
+/// Parses what follows the keyword of a call.
 #[tactic(auto, using(crate::proofs::JournalSteps::read_bind, crate::proofs::JournalSteps::read_done), unfolding(crate::specs::CallPlaces::call_after))]
 pub(crate) fn read_call_after(
     reader: &mut Reader,
@@ -164,7 +164,7 @@ pub(crate) fn read_call_after(
     }
 }
 
-/// The words of a call.
+/// Parses a call.
 #[tactic(auto, using(crate::proofs::JournalSteps::read_bind), unfolding(crate::specs::CallPlaces::call_form))]
 pub(crate) fn read_call(reader: &mut Reader, instance: &Instance) -> Result<Call, JournalFault>
     ensures { IsRead (λ call. (call, reader.new)) result

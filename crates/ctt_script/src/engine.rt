@@ -53,7 +53,7 @@ fn answer_event<'i, S: Sheet<'i>>(
     Ok(())
 }
 
-/// Adds the answer to a line, if the line has words.
+/// Answers a line of a script if it has words, and adds the line of the answer.
 fn answer_line<'i, S: Sheet<'i>>(
     desk: &mut Desk<'i, S>,
     instance: &Instance,
@@ -74,7 +74,7 @@ fn answer_line<'i, S: Sheet<'i>>(
     }
 }
 
-/// Answers the lines of a script, writes the answers, and passes them on.
+/// Answers the lines of a script, and writes the answers to the sink in blocks.
 fn answer_lines<'i, S: Sheet<'i>, W: Sink>(
     alloc: Global,
     desk: &mut Desk<'i, S>,
@@ -106,13 +106,13 @@ fn answer_lines<'i, S: Sheet<'i>, W: Sink>(
     Ok(())
 }
 
-/// Runs a script of 64 planners on a desk whose opening timetable has these lectures, placed in their
-/// order, and writes the answers: a line for each line that has words. The desk is handed back as the
+/// Runs a script of 64 planners on a desk whose opening timetable has these lectures, placed in
+/// this order, and writes one answer line for each line that has words. Returns the desk as the
 /// script leaves it.
 ///
-/// The script is read whole before anything is written, and it is not read where the opening is
-/// refused. A flush that fails is a failed write. Where a write fails, or memory is wanted, a front of the
-/// answers may have been written.
+/// The whole script is read before anything is written, and none of it is read if the opening is
+/// refused. A failed flush counts as a failed write. If a write fails, or memory runs out, a prefix
+/// of the answers may have been written.
 #[tactic(auto, using(crate::proofs::ScriptRuns::not_read))]
 pub fn run_script<'i, R: Source, W: Sink>(
     alloc: Global,

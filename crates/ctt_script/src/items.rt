@@ -1,4 +1,4 @@
-//! The items of the lists that replies give.
+//! The items of the lists in replies.
 
 use crate::call_words::{Words, after, course, day, period, room, two, words_of_edit};
 use arrayvec::ArrayVec;
@@ -6,18 +6,18 @@ use ctt_edits::{PricedEdit, Shortfall};
 use ctt_line::Word;
 use ctt_text::{Instance, Placed};
 
-/// What a list of a reply has.
+/// An item of a list in a reply: a lecture, a shortfall or a priced edit.
 pub(crate) trait Item {
     ghost use Rattle.std.specs.Prelude.{◌≡◌, List, ℕ};
     ghost use Rattle.ctt_text.specs.Problem.{Problem};
 
-    /// It is of an instance.
+    /// The item fits the instance: its numbers are in range.
     ghost fits: { Problem → Self → Type 0 };
 
-    /// Its words in a line.
+    /// The words of the item on a line.
     ghost words: { Problem → Self → List (List ℕ) };
 
-    /// Its words in a line.
+    /// Returns the words of the item on a line.
     fn words<'i>(&self, instance: &'i Instance) -> Words<'i>
         requires { fits instance.now self.now }
         ensures { result.items ≡ words instance.now self.now };

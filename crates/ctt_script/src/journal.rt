@@ -1,4 +1,4 @@
-//! Reading a journal.
+//! Parsing journals.
 
 ghost use Rattle.std.specs.Prelude.{◌≡◌, ◌⊎◌, ℕ, List, IfOk, IfErr, OnOk, MatchResult, Ok, Err};
 ghost use Rattle.std.specs.List.{AllByRecursion as Each};
@@ -26,7 +26,7 @@ use ctt_draft::{Asked, AskedCalls};
 use ctt_text::{Instance, Reader};
 use std::alloc::Global;
 
-/// The words of a call and of its reply.
+/// Parses a call and its reply.
 #[tactic(auto, using(crate::proofs::JournalSteps::read_bind, crate::proofs::JournalSteps::read_done), unfolding(crate::specs::JournalPlaces::asked_form))]
 fn read_asked(
     alloc: Global,
@@ -41,7 +41,7 @@ fn read_asked(
     Ok(Asked { call, reply })
 }
 
-/// One more call with its reply.
+/// Parses a call and its reply, and adds them to the list.
 #[tactic(auto, using(crate::proofs::JournalSteps::read_one_more))]
 fn read_one_asked(
     alloc: Global,
@@ -57,7 +57,7 @@ fn read_one_asked(
     Ok(())
 }
 
-/// So many calls with their replies.
+/// Parses `count` calls with their replies.
 fn read_so_many_asked(
     alloc: Global,
     reader: &mut Reader,
@@ -74,9 +74,10 @@ fn read_so_many_asked(
     Ok(asked)
 }
 
-/// An entry.
+/// Parses an entry.
 ///
-/// The fault names the first word that cannot stand in its place, given the words before it, or that is missing there.
+/// A fault other than [`JournalFault::NoMemory`] names the first word that the grammar does not
+/// allow after the earlier ones, or that is missing.
 #[tactic(auto, using(crate::proofs::JournalSteps::read_bind, crate::proofs::JournalSteps::read_done), unfolding(crate::specs::JournalPlaces::entry_form))]
 pub fn read_entry(
     alloc: Global,
@@ -96,7 +97,7 @@ pub fn read_entry(
     })
 }
 
-/// One more entry.
+/// Parses an entry, and adds it to the list.
 #[tactic(auto, using(crate::proofs::JournalSteps::read_one_more))]
 fn read_one_entry(
     alloc: Global,
@@ -112,7 +113,7 @@ fn read_one_entry(
     Ok(())
 }
 
-/// So many entries.
+/// Parses `count` entries.
 fn read_so_many_entries(
     alloc: Global,
     reader: &mut Reader,
@@ -129,7 +130,7 @@ fn read_so_many_entries(
     Ok(entries)
 }
 
-/// All words up to the one at the end.
+/// Parses a journal, from `journal` to `END.`.
 #[tactic(auto, using(crate::proofs::JournalSteps::read_bind, crate::proofs::JournalSteps::read_done), unfolding(crate::specs::JournalPlaces::journal_form))]
 fn read_entries(
     alloc: Global,
@@ -146,7 +147,7 @@ fn read_entries(
     Ok(entries)
 }
 
-/// Reads a journal from a text.
+/// Parses a journal from a text, and ignores what follows its `END.`.
 fn read_text(
     alloc: Global,
     instance: &Instance,
@@ -159,11 +160,11 @@ fn read_text(
     read_entries(alloc, &mut reader, instance)
 }
 
-/// Reads a journal from the bytes of its file.
+/// Parses a journal from the bytes of its file, and ignores what follows its `END.`.
 ///
-/// What is read are the entries that the text spells. A text that is not UTF-8 is refused as
-/// [`JournalFault::NotText`], whatever its words; else the fault names the first word that cannot
-/// stand in its place, given the words before it.
+/// A text that is not UTF-8 is refused with [`JournalFault::NotText`], whatever its words. Any
+/// other fault except [`JournalFault::NoMemory`] names the first word that the grammar does not
+/// allow after the earlier ones, or that is missing.
 pub fn read_journal(
     alloc: Global,
     instance: &Instance,

@@ -1,4 +1,4 @@
-//! Why a journal could not be read.
+//! Why a journal could not be parsed.
 
 ghost use Rattle.std.specs.Prelude.{◌≡◌};
 ghost use Rattle.ctt_script.specs.declared.journal_fault.JournalFault.TheVariants as journal_fault;
@@ -6,14 +6,14 @@ ghost use Rattle.ctt_script.specs.declared.journal_fault.JournalFault.TheVariant
 use ctt_text::{FixedFault, NoMemory, PlaceFault, RoomFault, SlotFault};
 use std::alloc::{AllocError, AllocFailed};
 
-/// Why a journal could not be read. A fault names a word, counted from 1, or `NotText` a byte.
+/// Why a journal could not be parsed. Words are counted from 1.
 #[derive(Clone, Copy, PartialEq, Eq)]
 pub enum JournalFault {
-    /// The text is not UTF-8; so many bytes at its beginning are.
+    /// The text is not UTF-8; this is the length in bytes of its longest valid prefix.
     NotText(u64),
-    /// The words end where this word belongs.
+    /// The text ends before this word, which is missing.
     Missing(u64),
-    /// This word cannot stand in its place.
+    /// This word is not allowed in its place.
     BadWord(u64),
     /// There is not enough memory.
     NoMemory,

@@ -1,10 +1,10 @@
-//! The words by which calls, replies and faults are known.
+//! The keywords of calls, replies and faults.
 
 ghost use Rattle.std.specs.Prelude.{◌≡◌};
 ghost use Rattle.std.specs.Str.{bytes_eq};
 ghost use Rattle.ctt_script.specs.Kinds.{edit_kind, pattern_kind, look_kind, call_kind, step_kind, reply_kind, fault_kind};
 
-/// Which edit.
+/// The kind of an edit.
 #[derive(Clone, Copy)]
 pub(crate) enum EditKind {
     Place,
@@ -14,7 +14,7 @@ pub(crate) enum EditKind {
     Drop,
 }
 
-/// Which look.
+/// The kind of a look.
 #[derive(Clone, Copy)]
 pub(crate) enum LookKind {
     Course,
@@ -28,7 +28,7 @@ pub(crate) enum LookKind {
     Cheapest,
 }
 
-/// Which edit pattern.
+/// The kind of an edit pattern.
 #[derive(Clone, Copy)]
 pub(crate) enum PatternKind {
     Place,
@@ -37,14 +37,14 @@ pub(crate) enum PatternKind {
     Reroom,
 }
 
-/// Which call.
+/// The kind of a call.
 #[derive(Clone, Copy)]
 pub(crate) enum CallKind {
     Edit(EditKind),
     Look(LookKind),
 }
 
-/// Which step of a planner.
+/// The kind of a planner's step.
 #[derive(Clone, Copy)]
 pub(crate) enum StepKind {
     Open,
@@ -56,7 +56,7 @@ pub(crate) enum StepKind {
     Ask(CallKind),
 }
 
-/// Which reply.
+/// The kind of a reply.
 #[derive(Clone, Copy)]
 pub(crate) enum ReplyKind {
     Done,
@@ -68,7 +68,7 @@ pub(crate) enum ReplyKind {
     Edits,
 }
 
-/// Which fault of an edit.
+/// The kind of an edit's fault.
 #[derive(Clone, Copy)]
 pub(crate) enum FaultKind {
     NotPlaced,
@@ -82,8 +82,8 @@ pub(crate) enum FaultKind {
     RoomTaken,
 }
 
-/// Whether a word is this text. The text is a literal where this is called, so that its bytes are compared
-/// in place and nothing is called.
+/// Returns whether a word equals a text. Callers pass a literal, so that once inlined its bytes are
+/// compared in place, without a call.
 #[inline(always)]
 #[tactic(auto, using(crate::proofs::KindLemmas::other_length, crate::proofs::KindLemmas::other_at, crate::proofs::KindLemmas::same_all, crate::proofs::KindLemmas::same_more))]
 pub fn is_word(word: &str, text: &str) -> bool
@@ -103,7 +103,7 @@ pub fn is_word(word: &str, text: &str) -> bool
     true
 }
 
-/// The edit that a word begins.
+/// Returns the kind of edit that a keyword stands for.
 #[tactic(auto, unfolding(crate::specs::Kinds::edit_kind))]
 pub(crate) fn edit_kind(word: &str) -> Option<EditKind>
     ensures { result ≡ edit_kind word.now }
@@ -123,7 +123,7 @@ pub(crate) fn edit_kind(word: &str) -> Option<EditKind>
     }
 }
 
-/// The look that a word begins.
+/// Returns the kind of look that a keyword stands for.
 #[tactic(auto, unfolding(crate::specs::Kinds::look_kind))]
 pub(crate) fn look_kind(word: &str) -> Option<LookKind>
     ensures { result ≡ look_kind word.now }
@@ -151,7 +151,7 @@ pub(crate) fn look_kind(word: &str) -> Option<LookKind>
     }
 }
 
-/// The edit pattern that a word begins.
+/// Returns the kind of edit pattern that a keyword stands for.
 #[tactic(auto, unfolding(crate::specs::Kinds::pattern_kind))]
 pub(crate) fn pattern_kind(word: &str) -> Option<PatternKind>
     ensures { result ≡ pattern_kind word.now }
@@ -169,7 +169,7 @@ pub(crate) fn pattern_kind(word: &str) -> Option<PatternKind>
     }
 }
 
-/// The call that a word begins.
+/// Returns the kind of call that a keyword stands for.
 #[tactic(auto, unfolding(crate::specs::Kinds::call_kind))]
 pub(crate) fn call_kind(word: &str) -> Option<CallKind>
     ensures { result ≡ call_kind word.now }
@@ -180,7 +180,7 @@ pub(crate) fn call_kind(word: &str) -> Option<CallKind>
     }
 }
 
-/// The step that a word begins.
+/// Returns the kind of step that a keyword stands for.
 #[inline(always)]
 #[tactic(auto, unfolding(crate::specs::Kinds::step_kind))]
 pub(crate) fn step_kind(word: &str) -> Option<StepKind>
@@ -203,7 +203,7 @@ pub(crate) fn step_kind(word: &str) -> Option<StepKind>
     }
 }
 
-/// The reply that a word begins.
+/// Returns the kind of reply that a keyword stands for.
 #[tactic(auto, unfolding(crate::specs::Kinds::reply_kind))]
 pub(crate) fn reply_kind(word: &str) -> Option<ReplyKind>
     ensures { result ≡ reply_kind word.now }
@@ -227,7 +227,7 @@ pub(crate) fn reply_kind(word: &str) -> Option<ReplyKind>
     }
 }
 
-/// The fault that a word names.
+/// Returns the kind of fault that a keyword stands for.
 #[tactic(auto, unfolding(crate::specs::Kinds::fault_kind))]
 pub(crate) fn fault_kind(word: &str) -> Option<FaultKind>
     ensures { result ≡ fault_kind word.now }

@@ -1,4 +1,4 @@
-//! Reading and writing whole texts: scripts and their answers, and journals.
+//! Parsing and running scripts, writing their answers, and parsing and writing journals.
 #![tactic(auto)]
 
 mod amounts;

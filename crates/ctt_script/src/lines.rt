@@ -7,7 +7,8 @@ ghost use Rattle.ctt_script.specs.ScriptText.{lines_of};
 use memchr::memchr;
 use std::marker::Model;
 
-/// The lines of a text, from the front: they end at byte 10, and the last line needs none.
+/// An iterator over the lines of a text, split at each newline (byte 10). A text that ends with a
+/// newline has an empty last line.
 #[derive(Drop)]
 pub struct Lines<'a> {
     rest: &'a [u8],
@@ -23,7 +24,7 @@ impl<'a> Model for Lines<'a> {
     ghost view = { λ l. cond l.is_done [] (lines_of l.rest.now) };
 }
 
-/// Where the first line ends.
+/// Returns the index of the first newline.
 pub fn line_end(text: &[u8]) -> Option<usize>
     ensures { result ≡ position (λ b. b == 10) text.now }
 {
@@ -31,6 +32,7 @@ pub fn line_end(text: &[u8]) -> Option<usize>
 }
 
 impl<'a> Lines<'a> {
+    /// Starts at the first line of a text.
     pub fn new(text: &'a [u8]) -> Self
         ensures { result ≡ lines_of text.now }
     {

@@ -1,4 +1,4 @@
-//! Reading the words of an edit pattern.
+//! Parsing edit patterns.
 
 ghost use Rattle.std.specs.Prelude.{◌≡◌, ◌<◌, IfOk, IfSome, None, codes};
 ghost use Rattle.ctt_text.specs.Problem.{number_in};
@@ -16,7 +16,7 @@ use crate::places::{
 use ctt_edits::Pattern;
 use ctt_text::{Instance, Reader, RoomNo, SlotNo};
 
-/// The room that a word names, or any for `*`.
+/// Returns the room that a word names, or `Some(None)` for `*`, which stands for any room.
 fn room_or_any(instance: &Instance, word: &str) -> Option<Option<RoomNo>>
     ensures { result ≡ any_or (number_in instance.now.room_names) word.now }
 {
@@ -27,7 +27,7 @@ fn room_or_any(instance: &Instance, word: &str) -> Option<Option<RoomNo>>
     }
 }
 
-/// A room by its name, or any.
+/// Parses the name of a room, or `*` for any.
 #[tactic(auto, using(crate::proofs::JournalSteps::read_word), unfolding(crate::specs::CallPlaces::room_choice))]
 fn read_room_choice(
     reader: &mut Reader,
@@ -41,7 +41,7 @@ fn read_room_choice(
     room_or_any(instance, word).ok_or(JournalFault::BadWord(at))
 }
 
-/// The number below a limit that a word is, or any for `*`.
+/// Returns the number less than `limit` that a word gives, or `Some(None)` for `*`.
 fn below_or_any(word: &str, limit: u16) -> Option<Option<u16>>
     ensures number { result ≡ any_or (number_below limit) word.now }
     ensures small { IfSome result (λ number. IfSome number (λ n. n < limit)) }
@@ -53,7 +53,7 @@ fn below_or_any(word: &str, limit: u16) -> Option<Option<u16>>
     }
 }
 
-/// A number below a limit, or any.
+/// Parses a number less than `limit`, or `*` for any.
 #[tactic(auto, using(crate::proofs::JournalSteps::read_word))]
 fn read_below_or_any(reader: &mut Reader, limit: u16) -> Result<Option<u16>, JournalFault>
     ensures limit { IfOk result (λ number. IfSome number (λ n. n < limit)) }
@@ -65,7 +65,7 @@ fn read_below_or_any(reader: &mut Reader, limit: u16) -> Result<Option<u16>, Jou
     below_or_any(word, limit).ok_or(JournalFault::BadWord(at))
 }
 
-/// What follows the day of a slot, or the first `*` for any slot.
+/// Parses what follows the day of a slot: its period or, if the day was `*`, a second `*`.
 #[tactic(auto, using(crate::proofs::JournalSteps::read_bind, crate::proofs::JournalSteps::read_done), unfolding(crate::specs::CallPlaces::slot_after))]
 fn read_slot_after(
     reader: &mut Reader,
@@ -88,7 +88,7 @@ fn read_slot_after(
     }
 }
 
-/// A day and a period in the day, as their slot, or any slot.
+/// Parses a day and a period as their slot, or `* *` for any slot.
 #[tactic(auto, using(crate::proofs::JournalSteps::read_bind), unfolding(crate::specs::CallPlaces::slot_choice))]
 fn read_slot_choice(
     reader: &mut Reader,
@@ -101,7 +101,7 @@ fn read_slot_choice(
     read_slot_after(reader, instance, day)
 }
 
-/// What follows `place`.
+/// Parses what follows `place`: a course, a room or `*`, and a slot or `* *`.
 #[tactic(auto, using(crate::proofs::JournalSteps::read_bind, crate::proofs::JournalSteps::read_done), unfolding(crate::specs::CallPlaces::pattern_after))]
 fn read_place(reader: &mut Reader, instance: &Instance) -> Result<Pattern, JournalFault>
     ensures { IsRead (λ pattern. (pattern, reader.new)) result
@@ -113,7 +113,7 @@ fn read_place(reader: &mut Reader, instance: &Instance) -> Result<Pattern, Journ
     Ok(Pattern::Place(course, slot, room))
 }
 
-/// What follows `move`.
+/// Parses what follows `move`: a course, its slot, a room or `*`, and a target slot or `* *`.
 #[tactic(auto, using(crate::proofs::JournalSteps::read_bind, crate::proofs::JournalSteps::read_done), unfolding(crate::specs::CallPlaces::pattern_after))]
 fn read_move(reader: &mut Reader, instance: &Instance) -> Result<Pattern, JournalFault>
     ensures { IsRead (λ pattern. (pattern, reader.new)) result
@@ -126,7 +126,7 @@ fn read_move(reader: &mut Reader, instance: &Instance) -> Result<Pattern, Journa
     Ok(Pattern::Move(course, slot, target, room))
 }
 
-/// What follows `swap`.
+/// Parses what follows `swap`: a course, its slot, and `* * *` for any other lecture.
 #[tactic(auto, using(crate::proofs::JournalSteps::read_bind, crate::proofs::JournalSteps::read_done), unfolding(crate::specs::CallPlaces::pattern_after))]
 fn read_swap(reader: &mut Reader, instance: &Instance) -> Result<Pattern, JournalFault>
     ensures { IsRead (λ pattern. (pattern, reader.new)) result
@@ -140,7 +140,7 @@ fn read_swap(reader: &mut Reader, instance: &Instance) -> Result<Pattern, Journa
     Ok(Pattern::Swap(course, slot))
 }
 
-/// What follows `reroom`.
+/// Parses what follows `reroom`: a course, a room or `*`, and a slot.
 #[tactic(auto, using(crate::proofs::JournalSteps::read_bind, crate::proofs::JournalSteps::read_done), unfolding(crate::specs::CallPlaces::pattern_after))]
 fn read_reroom(reader: &mut Reader, instance: &Instance) -> Result<Pattern, JournalFault>
     ensures { IsRead (λ pattern. (pattern, reader.new)) result
@@ -152,7 +152,7 @@ fn read_reroom(reader: &mut Reader, instance: &Instance) -> Result<Pattern, Jour
     Ok(Pattern::Reroom(course, slot, room))
 }
 
-/// What follows the word of an edit pattern.
+/// Parses what follows the keyword of an edit pattern.
 fn read_pattern_after(
     reader: &mut Reader,
     instance: &Instance,
@@ -169,7 +169,7 @@ fn read_pattern_after(
     }
 }
 
-/// The words of an edit pattern.
+/// Parses an edit pattern.
 #[tactic(auto, using(crate::proofs::JournalSteps::read_bind), unfolding(crate::specs::CallPlaces::pattern_form))]
 pub(crate) fn read_pattern(
     reader: &mut Reader,

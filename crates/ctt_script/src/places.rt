@@ -1,4 +1,4 @@
-//! One place of the text of a journal: one word, by what it means.
+//! Parsing the single words of journals and scripts by their meaning.
 
 ghost use Rattle.std.specs.Prelude.{◌<◌, IfOk, pos};
 ghost use Rattle.ctt_text.specs.Reading.{word_at};
@@ -25,21 +25,21 @@ use ctt_text::{
     next_number, next_room, next_word,
 };
 
-/// The next word, whatever it is.
+/// Parses any word.
 pub(crate) fn read_word<'a>(reader: &mut Reader<'a>) -> Result<&'a str, JournalFault>
     ensures { IsRead (λ word. (word.now, reader.new)) result (word_at missing reader.old) }
 {
     next_word(reader)
 }
 
-/// The word of this place.
+/// Parses this fixed word.
 pub(crate) fn read_label(reader: &mut Reader, text: &str) -> Result<(), JournalFault>
     ensures { IsRead (λ _. (tt, reader.new)) result (reads (label text.now) reader.old) }
 {
     next_fixed(reader, text)
 }
 
-/// A number.
+/// Parses a decimal number of at most 999,999,999.
 #[tactic(auto, unfolding(crate::specs::ReplyPlaces::count))]
 pub(crate) fn read_count(reader: &mut Reader) -> Result<u32, JournalFault>
     ensures { IsRead (λ number. (number, reader.new)) result (reads count reader.old) }
@@ -47,7 +47,7 @@ pub(crate) fn read_count(reader: &mut Reader) -> Result<u32, JournalFault>
     next_number(reader)
 }
 
-/// A number below a limit.
+/// Parses a decimal number less than `limit`.
 #[tactic(auto, using(crate::proofs::JournalSteps::read_number_below), unfolding(crate::specs::ReplyPlaces::count))]
 pub(crate) fn read_number_below(reader: &mut Reader, limit: u16) -> Result<u16, JournalFault>
     ensures limit { IfOk result (λ number. number < limit) }
@@ -63,7 +63,7 @@ pub(crate) fn read_number_below(reader: &mut Reader, limit: u16) -> Result<u16, 
     }
 }
 
-/// An amount.
+/// Parses an amount.
 #[tactic(auto, using(crate::proofs::JournalSteps::read_word), unfolding(crate::specs::ReplyPlaces::amount))]
 pub(crate) fn read_amount(reader: &mut Reader) -> Result<u64, JournalFault>
     ensures { IsRead (λ amount. (amount, reader.new)) result (reads amount reader.old) }
@@ -73,7 +73,7 @@ pub(crate) fn read_amount(reader: &mut Reader) -> Result<u64, JournalFault>
     amount(word.as_bytes()).ok_or(JournalFault::BadWord(at))
 }
 
-/// A price.
+/// Parses a price, which may be negative.
 #[tactic(auto, using(crate::proofs::JournalSteps::read_word))]
 pub(crate) fn read_price(reader: &mut Reader) -> Result<i64, JournalFault>
     ensures { IsRead (λ price. (price, reader.new)) result
@@ -84,7 +84,7 @@ pub(crate) fn read_price(reader: &mut Reader) -> Result<i64, JournalFault>
     price(word.as_bytes()).ok_or(JournalFault::BadWord(at))
 }
 
-/// A course by its name.
+/// Parses the name of a course.
 #[tactic(auto, unfolding(crate::specs::CallPlaces::course))]
 pub(crate) fn read_course(
     reader: &mut Reader,
@@ -96,7 +96,7 @@ pub(crate) fn read_course(
     next_course(reader, instance)
 }
 
-/// A room by its name.
+/// Parses the name of a room.
 #[tactic(auto, unfolding(crate::specs::CallPlaces::room))]
 pub(crate) fn read_room(reader: &mut Reader, instance: &Instance) -> Result<RoomNo, JournalFault>
     ensures { IsRead (λ room. (room, reader.new)) result (reads (room instance.now) reader.old) }
@@ -104,7 +104,7 @@ pub(crate) fn read_room(reader: &mut Reader, instance: &Instance) -> Result<Room
     next_room(reader, instance)
 }
 
-/// A teacher by his name.
+/// Parses the name of a teacher.
 #[tactic(auto, using(crate::proofs::JournalSteps::read_name), unfolding(crate::specs::CallPlaces::teacher))]
 pub(crate) fn read_teacher(
     reader: &mut Reader,
@@ -118,7 +118,7 @@ pub(crate) fn read_teacher(
     instance.find_teacher(name).ok_or(JournalFault::BadWord(at))
 }
 
-/// A curriculum by its name.
+/// Parses the name of a curriculum.
 #[tactic(auto, using(crate::proofs::JournalSteps::read_name), unfolding(crate::specs::CallPlaces::curriculum))]
 pub(crate) fn read_curriculum(
     reader: &mut Reader,
@@ -134,7 +134,7 @@ pub(crate) fn read_curriculum(
         .ok_or(JournalFault::BadWord(at))
 }
 
-/// A day and a period in the day, as their slot.
+/// Parses a day and a period of that day, and returns their slot.
 #[inline(always)]
 #[tactic(auto, using(crate::proofs::JournalSteps::read_bind, crate::proofs::JournalSteps::read_done), unfolding(crate::specs::CallPlaces::slot))]
 pub(crate) fn read_slot(reader: &mut Reader, instance: &Instance) -> Result<SlotNo, JournalFault>
@@ -145,7 +145,7 @@ pub(crate) fn read_slot(reader: &mut Reader, instance: &Instance) -> Result<Slot
     Ok(instance.slot_of(day, period))
 }
 
-/// The word of an edit.
+/// Parses the keyword of an edit.
 #[tactic(auto, using(crate::proofs::JournalSteps::read_word))]
 pub(crate) fn read_edit_kind(reader: &mut Reader) -> Result<EditKind, JournalFault>
     ensures { IsRead (λ kind. (kind, reader.new)) result
@@ -156,7 +156,7 @@ pub(crate) fn read_edit_kind(reader: &mut Reader) -> Result<EditKind, JournalFau
     edit_kind(word).ok_or(JournalFault::BadWord(at))
 }
 
-/// The word of a look.
+/// Parses the keyword of a look.
 #[tactic(auto, using(crate::proofs::JournalSteps::read_word))]
 pub(crate) fn read_look_kind(reader: &mut Reader) -> Result<LookKind, JournalFault>
     ensures { IsRead (λ kind. (kind, reader.new)) result
@@ -167,7 +167,7 @@ pub(crate) fn read_look_kind(reader: &mut Reader) -> Result<LookKind, JournalFau
     look_kind(word).ok_or(JournalFault::BadWord(at))
 }
 
-/// The word of an edit pattern.
+/// Parses the keyword of an edit pattern.
 #[tactic(auto, using(crate::proofs::JournalSteps::read_word))]
 pub(crate) fn read_pattern_kind(reader: &mut Reader) -> Result<PatternKind, JournalFault>
     ensures { IsRead (λ kind. (kind, reader.new)) result
@@ -178,7 +178,7 @@ pub(crate) fn read_pattern_kind(reader: &mut Reader) -> Result<PatternKind, Jour
     pattern_kind(word).ok_or(JournalFault::BadWord(at))
 }
 
-/// The word of a call.
+/// Parses the keyword of a call.
 #[tactic(auto, using(crate::proofs::JournalSteps::read_word))]
 pub(crate) fn read_call_kind(reader: &mut Reader) -> Result<CallKind, JournalFault>
     ensures { IsRead (λ kind. (kind, reader.new)) result
@@ -189,7 +189,7 @@ pub(crate) fn read_call_kind(reader: &mut Reader) -> Result<CallKind, JournalFau
     call_kind(word).ok_or(JournalFault::BadWord(at))
 }
 
-/// The word of a reply.
+/// Parses the keyword of a reply.
 #[tactic(auto, using(crate::proofs::JournalSteps::read_word))]
 pub(crate) fn read_reply_kind(reader: &mut Reader) -> Result<ReplyKind, JournalFault>
     ensures { IsRead (λ kind. (kind, reader.new)) result
@@ -200,7 +200,7 @@ pub(crate) fn read_reply_kind(reader: &mut Reader) -> Result<ReplyKind, JournalF
     reply_kind(word).ok_or(JournalFault::BadWord(at))
 }
 
-/// The word of a fault.
+/// Parses the keyword of a fault.
 #[tactic(auto, using(crate::proofs::JournalSteps::read_word))]
 pub(crate) fn read_fault_kind(reader: &mut Reader) -> Result<FaultKind, JournalFault>
     ensures { IsRead (λ kind. (kind, reader.new)) result

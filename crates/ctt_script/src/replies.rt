@@ -1,4 +1,4 @@
-//! Reading the words of a reply.
+//! Parsing replies.
 
 ghost use Rattle.ctt_text.specs.Forms.{list_of, one_more};
 ghost use Rattle.ctt_script.specs.JournalWords.{reads, IsRead, GivesRead};
@@ -16,7 +16,7 @@ use ctt_rules::Cost;
 use ctt_text::{Instance, Placed, Reader};
 use std::alloc::Global;
 
-/// What stands behind the word of a fault.
+/// Parses what follows the keyword of a fault.
 #[tactic(auto, using(crate::proofs::JournalSteps::read_bind, crate::proofs::JournalSteps::read_done), unfolding(crate::specs::ReplyPlaces::fault_after))]
 fn read_fault_after(
     reader: &mut Reader,
@@ -39,7 +39,7 @@ fn read_fault_after(
     }
 }
 
-/// The words of a fault.
+/// Parses a fault.
 #[tactic(auto, using(crate::proofs::JournalSteps::read_bind), unfolding(crate::specs::ReplyPlaces::fault_form))]
 fn read_fault(reader: &mut Reader, instance: &Instance) -> Result<EditFault, JournalFault>
     ensures { IsRead (λ fault. (fault, reader.new)) result
@@ -49,7 +49,7 @@ fn read_fault(reader: &mut Reader, instance: &Instance) -> Result<EditFault, Jou
     read_fault_after(reader, instance, kind)
 }
 
-/// The words of a lecture.
+/// Parses a lecture: a course, a room and a slot.
 #[tactic(auto, using(crate::proofs::JournalSteps::read_bind, crate::proofs::JournalSteps::read_done), unfolding(crate::specs::ReplyPlaces::lecture))]
 fn read_lecture(reader: &mut Reader, instance: &Instance) -> Result<Placed, JournalFault>
     ensures { IsRead (λ lecture. (lecture, reader.new)) result
@@ -61,7 +61,7 @@ fn read_lecture(reader: &mut Reader, instance: &Instance) -> Result<Placed, Jour
     Ok(Placed { course, slot, room })
 }
 
-/// One more lecture.
+/// Parses a lecture, and adds it to the list.
 #[tactic(auto, using(crate::proofs::JournalSteps::read_one_more))]
 fn read_one_lecture(
     reader: &mut Reader,
@@ -76,7 +76,7 @@ fn read_one_lecture(
     Ok(())
 }
 
-/// So many lectures.
+/// Parses `count` lectures.
 fn read_so_many_lectures(
     alloc: Global,
     reader: &mut Reader,
@@ -93,7 +93,7 @@ fn read_so_many_lectures(
     Ok(lectures)
 }
 
-/// A number, and so many lectures.
+/// Parses a count, and that many lectures.
 #[tactic(auto, using(crate::proofs::JournalSteps::read_bind), unfolding(crate::specs::ReplyPlaces::lectures))]
 fn read_lectures(
     alloc: Global,
@@ -107,7 +107,7 @@ fn read_lectures(
     read_so_many_lectures(alloc, reader, instance, count)
 }
 
-/// Four amounts.
+/// Parses the costs for capacity, days, compactness and stability, in this order.
 #[tactic(auto, using(crate::proofs::JournalSteps::read_bind, crate::proofs::JournalSteps::read_done), unfolding(crate::specs::ReplyPlaces::costs))]
 fn read_costs(reader: &mut Reader) -> Result<Cost, JournalFault>
     ensures { IsRead (λ costs. (costs, reader.new)) result (reads costs reader.old) }
@@ -124,7 +124,7 @@ fn read_costs(reader: &mut Reader) -> Result<Cost, JournalFault>
     })
 }
 
-/// A course, and how many of its lectures are missing.
+/// Parses a course and the number of its missing lectures.
 #[tactic(auto, using(crate::proofs::JournalSteps::read_bind, crate::proofs::JournalSteps::read_done), unfolding(crate::specs::ReplyPlaces::shortfall))]
 fn read_shortfall(reader: &mut Reader, instance: &Instance) -> Result<Shortfall, JournalFault>
     ensures { IsRead (λ short. (short, reader.new)) result
@@ -135,7 +135,7 @@ fn read_shortfall(reader: &mut Reader, instance: &Instance) -> Result<Shortfall,
     Ok(Shortfall { course, missing })
 }
 
-/// One more course of which lectures are missing.
+/// Parses a course with missing lectures, and adds it to the list.
 #[tactic(auto, using(crate::proofs::JournalSteps::read_one_more))]
 fn read_one_shortfall(
     reader: &mut Reader,
@@ -150,7 +150,7 @@ fn read_one_shortfall(
     Ok(())
 }
 
-/// So many such courses.
+/// Parses `count` courses with missing lectures.
 fn read_so_many_shortfall(
     alloc: Global,
     reader: &mut Reader,
@@ -167,7 +167,7 @@ fn read_so_many_shortfall(
     Ok(list)
 }
 
-/// A number, and so many courses of which lectures are missing.
+/// Parses a count, and that many courses with missing lectures.
 #[tactic(auto, using(crate::proofs::JournalSteps::read_bind), unfolding(crate::specs::ReplyPlaces::shortfalls))]
 fn read_shortfalls(
     alloc: Global,
@@ -181,7 +181,7 @@ fn read_shortfalls(
     read_so_many_shortfall(alloc, reader, instance, count)
 }
 
-/// A price, and the edit that has it, after those before it.
+/// Parses a price and its edit, and adds them to the list.
 #[tactic(auto, using(crate::proofs::JournalSteps::read_one_priced))]
 fn read_one_priced(
     reader: &mut Reader,
@@ -197,7 +197,7 @@ fn read_one_priced(
     Ok(())
 }
 
-/// So many edits with their prices.
+/// Parses `count` edits with their prices.
 fn read_so_many_priced(
     alloc: Global,
     reader: &mut Reader,
@@ -214,7 +214,7 @@ fn read_so_many_priced(
     Ok(list)
 }
 
-/// A number, and so many edits with their prices.
+/// Parses a count, and that many edits with their prices.
 #[tactic(auto, using(crate::proofs::JournalSteps::read_bind), unfolding(crate::specs::ReplyPlaces::priced_edits))]
 fn read_priced_edits(
     alloc: Global,
@@ -228,7 +228,7 @@ fn read_priced_edits(
     read_so_many_priced(alloc, reader, instance, count)
 }
 
-/// What stands behind the word of a reply.
+/// Parses what follows the keyword of a reply.
 #[tactic(auto, using(crate::proofs::JournalSteps::read_bind, crate::proofs::JournalSteps::read_done), unfolding(crate::specs::ReplyPlaces::reply_after))]
 fn read_reply_after(
     alloc: Global,
@@ -254,7 +254,7 @@ fn read_reply_after(
     }
 }
 
-/// The words of a reply.
+/// Parses a reply.
 #[tactic(auto, using(crate::proofs::JournalSteps::read_bind), unfolding(crate::specs::ReplyPlaces::reply_form))]
 pub(crate) fn read_reply(
     alloc: Global,

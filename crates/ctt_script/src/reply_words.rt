@@ -1,4 +1,4 @@
-//! The words of replies and answers, but for lists.
+//! The words of replies and answers, except for lists.
 
 ghost use Rattle.std.specs.Prelude.{◌≡◌, ◌≤◌, ◌∷◌, IfSome, codes};
 ghost use Rattle.arrayvec.specs.ArrayVec.{array_vec_len};
@@ -14,7 +14,7 @@ use ctt_line::Word;
 use ctt_rules::Cost;
 use ctt_text::Instance;
 
-/// The words of a fault.
+/// Returns the words of a fault: its keyword, and the name of the course if it has one.
 pub fn words_of_fault<'i>(instance: &'i Instance, fault: &EditFault) -> Words<'i>
     requires { FaultFits instance.now fault.now }
     ensures words { result.items ≡ fault_words instance.now fault.now }
@@ -33,7 +33,7 @@ pub fn words_of_fault<'i>(instance: &'i Instance, fault: &EditFault) -> Words<'i
     }
 }
 
-/// The words of four costs.
+/// Returns `costs` and the costs for capacity, days, compactness and stability, in this order.
 pub fn words_of_costs<'i>(cost: &Cost) -> Words<'i>
     ensures { result.items ≡ cost_words cost.now }
 {
@@ -44,7 +44,7 @@ pub fn words_of_costs<'i>(cost: &Cost) -> Words<'i>
     words
 }
 
-/// The words of a row.
+/// Returns the words of a row: `course` and its name, or `slot`, its day and its period.
 fn words_of_row<'i>(instance: &'i Instance, row: &Row) -> Words<'i>
     requires { RowFits instance.now row.now }
     ensures words { result.items ≡ row_words instance.now row.now }
@@ -56,7 +56,7 @@ fn words_of_row<'i>(instance: &'i Instance, row: &Row) -> Words<'i>
     }
 }
 
-/// The words by which a draft is stale, since this row has changed.
+/// Returns the words for a draft that is stale because this row has changed.
 pub(crate) fn words_of_stale<'i>(instance: &'i Instance, row: &Row) -> Words<'i>
     requires { RowFits instance.now row.now }
     ensures words { result.items ≡ codes "stale" ∷ row_words instance.now row.now }
@@ -65,7 +65,7 @@ pub(crate) fn words_of_stale<'i>(instance: &'i Instance, row: &Row) -> Words<'i>
     after(Word::text("stale"), words_of_row(instance, row))
 }
 
-/// The words by which a draft is fresh, or stale by a row.
+/// Returns the words for a draft that is fresh, or stale because of a row.
 fn words_of_freshness<'i>(instance: &'i Instance, stale: &Option<Row>) -> Words<'i>
     requires { IfSome stale.now (RowFits instance.now) }
     ensures words { result.items ≡ freshness_words instance.now stale.now }
@@ -77,7 +77,8 @@ fn words_of_freshness<'i>(instance: &'i Instance, stale: &Option<Row>) -> Words<
     }
 }
 
-/// The words of how a draft stands.
+/// Returns the words of a draft's status: `draft`, the number of its edits, the number of drafts
+/// accepted since its snapshot, and whether it is fresh.
 pub(crate) fn words_of_standing<'i>(instance: &'i Instance, standing: &Standing) -> Words<'i>
     requires { IfSome standing.now.stale (RowFits instance.now) }
     ensures { result.items ≡ standing_words instance.now standing.now }

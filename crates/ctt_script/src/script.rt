@@ -1,4 +1,4 @@
-//! Reading the lines of a script.
+//! Parsing the lines of a script.
 
 ghost use Rattle.std.specs.Prelude.{◌≡◌, ℕ, ◌<◌, Result, IfOk, IfSome, IfNone, OnSome, true};
 ghost use Rattle.std.specs.Str.{IsUtf8};
@@ -23,17 +23,17 @@ use crate::places::read_word;
 use ctt_core::{Event, PlannerNo};
 use ctt_text::{Instance, Reader, Words};
 
-/// How many planners a script has, and a crew at most.
+/// The number of planners in a script, and the most that a crew may have.
 pub const PLANNERS: u16 = 64;
 
-/// How a line begins.
+/// What a line begins with: `show`, or the number of a planner.
 #[derive(Clone, Copy)]
 pub(crate) enum Start {
     Show,
     Planner(PlannerNo),
 }
 
-/// What the first word of a line says.
+/// Returns what the first word of a line means.
 #[tactic(auto, unfolding(crate::specs::ScriptPlaces::first_of))]
 fn first_of(word: &str) -> Option<Start>
     ensures { result ≡ first_of word.now }
@@ -45,7 +45,7 @@ fn first_of(word: &str) -> Option<Start>
     }
 }
 
-/// The first word of a line.
+/// Parses the first word of a line.
 #[tactic(auto, using(crate::proofs::JournalSteps::read_word))]
 fn read_start(reader: &mut Reader) -> Result<Start, JournalFault>
     ensures { IsRead (λ start. (start, reader.new)) result
@@ -56,7 +56,7 @@ fn read_start(reader: &mut Reader) -> Result<Start, JournalFault>
     first_of(word).ok_or(JournalFault::BadWord(at))
 }
 
-/// The word of a step.
+/// Parses the keyword of a step.
 #[tactic(auto, using(crate::proofs::JournalSteps::read_word))]
 fn read_step_kind(reader: &mut Reader) -> Result<StepKind, JournalFault>
     ensures { IsRead (λ kind. (kind, reader.new)) result
@@ -67,7 +67,7 @@ fn read_step_kind(reader: &mut Reader) -> Result<StepKind, JournalFault>
     step_kind(word).ok_or(JournalFault::BadWord(at))
 }
 
-/// What stands behind a planner's number and the word of a step.
+/// Parses what follows the keyword of a planner's step.
 #[inline(always)]
 #[tactic(auto, using(crate::proofs::JournalSteps::read_bind, crate::proofs::JournalSteps::read_done), unfolding(crate::specs::ScriptPlaces::step_after))]
 fn read_step_after(
@@ -90,7 +90,7 @@ fn read_step_after(
     }
 }
 
-/// What stands behind the first word.
+/// Parses what follows the first word of a line.
 #[tactic(auto, using(crate::proofs::JournalSteps::read_bind, crate::proofs::JournalSteps::read_done), unfolding(crate::specs::ScriptPlaces::event_after))]
 fn read_event_after(
     reader: &mut Reader,
@@ -109,7 +109,7 @@ fn read_event_after(
     }
 }
 
-/// The words of an event.
+/// Parses an event.
 #[tactic(auto, using(crate::proofs::JournalSteps::read_bind), unfolding(crate::specs::ScriptPlaces::event_form))]
 fn read_event(reader: &mut Reader, instance: &Instance) -> Result<Event, JournalFault>
     ensures { IsRead (λ event. (event, reader.new)) result
@@ -119,14 +119,14 @@ fn read_event(reader: &mut Reader, instance: &Instance) -> Result<Event, Journal
     read_event_after(reader, instance, start)
 }
 
-/// How a line of one planner's own script begins.
+/// What a line of one planner's own script begins with: `show`, or the keyword of a step.
 #[derive(Clone, Copy)]
 pub(crate) enum OwnStart {
     Show,
     Step(StepKind),
 }
 
-/// What the first word of a line of one planner's own script says.
+/// Returns what the first word of a line means in one planner's own script.
 #[tactic(auto, unfolding(crate::specs::ScriptPlaces::own_first_of))]
 fn own_first_of(word: &str) -> Option<OwnStart>
     ensures { result ≡ own_first_of word.now }
@@ -138,7 +138,7 @@ fn own_first_of(word: &str) -> Option<OwnStart>
     }
 }
 
-/// The first word of a line of one planner's own script.
+/// Parses the first word of a line of one planner's own script.
 #[tactic(auto, using(crate::proofs::JournalSteps::read_word))]
 fn read_own_start(reader: &mut Reader) -> Result<OwnStart, JournalFault>
     ensures { IsRead (λ start. (start, reader.new)) result
@@ -149,7 +149,7 @@ fn read_own_start(reader: &mut Reader) -> Result<OwnStart, JournalFault>
     own_first_of(word).ok_or(JournalFault::BadWord(at))
 }
 
-/// What stands behind the first word of a line of a planner's own script.
+/// Parses what follows the first word of a line of one planner's own script.
 #[tactic(auto, using(crate::proofs::JournalSteps::read_bind, crate::proofs::JournalSteps::read_done), unfolding(crate::specs::ScriptPlaces::own_after))]
 fn read_own_after(
     reader: &mut Reader,
@@ -166,7 +166,7 @@ fn read_own_after(
     }
 }
 
-/// The words of an event in a planner's own script.
+/// Parses an event in one planner's own script.
 #[tactic(auto, using(crate::proofs::JournalSteps::read_bind), unfolding(crate::specs::ScriptPlaces::own_form))]
 fn read_own_event(
     reader: &mut Reader,
@@ -180,7 +180,7 @@ fn read_own_event(
     read_own_after(reader, instance, planner, start)
 }
 
-/// The event that was read, if no word is left behind it.
+/// Returns the event that was parsed, if no word is left after it.
 fn only_event(reader: &Reader, read: Result<Event, JournalFault>) -> Option<Event>
     ensures { (all : Result (Event × Left) JournalFault)
         → IsRead (λ event. (event, reader.now)) read all → result ≡ whole all }
@@ -197,7 +197,7 @@ fn only_event(reader: &Reader, read: Result<Event, JournalFault>) -> Option<Even
     }
 }
 
-/// A line as text, if it is text.
+/// Returns the line as text, if it is UTF-8.
 fn text_of(line: &[u8]) -> Option<&str>
     ensures text { IfSome result (λ text. text.now ≡ line.now) }
     ensures utf8 { OnSome result (IsUtf8 line.now) }
@@ -206,7 +206,7 @@ fn text_of(line: &[u8]) -> Option<&str>
     str::from_utf8(line).ok()
 }
 
-/// The event that a line asks for; none for a line of any other form.
+/// Parses a line of a script of 64 planners. Returns `None` if it is not an event.
 pub fn read_line(instance: &Instance, line: &[u8]) -> Option<Event>
     ensures item { result ≡ item instance.now line.now }
     ensures words { OnSome result (has_words line.now ≡ true) }
@@ -219,8 +219,8 @@ pub fn read_line(instance: &Instance, line: &[u8]) -> Option<Event>
     only_event(&reader, read)
 }
 
-/// The event that a line asks for in a script of one planner, where no line names him; none for a
-/// line of any other form.
+/// Parses a line of one planner's own script, in which no line names the planner. Returns `None` if
+/// it is not an event.
 pub fn read_own_line(instance: &Instance, planner: PlannerNo, line: &[u8]) -> Option<Event>
     ensures item { result ≡ own_item instance.now planner line.now }
     ensures words { OnSome result (has_words line.now ≡ true) }
@@ -234,7 +234,7 @@ pub fn read_own_line(instance: &Instance, planner: PlannerNo, line: &[u8]) -> Op
     only_event(&reader, read)
 }
 
-/// The number of the word at which reading stopped.
+/// Returns the number of the word at which parsing stopped.
 fn word_of(fault: JournalFault) -> u64
     ensures { result ≡ word_of fault }
 {
@@ -244,8 +244,8 @@ fn word_of(fault: JournalFault) -> u64
     }
 }
 
-/// The event that was read, or the number of the word that is left behind it, or at which reading
-/// stopped.
+/// Returns the event that was parsed, or the number of the first word that is left after it, or of
+/// the word at which parsing stopped.
 fn event_or_word(reader: &Reader, read: Result<Event, JournalFault>) -> Result<Event, u64>
     ensures { (all : Result (Event × Left) JournalFault)
         → IsRead (λ event. (event, reader.now)) read all → result ≡ whole_or_word all }
@@ -262,8 +262,9 @@ fn event_or_word(reader: &Reader, read: Result<Event, JournalFault>) -> Result<E
     }
 }
 
-/// The event that a text asks for in a script of one planner, or the number of the first word that
-/// cannot stand; that is one more than the words are where they end too early.
+/// Parses a text as an event of one planner's own script. The error is the number, counted from 1,
+/// of the first word that is not allowed; if the text ends too early, it is one more than the
+/// number of words.
 pub fn read_own_text(instance: &Instance, planner: PlannerNo, text: &str) -> Result<Event, u64>
     ensures event { result ≡ own_event instance.now planner (words text.now) }
     ensures fits { (planners : ℕ) → planner < planners
@@ -275,7 +276,7 @@ pub fn read_own_text(instance: &Instance, planner: PlannerNo, text: &str) -> Res
     event_or_word(&reader, read)
 }
 
-/// Whether a line has words.
+/// Returns whether a line has words.
 pub fn has_words(line: &[u8]) -> bool
     ensures { result ≡ has_words line.now }
 {

@@ -14,14 +14,13 @@ use std::alloc::AllocError;
 /// Why a script could not be run to its end.
 #[derive(Clone, Copy, PartialEq, Eq)]
 pub enum ScriptFault {
-    /// The first lecture of the opening timetable that cannot be placed, counted from 1, and what
-    /// stands against it.
+    /// The first lecture of the opening timetable that cannot be placed, counted from 1, and why.
     Unlawful(u64, EditFault),
     /// A read failed.
     Read,
     /// The script has more than 67,108,864 bytes.
     TooLong,
-    /// A write or a flush failed, or a write took nothing.
+    /// A write or a flush failed, or a write accepted no bytes.
     Write,
     /// There is not enough memory.
     NoMemory,

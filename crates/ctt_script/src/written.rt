@@ -1,4 +1,4 @@
-//! Writing journals as a text.
+//! Writing journals as text.
 
 ghost use Rattle.std.specs.Prelude.{◌≡◌, ◌++◌, ◌∷◌, [], ℕ, List, OnOk, IfOk, codes, string_bytes};
 ghost use Rattle.std.specs.List.{AllByRecursion as Each};
@@ -41,7 +41,7 @@ fn write_entry_head(text: &mut String, planner: PlannerNo, calls: u64) -> Result
     push_line(text, words.as_slice())
 }
 
-/// Adds the lines of the entry of a planner's draft with these calls.
+/// Adds the lines of an entry: its head line, then the lines of each call and its reply.
 pub fn write_entry(
     text: &mut String,
     instance: &Instance,
@@ -59,9 +59,9 @@ pub fn write_entry(
     Ok(())
 }
 
-/// Writes a journal as a text.
+/// Writes a journal as text.
 ///
-/// Read again, the text gives the same journal, whatever text follows it.
+/// Parsing the text returns the same journal, whatever follows it.
 pub fn write_journal(
     alloc: Global,
     instance: &Instance,

@@ -1,4 +1,4 @@
--- Commands grow by arguments, and the program by commands.
+-- Building commands argument by argument, and the program command by command.
 use Rattle.std.proofs.Common.{◌≡◌, ◌∙◌, ◌||◌, ◌∷◌, [], ap, ap₂, sym, false, List, Result, Ok, Err}
 use Rattle.std.specs.Prelude.{IfOk, IsOkAnd}
 use Rattle.clap.specs.Words.{AddsArg, AddsSubcommand, App, Rule, app_of, rule_of, with_rule, with_subcommand}
@@ -7,7 +7,7 @@ use Rattle.clap.specs.declared.builder.Command.{Command}
 use Rattle.clap.specs.declared.builder.Command.TheViews.{out-Command}
 use Rattle.ctt_words.specs.CommandLine.{IsCommand, with_commands, with_rules}
 
--- with these arguments more the command is this one
+-- with these arguments added the command is this one
 pub record Wants (whole : App) (rules : List Rule) (now : Command) : Type 0 where
   pub reads_by : with_rules (app_of now) rules ≡ whole
   pub is_local : (out-Command now).has_globals ≡ false
@@ -25,7 +25,7 @@ none_wanted whole rules now none wants = record {
   is_local = wants.is_local;
 }
 
--- with these commands more the program is this one
+-- with these commands added the program is this one
 pub record WantsCommands (whole : App) (subs : List App) (now : Command) : Type 0 where
   pub reads_by : with_commands (app_of now) subs ≡ whole
   pub is_local : (out-Command now).has_globals ≡ false
@@ -38,7 +38,7 @@ one_more whole sub subs old command new was command_is adds = record {
   is_local = adds.globals ∙ ap₂ (◌||◌) was.is_local command_is.is_local;
 }
 
--- a command is added where both could be made
+-- a command is added if both could be built
 pub one_command : {E : Type 0} (whole sub : App) (subs : List App) (program made new : Result Command E)
     → IfOk program (WantsCommands whole (sub ∷ subs)) → IfOk made (IsCommand sub)
     → IfOk new (λ new. IsOkAnd program (λ old. IsOkAnd made (λ command. AddsSubcommand old command new)))

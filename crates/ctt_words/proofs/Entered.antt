@@ -1,4 +1,5 @@
--- Words in which `clap` finds no fault enter one of the commands, whose matches have all that it requires. Of any program with commands.
+-- In any program with commands, words in which `clap` finds no fault enter one of the commands,
+-- whose matches contain all that it requires.
 use Rattle.std.proofs.Common.{◌≡◌, ◌∙◌, ◌&&◌, ◌||◌, ⊎_elim, Bool, true, false, not, refl, sym, ap, subst, inl, inr, List, [], ◌∷◌, Option, Some, None, cond, codes, is_some, option_map, IsSome, true≢false}
 use Rattle.std.specs.Prelude.{option_and_then, slice_get}
 use Rattle.std.specs.List.{find, list_all, list_any}
@@ -51,7 +52,8 @@ required_given s rows none a at is =
 
 -- ---- the command that is entered
 
--- where a walk over words stopped: the word that names a command, the command, and the words behind, in which no fault is found
+-- where a walk over words stopped: the word that names a command, the command, and the words after
+-- it, in which no fault is found
 pub record Enters (a : App) (stop : Option (Text × List Text)) : Type 0 where
   pub word : Text
   pub shape : Shape
@@ -92,7 +94,7 @@ enters a words required none =
     enters_at app stop (rows_after app.top.rules (names_of app) given) required (level_stops app.top (names_of app) given _ _ none)
     (level_below app.top (names_of app) given _ _ none) (level_checked app.top (names_of app) given _ _ none)
 
--- `help` is no command
+-- `help` is not a command
 answers_alone : (name word : Text) → (bytes_eq name word || false) ≡ true → word ≡ name
 answers_alone name word e = sym ((bytes_eq-Decides name word).0 (or_false (bytes_eq name word) e))
   where
@@ -147,7 +149,7 @@ has_required s rest id gives none requires =
     (subst (λ (name : Text). is_given name rows ≡ true) ((bytes_eq-Decides found.one.id id).0 is.1)
     (required_given s rows (level_checked s [] rest false [] none) found.one found.is_in is.0))
 
--- ---- an option that is given or not is found as one
+-- ---- an option without a value is found as one
 
 abbrev pub is_switch : ValueParser → Bool
 is_switch Switch = true
@@ -157,7 +159,7 @@ switch_is : (p : ValueParser) → is_switch p ≡ true → p ≡ Switch
 switch_is Switch e = refl
 switch_is _ e = absurd (true≢false (sym e))
 
--- each argument of this name is given or not
+-- each argument of this name is an option without a value
 abbrev pub is_flag : Text → Rule → Bool
 is_flag id a = not (bytes_eq a.id id) || is_switch (parser_of_value a.parser)
 

@@ -1,4 +1,5 @@
--- What is found for arguments: where one has to be given, all its texts are found, and they are one or more; an option is given or not.
+-- What is found for arguments: all texts of a required one, at least one; for an option without a
+-- value, whether it is given.
 use Rattle.std.proofs.Common.{◌≡◌, ◌≤◌, ◌∙◌, ◌+◌, ◌⊎◌, inl, inr, ⊎_elim, ℕ, Bool, Bor, true, false, List, [], ◌∷◌, Option, Some, None, IsSome, refl, sym, ap, subst, length, map, arith, option_map, is_some, string_bytes, codes}
 use Rattle.std.specs.Prelude.{option_and_then, slice_get, find}
 use Rattle.std.specs.Global.{Global}
@@ -16,7 +17,7 @@ given_here : (o : Option Row) → is_some (option_and_then (λ (r : Row). slice_
 given_here None first = first
 given_here (Some r) first = refl
 
--- where there is a first file, all are there
+-- if an argument has a first text, it has texts
 pub all_are_given : (id : Text) (rows : List Row) → IsSome (first_of id rows) → is_some (all_of id rows) ≡ true
 all_are_given id rows first = given_here (find (λ r. bytes_eq r.id id) rows) first
 
@@ -30,19 +31,19 @@ some_here (Some r) texts first all =
     let same : r.values ≡ texts = cc in
     subst (λ (values : List Text). 1 ≤ length values) same (some_first r.values first)
 
--- and they are one or more
+-- there is at least one
 pub has_all : (id : Text) (rows : List Row) (texts : List (String Global)) → IsSome (first_of id rows) → all_of id rows ≡ Some (map string_bytes texts) → HasAll rows id texts
 has_all id rows texts first all =
     (all, subst (λ n. 1 ≤ n) (length-map texts string_bytes) (some_here (find (λ r. bytes_eq r.id id) rows) (map string_bytes texts) first all))
 
--- a flag that is read as `clap` reads it is on where the option is given
+-- a flag that is read as `clap` reads it is on if and only if the option is given
 pub flag_is_on : (o : Option Text) (flag : Bool) → IsOnOrOff o → (o ≡ None → flag ≡ false) → (o ≡ Some (codes "true") → flag ≡ true) → (o ≡ Some (codes "false") → flag ≡ false)
     → flag ≡ is_on o
 flag_is_on None flag is none on off = none refl
 flag_is_on (Some text) flag is none on off =
     ⊎_elim (λ yes. on (ap Some yes) ∙ sym (ap (λ (t : Text). bytes_eq t (codes "true")) yes)) (λ yes. off (ap Some yes) ∙ sym (ap (λ (t : Text). bytes_eq t (codes "true")) yes)) is
 
--- one option more is given, or not
+-- one more option is given, or not
 pub count_more : (found : Option (Bor Text)) (o : Option Text) (others left : List (Option Text)) (before after all : ℕ) → option_map (λ s. s.now) found ≡ o → left ≡ o ∷ others
     → ((is_some found ≡ true) × (after ≡ before + 1)) ⊎ ((is_some found ≡ false) × (after ≡ before)) → before + count_given left ≡ all → after + count_given others ≡ all
 count_more (Some text) (Some given) others left before after all same more (inl (some, counted)) was = omega (arith, counted, was, ap count_given more)
@@ -52,7 +53,7 @@ count_more None (Some given) others left before after all same more counted was 
 count_more None None others left before after all same more (inl (some, counted)) was = cc
 count_more None None others left before after all same more (inr (none, counted)) was = omega (arith, counted, was, ap count_given more)
 
--- a job that words ask for has what a crew needs
+-- a job that words ask for has the scripts or seats that it needs
 pub job_has_scripts : (words : List Text) (job : Job) → IsJobOf words job → HasScripts job.task
 job_has_scripts words job is = in_matched (subcommand_of timedesk words) job is
   where

@@ -1,4 +1,4 @@
--- What `clap` says of the program's own words, and what the program says of them.
+-- The faults that `clap` finds in the program's words, and those that the program finds.
 use Rattle.std.proofs.Common.{◌≡◌, ◌≤◌, ◌<◌, ◌⊎◌, ◌∙◌, inl, inr, refl, subst, sym, cond, Bool, true, false, true≢false, option_map, map, List, [], ◌∷◌, Result, Ok, Err, OnOk, IfOk, IfErr, IsErrAnd, Option, Some, None, arith, ap, ⊎_elim}
 use Rattle.std.specs.Prelude.{IfSome}
 use Rattle.std.specs.Str.{bytes_eq}
@@ -36,13 +36,13 @@ asked : (kinds : Kinds) (kind : ErrorKind) → IsAmong kind kinds → IsHelp kin
 asked kinds kind among (inl help) = inl (subst (λ k. IsAmong k kinds) help among)
 asked kinds kind among (inr version) = inr (subst (λ k. IsAmong k kinds) version among)
 
--- a fault of a kind is one of the words, of which the error may have the kinds
+-- the fault of an error is one of the words, if its kind is one that `clap` may find in them
 pub of_kinds : (words : List Text) (kind : ErrorKind) (fault : WordsFault) → IsOfKind kind fault → (kind ≡ OutOfMemory) ⊎ IsAmong kind (faults_of words) → IsFaultOf words fault
 of_kinds words kind (Help text) is has = ⊎_elim (λ memory. absurd (no_help kind is memory)) (λ among. asked (faults_of words) kind among is) has
 of_kinds words kind (Refused text) is has = ⊎_elim (λ memory. absurd (is.2 memory)) (λ among. inl (kind, among, is.0, is.1)) has
 of_kinds words kind NoMemory is has = tt
 
--- why matches give no job is a fault of words that `clap` takes
+-- the reason why matches give no job is a fault of words that `clap` accepts
 pub of_matches : (words : List Text) (fault : WordsFault) → faults_of words ≡ [] → IsNoJobIn (subcommand_of timedesk words) fault → IsFaultOf words fault
 of_matches words (Help text) none is = absurd is
 of_matches words (Refused text) none is = inr ((none, is.0), is.1)
@@ -52,7 +52,7 @@ pub on_ok : {T E : Type 0} (r : Result T E) (P : Type 0) → P → OnOk r P
 on_ok (Ok x) P holds = holds
 on_ok (Err e) P holds = tt
 
--- ---- the weeks of several
+-- ---- more than one option says whose week to print
 
 one_chosen : (whose : Option Whose) → count_given (choices_of whose) ≤ 1
 one_chosen None = omega arith
@@ -67,7 +67,7 @@ no_several rows whose same several = omega (arith, one_chosen whose, ap count_gi
 other_name : (name a b : Text) → bytes_eq a b ≡ false → name ≡ a → name ≡ b → ⊥
 other_name name a b other is_a is_b = true≢false (sym ((bytes_eq-Decides a b).1 (sym is_a ∙ is_b)) ∙ other)
 
--- a job is that of no such words
+-- such words do not ask for a job
 task_not_several : (name : Text) (rows : List Row) (task : Task) → IsTaskBy name rows task → WantsSeveral name rows → ⊥
 task_not_several name rows (Show solution (Report json explain strict)) is several = other_name name _ _ refl is.0.0 several.0
 task_not_several name rows (Show solution (Week whose)) is several = no_several rows whose is.0.1 several.1
@@ -84,7 +84,7 @@ not_several : (matched : Option (Text × List Row)) (job : Job) → IsJobIn matc
 not_several None job is several = several
 not_several (Some (name, rows)) job is several = task_not_several name rows job.task is.2 several
 
--- so they are refused as such
+-- such words are refused with the message for them
 pub several_refused : (words : List Text) (r : Result Job WordsFault) → IfOk r (IsJobIn (subcommand_of timedesk words)) → IfErr r (IsNoJobIn (subcommand_of timedesk words))
     → AsksForSeveral words → IsErrAnd r SaysSeveral
 several_refused words (Ok job) is fault asks = absurd (not_several (subcommand_of timedesk words) job is asks.1)
@@ -96,7 +96,7 @@ nothing_among : (kind : ErrorKind) (kinds : Kinds) → kinds ≡ [] → IsAmong 
 nothing_among kind [] none among = among
 nothing_among kind (k ∷ kinds) none among = cc
 
--- and not by `clap`
+-- such words are not refused by `clap`
 pub several_taken : (words : List Text) (kind : ErrorKind) (fault : WordsFault) → (kind ≡ OutOfMemory) ⊎ IsAmong kind (faults_of words) → IsOfKind kind fault
     → AsksForSeveral words → SaysSeveral fault
 several_taken words kind NoMemory has is asks = tt

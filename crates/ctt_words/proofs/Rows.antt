@@ -1,4 +1,5 @@
--- Where `clap` finds no fault, each row of the matches is that of an argument of the command, and its first value passes.
+-- If `clap` finds no fault, each row of the matches is that of an argument of the command, and its
+-- first value passes.
 use Rattle.std.proofs.Common.{◌≡◌, ◌∙◌, ◌⊎◌, ◌&&◌, ◌||◌, ◌++◌, Bool, true, false, not, refl, sym, ap, inl, inr, ⊎_elim, List, [], ◌∷◌, Option, Some, None, length, nat_lt, cond, true≢false}
 use Rattle.std.specs.List.{find, fold, list_all, list_any}
 use Rattle.std.specs.Option.{option_map_or}
@@ -16,7 +17,7 @@ use Rattle.clap.specs.declared.error.kind.ErrorKind.{ErrorKind}
 use Rattle.clap.specs.declared.parser.matches.ValueSource.{ValueSource}
 use Rattle.clap.specs.declared.parser.matches.ValueSource.TheVariants.{CommandLine, DefaultValue}
 
--- ---- faults in turn
+-- ---- faults one after another
 
 pub nil_first : (a b : Kinds) → or_else a b ≡ [] → a ≡ []
 nil_first [] b e = refl
@@ -26,13 +27,13 @@ pub nil_second : (a b : Kinds) → or_else a b ≡ [] → b ≡ []
 nil_second [] b e = e
 nil_second (k ∷ ks) b e = cc
 
--- ---- what stands in a list
+-- ---- the items of a list
 
 abbrev pub IsIn : {A : Type 0} → A → List A → Type 0
 IsIn a [] = ⊥
 IsIn a (b ∷ c) = (a ≡ b) ⊎ IsIn a c
 
--- what is found is the item at hand, or is found behind it
+-- what is found is the first item, or is found after it
 found_here : {A : Type 0} (t : Bool) (a b : A) (c : List A) (later : Option A) → cond t (Some b) later ≡ Some a → (later ≡ Some a → IsIn a c) → IsIn a (b ∷ c)
 found_here true a b c later e behind = inl (cc)
 found_here false a b c later e behind = inr (behind e)
@@ -47,7 +48,7 @@ holds_here p true a b later is e behind =
     ap p (sym same) ∙ is
 holds_here p false a b later is e behind = behind e
 
--- and it has what was looked for
+-- what is found passes the test
 pub found_holds : {A : Type 0} (p : A → Bool) (c : List A) (a : A) → find p c ≡ Some a → p a ≡ true
 found_holds p [] a e = cc
 found_holds p (b ∷ c) a e = holds_here p (p b) a b (find p c) refl e (λ later. found_holds p c a later)
@@ -104,7 +105,7 @@ both_rows : (c : List Rule) (xs ys : List Row) → AreRows c xs → AreRows c ys
 both_rows c [] ys x y = y
 both_rows c (r ∷ rs) ys x y = (x.0, both_rows c rs ys x.1 y)
 
--- a change of the first row of an id keeps the rows, where it does so for that row
+-- changing the first row of an id leaves valid rows, if the change makes valid rows of that row
 at_row_here : (t : Bool) (c : List Rule) (r : Row) (changed rs later : List Row) → AreRows c changed → IsRow c r → AreRows c rs → AreRows c later
     → AreRows c (cond t (changed ++ rs) (r ∷ later))
 at_row_here true c r changed rs later ch is rest next = both_rows c changed rs ch rest
@@ -131,7 +132,7 @@ with_values_rows c a from vs rows at first all = at_row_rows c a.id (more_values
 
 -- ---- uses of an argument
 
--- a use of the argument without values stands for some
+-- a use of the argument has values, or stands for some if it has none
 abbrev pub gives_value : Rule → Bool
 gives_value a = nat_lt 0 (unwrap_or_range a.range).start_inclusive || not (is_empty a.missing)
 

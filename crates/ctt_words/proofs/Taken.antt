@@ -1,4 +1,5 @@
--- Words in which `clap` finds no fault ask for one of the program's commands, with all that it needs. No command has a lemma of its own.
+-- Words in which `clap` finds no fault match one of the program's commands, with all that it needs.
+-- All commands are proved at once, by computation.
 use Rattle.std.proofs.Common.{◌≡◌, ◌∙◌, ◌&&◌, ◌||◌, ◌⊎◌, Bool, true, false, refl, sym, ap, ap₂, subst, inl, inr, ⊎_elim, List, [], Option, Some, None, codes, true≢false}
 use Rattle.std.specs.List.{list_all, list_any}
 use Rattle.std.specs.Option.{option_map_or}
@@ -18,11 +19,11 @@ use Rattle.ctt_words.specs.declared.outline.Name.TheVariants as by
 use Rattle.ctt_words.proofs.Rows.{all_in, is_giving}
 use Rattle.ctt_words.proofs.Entered.{enters, has_flag, has_required, is_flag, is_required, not_help}
 
--- the command requires the instance, and this argument
+-- the command requires the instance and this argument
 abbrev requires : Shape → Text → Bool
 requires s id = list_any (is_required (codes "instance")) s.rules && list_any (is_required id) s.rules
 
--- these options are given or not
+-- `json`, `explain` and `strict` are options without a value
 abbrev has_flags : Shape → Bool
 has_flags s = list_all (is_flag (codes "json")) s.rules && (list_all (is_flag (codes "explain")) s.rules && list_all (is_flag (codes "strict")) s.rules)
 
@@ -30,7 +31,7 @@ abbrev has_flags_of : Name → Shape → Bool
 has_flags_of by.Check s = has_flags s
 has_flags_of _ s = true
 
--- it is known, and has all that it needs
+-- the command requires what its name needs
 abbrev has_needs : Shape → Name → Bool
 has_needs s command = requires s (wanted_by command) && has_flags_of command s
 
@@ -101,7 +102,7 @@ all_have : list_all (λ s. has_all s || is_help s) (built timedesk).subs ≡ tru
 unfolding clap_on_literals timedesk check week page run audit crew desk journal list mend
 all_have = refl
 
--- words in which `clap` finds no fault name a command with all that it needs
+-- words in which `clap` finds no fault match a command with all that it needs
 pub taken_is_whole : (words : List Text) → fault_of timedesk words ≡ [] → IsMatched (subcommand_of timedesk words)
 taken_is_whole words none =
     let found = enters timedesk words command_required none in

@@ -1,4 +1,5 @@
--- The walk over the words, where `clap` finds no fault: its rows are those of arguments, and it enters no command that is refused.
+-- The walk over words in which `clap` finds no fault: its rows are those of arguments, and it
+-- enters no command that is refused.
 use Rattle.std.proofs.Common.{◌≡◌, ◌&&◌, ℕ, Bool, true, false, not, zero, suc, refl, List, [], ◌∷◌, Option, Some, None, length, cond, drop, is_some, option_map}
 use Rattle.std.specs.Prelude.{encode_utf8, slice_get}
 use Rattle.std.specs.List.{find, fold, list_all}
@@ -104,7 +105,7 @@ module _ (c : List Rule) (gives : list_all is_giving c ≡ true) (again : Bool) 
 -- ---- the walk of a command
 
 module _ (s : Shape) (names : Names) where
-  -- what a turn says where the walk has not stopped
+  -- the faults of one step, if the walk has not stopped
   abbrev going_fault : Walk → Text → Kinds
   going_fault w word = or_else (word_fault s names w.is_trailing w.waiting word w.held)
       (step_fault s w.position (word_met s.rules names w.is_trailing w.waiting w.position word w.held).0 (word_met s.rules names w.is_trailing w.waiting w.position word w.held).1)

@@ -1,4 +1,4 @@
--- The command line of the program, as far as `clap` reads words by it, and what it finds.
+-- The command line of the program, as far as `clap` parses words by it, and what `clap` finds.
 use Rattle.std.specs.Prelude.{◌≡◌, ◌⊎◌, ℕ, Bool, List, [], ◌∷◌, codes, true, false, Option, Some, None}
 use Rattle.std.specs.Str.{bytes_eq}
 use Rattle.clap.specs.Lexer.{usize_max}
@@ -8,15 +8,15 @@ use Rattle.clap.specs.declared.builder.Command.{Command}
 use Rattle.clap.specs.declared.builder.Command.TheViews.{out-Command}
 use Rattle.clap.specs.declared.builder.action.ArgAction.TheVariants.{SetTrue}
 
--- a word that has to be given, by its place
+-- a required word, by its position
 abbrev pub required_word : List ℕ → Rule
 required_word id = record (new_rule id) { required = true; value_names = 1 }
 
--- one word or more that have to be given, by their places behind all others
+-- one or more required words, by their position
 abbrev pub required_words : List ℕ → Rule
 required_words id = record (required_word id) { range = Some (record { start_inclusive = 1; end_inclusive = usize_max }) }
 
--- an option that is given or not
+-- an option without a value
 abbrev pub flag : List ℕ → Rule
 flag id = record (new_rule id) { long = Some id; action = Some SetTrue }
 
@@ -24,7 +24,7 @@ flag id = record (new_rule id) { long = Some id; action = Some SetTrue }
 abbrev pub valued : List ℕ → Rule
 valued id = record (new_rule id) { long = Some id; value_names = 1 }
 
--- a command with these arguments more
+-- the command with these arguments added
 abbrev pub with_rules : App → List Rule → App
 with_rules app [] = app
 with_rules app (rule ∷ rules) = with_rules (with_rule app rule) rules
@@ -79,11 +79,11 @@ list = command_of (codes "list") (required_word (codes "instance") ∷ required_
 unfoldable pub mend : App
 mend = command_of (codes "mend") (required_word (codes "instance") ∷ required_word (codes "solution") ∷ valued (codes "barred") ∷ [])
 
--- the program alone: it has a version, and a command has to be given
+-- the program without its commands: it has a version, and requires a command
 abbrev pub bare : App
 bare = on_top (λ s. record s { has_version = true; subcommand_required = true }) (new_app (codes "timedesk"))
 
--- a program with these commands more
+-- the program with these commands added
 abbrev pub with_commands : App → List App → App
 with_commands app [] = app
 with_commands app (one ∷ more) = with_commands (with_subcommand app one.top) more
@@ -96,17 +96,17 @@ apps = check ∷ week ∷ page ∷ run ∷ audit ∷ crew ∷ desk ∷ journal �
 unfoldable pub timedesk : App
 timedesk = with_commands bare apps
 
--- `clap` reads words by this command as by `app`, and no argument of it holds for other commands
+-- `clap` parses words by this command as by `app`, and none of its arguments is global
 pub record IsCommand (app : App) (made : Command) : Type 0 where
   pub reads_by : app_of made ≡ app
   pub is_local : (out-Command made).has_globals ≡ false
 
--- what is found for an option that is given or not
+-- what is found for an option without a value: nothing, `true` or `false`
 abbrev pub IsOnOrOff : Option Text → Type 0
 IsOnOrOff None = Unit {0}
 IsOnOrOff (Some text) = (text ≡ codes "true") ⊎ (text ≡ codes "false")
 
--- whether it is given
+-- the option is given
 abbrev pub is_on : Option Text → Bool
 is_on None = false
 is_on (Some text) = bytes_eq text (codes "true")

@@ -1,4 +1,4 @@
--- Which job the words of a command line ask for, and what is said where they ask for none.
+-- Which job the words of a command line ask for, and which fault they have if they ask for none.
 use Rattle.std.specs.Prelude.{◌≡◌, ◌≢◌, ◌≤◌, ◌<◌, ◌⊎◌, ℕ, suc, Bool, List, [], ◌∷◌, Option, Some, None, IsSome, codes, length, map, option_map}
 use Rattle.std.specs.Global.{Global}
 use Rattle.std.specs.String.{string_bytes}
@@ -20,29 +20,29 @@ use Rattle.ctt_words.specs.declared.job.WordsFault.TheVariants.{Help, NoMemory, 
 use Rattle.ctt_words.specs.declared.outline.Name.{Name}
 use Rattle.ctt_words.specs.declared.outline.Name.TheVariants as by
 
--- ---- what the matches of a command have
+-- ---- what the matches of a command contain
 
--- this text is given for the argument of this name
+-- the text is the first that is given for the argument of this name
 abbrev pub Has : List Row → Text → String Global → Type 0
 Has rows id text = first_of id rows ≡ Some (string_bytes text)
 
--- this text is given for the option, or none
+-- the text is the one that is given for the option, or none if none is
 abbrev pub MayHave : List Row → Text → Option (String Global) → Type 0
 MayHave rows id text = first_of id rows ≡ option_map string_bytes text
 
--- these texts are given, which are one or more
+-- the texts are all that are given for the argument, at least one
 abbrev pub HasAll : List Row → Text → List (String Global) → Type 0
 HasAll rows id texts = (all_of id rows ≡ Some (map string_bytes texts)) × (1 ≤ length texts)
 
--- whether the option is given
+-- `set` says whether the option is given
 abbrev pub IsSet : List Row → Text → Bool → Type 0
 IsSet rows id set = set ≡ is_on (one_of id rows)
 
--- what is given for each option that says whose week it is
+-- what is given for each option that says whose week to print
 abbrev pub choices : List Row → List (Option Text)
 choices rows = first_of (codes "curriculum") rows ∷ first_of (codes "teacher") rows ∷ first_of (codes "course") rows ∷ first_of (codes "room") rows ∷ []
 
--- one of them is given, or none
+-- what these options give to ask for this week: one name, or none for the week of all rooms
 abbrev pub choices_of : Option Whose → List (Option Text)
 choices_of None = None ∷ None ∷ None ∷ None ∷ []
 choices_of (Some (Curriculum name)) = Some (string_bytes name) ∷ None ∷ None ∷ None ∷ []
@@ -50,7 +50,7 @@ choices_of (Some (Teacher name)) = None ∷ Some (string_bytes name) ∷ None �
 choices_of (Some (Course name)) = None ∷ None ∷ Some (string_bytes name) ∷ None ∷ []
 choices_of (Some (Room name)) = None ∷ None ∷ None ∷ Some (string_bytes name) ∷ []
 
--- how many are given
+-- how many of the options are given
 abbrev pub count_given : List (Option Text) → ℕ
 count_given [] = 0
 count_given (None ∷ others) = count_given others
@@ -58,7 +58,7 @@ count_given (Some text ∷ others) = suc (count_given others)
 
 -- ---- what a command needs
 
--- the argument that the command wants beside the instance
+-- the argument that the command requires besides the instance
 abbrev pub wanted_by : Name → Text
 wanted_by by.Check = codes "solution"
 wanted_by by.Week = codes "solution"
@@ -71,44 +71,44 @@ wanted_by by.Journal = codes "minutes"
 wanted_by by.List = codes "journal"
 wanted_by by.Mend = codes "solution"
 
--- the matches have the instance, and this argument
+-- the matches contain the instance and this argument
 pub record HasFiles (id : Text) (rows : List Row) : Type 0 where
   pub instance : IsSome (first_of (codes "instance") rows)
   pub other : IsSome (first_of id rows)
 
--- the matches of `check` say of each of its options whether it is given
+-- the matches of `check` say whether each of its options without a value is given
 pub record HasFlags (rows : List Row) : Type 0 where
   pub json : IsOnOrOff (one_of (codes "json") rows)
   pub explain : IsOnOrOff (one_of (codes "explain") rows)
   pub strict : IsOnOrOff (one_of (codes "strict") rows)
 
--- and those of another command nothing
+-- the same for `check`; other commands have no such options
 abbrev pub HasFlagsOf : Name → List Row → Type 0
 HasFlagsOf by.Check rows = HasFlags rows
 HasFlagsOf _ rows = Unit {0}
 
--- the matches of the command of this name have what it needs
+-- the matches of the command of this name contain what it needs
 pub record IsWhole (name : Text) (rows : List Row) : Type 0 where
   pub command : Name
   pub is_known : named name ≡ Some command
   pub files : HasFiles (wanted_by command) rows
   pub flags : HasFlagsOf command rows
 
--- words are matched by the command of this name, with what it needs
+-- a command is matched, with what it needs
 abbrev pub IsMatched : Option (Text × List Row) → Type 0
 IsMatched None = ⊥
 IsMatched (Some (name, rows)) = IsWhole name rows
 
 -- ---- the job
 
--- the command of this name, with what its matches have, shows a solution so
+-- the command of this name, with these matches, shows a solution this way
 abbrev pub IsShowingBy : Text → List Row → Showing → Type 0
 IsShowingBy name rows (Report json explain strict) = (name ≡ codes "check")
     × IsSet rows (codes "json") json × IsSet rows (codes "explain") explain × IsSet rows (codes "strict") strict
 IsShowingBy name rows (Week whose) = (name ≡ codes "week") × (choices rows ≡ choices_of whose)
 IsShowingBy name rows Page = name ≡ codes "page"
 
--- the task is that of the command of this name, with what its matches have
+-- the task is that of the command of this name, with these matches
 abbrev pub IsTaskBy : Text → List Row → Task → Type 0
 IsTaskBy name rows (Show solution showing) = IsShowingBy name rows showing × Has rows (codes "solution") solution
 IsTaskBy name rows (Run script start journal) = (name ≡ codes "run") × Has rows (codes "script") script
@@ -121,7 +121,7 @@ IsTaskBy name rows (Journal minutes) = (name ≡ codes "journal") × Has rows (c
 IsTaskBy name rows (Listing journal start) = (name ≡ codes "list") × Has rows (codes "journal") journal × MayHave rows (codes "start") start
 IsTaskBy name rows (Mending solution) = (name ≡ codes "mend") × Has rows (codes "solution") solution
 
--- the job is that of the command of this name, with what its matches have
+-- the job is that of the command of this name, with these matches
 abbrev pub IsJobBy : Text → List Row → Job → Type 0
 IsJobBy name rows job = Has rows (codes "instance") job.instance × MayHave rows (codes "barred") job.barred × IsTaskBy name rows job.task
 
@@ -130,11 +130,11 @@ abbrev pub IsJobIn : Option (Text × List Row) → Job → Type 0
 IsJobIn None job = ⊥
 IsJobIn (Some (name, rows)) job = IsJobBy name rows job
 
--- the job is that of the command that `clap` finds in the words, with what its matches have
+-- the job is that of the command that `clap` finds in the words, with its matches
 abbrev pub IsJobOf : List Text → Job → Type 0
 IsJobOf words job = IsJobIn (subcommand_of timedesk words) job
 
--- a crew is given at least one, and a desk at least one seat
+-- a crew has at least one script, and a desk at least one seat
 abbrev pub HasScripts : Task → Type 0
 HasScripts (Crew scripts) = 1 ≤ length scripts.items
 HasScripts (Desk seats start minutes) = 1 ≤ length seats.items
@@ -142,61 +142,63 @@ HasScripts task = Unit {0}
 
 -- ---- words that ask for no job
 
--- the kinds of fault that `clap` may find in the words; none where it takes them
+-- the kinds of fault that `clap` may find in the words; none if it accepts them
 abbrev pub faults_of : List Text → Kinds
 faults_of words = fault_of timedesk words
 
--- this is no fault, but help or the version
+-- the kind is a request for help or the version
 abbrev pub IsHelp : ErrorKind → Type 0
 IsHelp kind = (kind ≡ DisplayHelp) ⊎ (kind ≡ DisplayVersion)
 
--- a fault of this kind
+-- the fault may be that of an error of this kind
 abbrev pub IsOfKind : ErrorKind → WordsFault → Type 0
 IsOfKind kind (Help text) = IsHelp kind
 IsOfKind kind (Refused text) = (kind ≢ DisplayHelp) × (kind ≢ DisplayVersion) × (kind ≢ OutOfMemory)
 IsOfKind kind NoMemory = Unit {0}
 
--- help or the version is among these kinds
+-- a request for help or the version is among these kinds
 abbrev pub IsRequest : Kinds → Type 0
 IsRequest kinds = IsAmong DisplayHelp kinds ⊎ IsAmong DisplayVersion kinds
 
--- a kind of fault is among these that is neither
+-- a kind other than a request for help or the version is among these
 abbrev pub IsRefusal : Kinds → Type 0
 IsRefusal kinds = (kind : ErrorKind) × IsAmong kind kinds × (kind ≢ DisplayHelp) × (kind ≢ DisplayVersion)
 
--- the matches are those of a week of which more is given than whose it is
+-- the command is `week`, and more than one option says whose week to print
 abbrev pub WantsSeveral : Text → List Row → Type 0
 WantsSeveral name rows = (name ≡ codes "week") × (1 < count_given (choices rows))
 
+-- the same of the command that is matched
 abbrev pub WantsSeveralIn : Option (Text × List Row) → Type 0
 WantsSeveralIn None = ⊥
 WantsSeveralIn (Some (name, rows)) = WantsSeveral name rows
 
--- `clap` takes the words, and they ask for the weeks of several at once
+-- `clap` accepts the words, and more than one option says whose week to print
 abbrev pub AsksForSeveral : List Text → Type 0
 AsksForSeveral words = (faults_of words ≡ []) × WantsSeveralIn (subcommand_of timedesk words)
 
--- what is said of such words
+-- the message for such words
 abbrev pub several_said : Text
 several_said = codes "timedesk: at most one of --curriculum, --teacher, --course, --room\n"
 
--- this is said, or memory is wanted
+-- the fault has this message, or memory ran out
 abbrev pub SaysSeveral : WordsFault → Type 0
 SaysSeveral (Help text) = ⊥
 SaysSeveral (Refused text) = string_bytes text ≡ several_said
 SaysSeveral NoMemory = Unit {0}
 
--- words with these matches ask for no job, since they want several, or memory is wanted
+-- the matches give no job: more than one option says whose week to print, or memory ran out
 abbrev pub IsNoJobIn : Option (Text × List Row) → WordsFault → Type 0
 IsNoJobIn matched (Help text) = ⊥
 IsNoJobIn matched (Refused text) = WantsSeveralIn matched × (string_bytes text ≡ several_said)
 IsNoJobIn matched NoMemory = Unit {0}
 
--- the words are refused: `clap` finds a fault that is no help, or they ask for the weeks of several at once
+-- the words are refused: `clap` finds a fault other than a request for help or the version, or more
+-- than one option says whose week to print
 abbrev pub AreRefused : List Text → Type 0
 AreRefused words = IsRefusal (faults_of words) ⊎ AsksForSeveral words
 
--- a fault of these words: help where it is asked for, and else a refusal
+-- a fault that the words may have: a request for help or the version, a refusal, or out of memory
 abbrev pub IsFaultOf : List Text → WordsFault → Type 0
 IsFaultOf words (Help text) = IsRequest (faults_of words)
 IsFaultOf words (Refused text) = IsRefusal (faults_of words) ⊎ (AsksForSeveral words × (string_bytes text ≡ several_said))

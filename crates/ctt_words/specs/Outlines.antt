@@ -1,4 +1,4 @@
--- What the tables of the commands say to `clap`, and which command has which name.
+-- The `clap` commands that the tables describe, and the names of the commands.
 use Rattle.std.specs.Prelude.{List, [], ◌∷◌, Option, codes, find, map, option_map}
 use Rattle.std.specs.Str.{bytes_eq}
 use Rattle.clap.specs.Words.{App, Rule, Text}
@@ -9,14 +9,14 @@ use Rattle.ctt_words.specs.declared.outline.Name.{Name}
 use Rattle.ctt_words.specs.declared.outline.Name.TheVariants.{Audit, Check, Crew, Desk, Journal, List as Listing, Mend, Page, Run, Week}
 use Rattle.ctt_words.specs.declared.outline.Outline.{Outline}
 
--- the rule of an argument
+-- the `clap` rule for an argument of a table
 abbrev pub rule_by : Argument → Rule
 rule_by (Word id name help) = required_word id.now
 rule_by (Words id name help) = required_words id.now
 rule_by (Flag id help) = flag id.now
 rule_by (Valued id name help) = valued id.now
 
--- the command with this outline
+-- the `clap` command for a command of a table
 abbrev pub app_by : Outline → App
 app_by outline = command_of outline.name.now (map rule_by outline.arguments.now)
 
@@ -37,6 +37,7 @@ name_of Mend = codes "mend"
 abbrev pub with_name : Name → Text × Name
 with_name command = (name_of command, command)
 
+-- the command of a table with its name
 abbrev pub names_by : Outline → Text × Name
 names_by outline = (outline.name.now, outline.command)
 
@@ -44,7 +45,7 @@ names_by outline = (outline.name.now, outline.command)
 abbrev pub named_in : List (Text × Name) → Text → Option Name
 named_in known name = option_map (λ (one : Text × Name). one.1) (find (λ (one : Text × Name). bytes_eq one.0 name) known)
 
--- the commands that there are
+-- all commands, in the order of the help
 abbrev pub commands : List Name
 commands = Check ∷ Week ∷ Page ∷ Run ∷ Audit ∷ Crew ∷ Desk ∷ Journal ∷ Listing ∷ Mend ∷ []
 

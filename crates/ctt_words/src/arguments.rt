@@ -1,4 +1,4 @@
-//! What `clap` found for the arguments of a command.
+//! The values that `clap` found for the arguments of a command.
 
 ghost use Rattle.std.specs.Prelude.{◌≡◌, map, IfOk, IsSome};
 ghost use Rattle.clap.specs.Words.{first_of, found_of, one_of, rows_of};
@@ -8,7 +8,7 @@ ghost use Rattle.ctt_words.specs.Jobs.{Has, HasAll, IsSet, MayHave, count_given}
 use clap::ArgMatches;
 use std::alloc::{AllocError, Global};
 
-/// The text of an argument that is given.
+/// Copies the text of an argument that is given.
 pub(crate) fn text(alloc: Global, given: &ArgMatches<'_>, id: &str) -> Result<String, AllocError>
     requires { IsSome (first_of id.now (rows_of (found_of given.now))) }
     ensures { IfOk result (λ text. Has (rows_of (found_of given.now)) id.now text) }
@@ -16,7 +16,7 @@ pub(crate) fn text(alloc: Global, given: &ArgMatches<'_>, id: &str) -> Result<St
     String::from_str(alloc, given.get_str(id).unwrap())
 }
 
-/// The text of an option, if it is given.
+/// Copies the text of an option, if it is given.
 pub(crate) fn option(
     alloc: Global,
     given: &ArgMatches<'_>,
@@ -30,7 +30,7 @@ pub(crate) fn option(
     }
 }
 
-/// The texts of an argument that is given.
+/// Copies the texts of an argument that is given; there is at least one.
 pub(crate) fn texts(
     alloc: Global,
     given: &ArgMatches<'_>,
@@ -47,7 +47,7 @@ pub(crate) fn texts(
     Ok(owned)
 }
 
-/// Whether an option is given that has no value.
+/// Returns whether an option without a value is given.
 pub(crate) fn is_set(given: &ArgMatches<'_>, id: &str) -> bool
     requires { IsOnOrOff (one_of id.now (rows_of (found_of given.now))) }
     ensures { IsSet (rows_of (found_of given.now)) id.now result }
@@ -55,7 +55,7 @@ pub(crate) fn is_set(given: &ArgMatches<'_>, id: &str) -> bool
     given.get_flag(id)
 }
 
-/// How many of these options are given.
+/// Counts how many of these options are given.
 pub(crate) fn count(given: &ArgMatches<'_>, ids: &[&str]) -> usize
     ensures { result
         ≡ count_given (map (λ id. first_of id.now (rows_of (found_of given.now))) ids.now) }

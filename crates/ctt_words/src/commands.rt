@@ -172,7 +172,7 @@ Example: timedesk check comp07.ctt comp07.sol --explain",
     },
 ];
 
-/// What stands below the help: the example of each command, and the statuses.
+/// The text below the help: an example of each command, and the exit statuses.
 const BELOW_HELP: &str = "\
 Examples:
   timedesk check comp07.ctt comp07.sol --explain
@@ -193,7 +193,7 @@ with --strict 4 where the solution is not lawful, and 5 where it is lawful and n
 A refused file is one line, as in 'timedesk: instance I2 14': docs/FORMATS.md has
 each fault by its number, and how to see the word that it names.";
 
-/// The commands of the program, each with its name and its arguments.
+/// Returns the commands of the program, in the order of the help.
 fn outlines() -> &'static [Outline]
     ensures apps { map app_by result.now ≡ apps }
     ensures names { map names_by result.now ≡ map with_name commands }
@@ -201,7 +201,7 @@ fn outlines() -> &'static [Outline]
     COMMANDS
 }
 
-/// The command line of the program.
+/// Builds the command line of the program.
 pub(crate) fn command_line<'a>(alloc: Global) -> Result<Command<'a>, AllocError>
     ensures { IfOk result (IsCommand timedesk) }
 {
@@ -213,7 +213,7 @@ pub(crate) fn command_line<'a>(alloc: Global) -> Result<Command<'a>, AllocError>
     with_commands(alloc, alone, outlines())
 }
 
-/// The command of this name.
+/// Finds the command of this name.
 pub(crate) fn command_named(name: &str) -> Option<Name>
     ensures known { result ≡ named name.now }
     ensures name { IfSome result (λ command. name.now ≡ name_of command) }

@@ -1,4 +1,4 @@
-//! The task of each command, by the matches that `clap` found for it.
+//! Building the task of each command from the matches that `clap` found for it.
 
 ghost use Rattle.std.specs.Prelude.{◌≡◌, ◌≤◌, codes, IfOk};
 ghost use Rattle.clap.specs.Words.{found_of, rows_of};
@@ -9,7 +9,7 @@ use crate::job::{Showing, Task, Whose};
 use clap::ArgMatches;
 use std::alloc::{AllocError, Global};
 
-/// The task of the command `check`, by its matches.
+/// Builds the task of the command `check` from its matches.
 pub(crate) fn check_task(alloc: Global, given: &ArgMatches<'_>) -> Result<Task, AllocError>
     requires files { HasFiles (codes "solution") (rows_of (found_of given.now)) }
     requires flags { HasFlags (rows_of (found_of given.now)) }
@@ -25,7 +25,7 @@ pub(crate) fn check_task(alloc: Global, given: &ArgMatches<'_>) -> Result<Task, 
     })
 }
 
-/// Whose week is asked for, by at most one of four options.
+/// Returns whose week is asked for, by at most one of four options.
 fn whose(alloc: Global, given: &ArgMatches<'_>) -> Result<Option<Whose>, AllocError>
     requires { count_given (choices (rows_of (found_of given.now))) ≤ 1 }
     ensures { IfOk result (λ whose. choices (rows_of (found_of given.now)) ≡ choices_of whose) }
@@ -45,7 +45,7 @@ fn whose(alloc: Global, given: &ArgMatches<'_>) -> Result<Option<Whose>, AllocEr
     }
 }
 
-/// The task of the command `week`, by its matches.
+/// Builds the task of the command `week` from its matches.
 pub(crate) fn week_task(alloc: Global, given: &ArgMatches<'_>) -> Result<Task, AllocError>
     requires files { HasFiles (codes "solution") (rows_of (found_of given.now)) }
     requires one { count_given (choices (rows_of (found_of given.now))) ≤ 1 }
@@ -57,7 +57,7 @@ pub(crate) fn week_task(alloc: Global, given: &ArgMatches<'_>) -> Result<Task, A
     })
 }
 
-/// The task of the command `page`, by its matches.
+/// Builds the task of the command `page` from its matches.
 pub(crate) fn page_task(alloc: Global, given: &ArgMatches<'_>) -> Result<Task, AllocError>
     requires { HasFiles (codes "solution") (rows_of (found_of given.now)) }
     ensures { IfOk result (IsTaskBy (codes "page") (rows_of (found_of given.now))) }
@@ -68,7 +68,7 @@ pub(crate) fn page_task(alloc: Global, given: &ArgMatches<'_>) -> Result<Task, A
     })
 }
 
-/// The task of the command `run`, by its matches.
+/// Builds the task of the command `run` from its matches.
 pub(crate) fn run_task(alloc: Global, given: &ArgMatches<'_>) -> Result<Task, AllocError>
     requires { HasFiles (codes "script") (rows_of (found_of given.now)) }
     ensures { IfOk result (IsTaskBy (codes "run") (rows_of (found_of given.now))) }
@@ -80,7 +80,7 @@ pub(crate) fn run_task(alloc: Global, given: &ArgMatches<'_>) -> Result<Task, Al
     })
 }
 
-/// The task of the command `audit`, by its matches.
+/// Builds the task of the command `audit` from its matches.
 pub(crate) fn audit_task(alloc: Global, given: &ArgMatches<'_>) -> Result<Task, AllocError>
     requires { HasFiles (codes "journal") (rows_of (found_of given.now)) }
     ensures { IfOk result (IsTaskBy (codes "audit") (rows_of (found_of given.now))) }
@@ -91,7 +91,7 @@ pub(crate) fn audit_task(alloc: Global, given: &ArgMatches<'_>) -> Result<Task, 
     })
 }
 
-/// The task of the command `crew`, by its matches.
+/// Builds the task of the command `crew` from its matches.
 pub(crate) fn crew_task(alloc: Global, given: &ArgMatches<'_>) -> Result<Task, AllocError>
     requires { HasFiles (codes "script") (rows_of (found_of given.now)) }
     ensures { IfOk result (IsTaskBy (codes "crew") (rows_of (found_of given.now))) }
@@ -101,7 +101,7 @@ pub(crate) fn crew_task(alloc: Global, given: &ArgMatches<'_>) -> Result<Task, A
     })
 }
 
-/// The task of the command `desk`, by its matches.
+/// Builds the task of the command `desk` from its matches.
 pub(crate) fn desk_task(alloc: Global, given: &ArgMatches<'_>) -> Result<Task, AllocError>
     requires { HasFiles (codes "seat") (rows_of (found_of given.now)) }
     ensures { IfOk result (IsTaskBy (codes "desk") (rows_of (found_of given.now))) }
@@ -113,7 +113,7 @@ pub(crate) fn desk_task(alloc: Global, given: &ArgMatches<'_>) -> Result<Task, A
     })
 }
 
-/// The task of the command `journal`, by its matches.
+/// Builds the task of the command `journal` from its matches.
 pub(crate) fn journal_task(alloc: Global, given: &ArgMatches<'_>) -> Result<Task, AllocError>
     requires { HasFiles (codes "minutes") (rows_of (found_of given.now)) }
     ensures { IfOk result (IsTaskBy (codes "journal") (rows_of (found_of given.now))) }
@@ -123,7 +123,7 @@ pub(crate) fn journal_task(alloc: Global, given: &ArgMatches<'_>) -> Result<Task
     })
 }
 
-/// The task of the command `list`, by its matches.
+/// Builds the task of the command `list` from its matches.
 pub(crate) fn list_task(alloc: Global, given: &ArgMatches<'_>) -> Result<Task, AllocError>
     requires { HasFiles (codes "journal") (rows_of (found_of given.now)) }
     ensures { IfOk result (IsTaskBy (codes "list") (rows_of (found_of given.now))) }
@@ -134,7 +134,7 @@ pub(crate) fn list_task(alloc: Global, given: &ArgMatches<'_>) -> Result<Task, A
     })
 }
 
-/// The task of the command `mend`, by its matches.
+/// Builds the task of the command `mend` from its matches.
 pub(crate) fn mend_task(alloc: Global, given: &ArgMatches<'_>) -> Result<Task, AllocError>
     requires { HasFiles (codes "solution") (rows_of (found_of given.now)) }
     ensures { IfOk result (IsTaskBy (codes "mend") (rows_of (found_of given.now))) }

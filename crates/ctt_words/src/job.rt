@@ -1,48 +1,48 @@
-//! What the program may be asked to do, and why it is asked for nothing.
+//! The job that a command line asks for, and why it may ask for none.
 
 use std::alloc::AllocError;
 
-/// Whose week is asked for, by name.
+/// Whose week is asked for, by the name in the instance.
 #[derive(Drop)]
 pub enum Whose {
-    /// That of a curriculum.
+    /// The week of a curriculum.
     Curriculum(String),
-    /// That of a teacher.
+    /// The week of a teacher.
     Teacher(String),
-    /// That of a course.
+    /// The week of a course.
     Course(String),
-    /// That of a room.
+    /// The week of a room.
     Room(String),
 }
 
 /// How a solution is shown.
 #[derive(Drop)]
 pub enum Showing {
-    /// By the report on it, as text or as JSON, with what is found where `explain` is set; it ends by what the
-    /// solution is where `strict` is set.
+    /// As a report, in text or in JSON. `explain` adds the findings, and `strict` makes the exit
+    /// status say whether the solution is lawful and complete.
     Report {
         json: bool,
         explain: bool,
         strict: bool,
     },
-    /// By its week as tables, of all rooms or of what is named.
+    /// As tables of its week, for all rooms or for what is named.
     Week(Option<Whose>),
-    /// By a page for a browser.
+    /// As a page for a browser.
     Page,
 }
 
-/// What the program is asked to do. Files are given by their names.
+/// What the program is asked to do. Files are given by name.
 #[derive(Drop)]
 pub struct Job {
     /// The file of the instance.
     pub instance: String,
-    /// That of the rooms that are barred in it.
+    /// The file of the rooms that are barred for courses, if there is one.
     pub barred: Option<String>,
-    /// What is to be done with them.
+    /// The task with this instance.
     pub task: Task,
 }
 
-/// What is to be done with an instance.
+/// A task with an instance.
 #[derive(Drop)]
 pub enum Task {
     /// To show a solution.
@@ -50,52 +50,53 @@ pub enum Task {
         solution: String,
         showing: Showing,
     },
-    /// To run a script on a desk, which opens with a solution or empty, and to store the journal where a file is given
-    /// for it.
+    /// To run a script on a desk that opens with a solution or empty, and to store the journal if a
+    /// file is given for it.
     Run {
         script: String,
         start: Option<String>,
         journal: Option<String>,
     },
-    /// To audit a journal of drafts on such a desk.
+    /// To audit a journal on a desk that opens with a solution or empty.
     Audit {
         journal: String,
         start: Option<String>,
     },
-    /// To run scripts on one desk that opens empty, each by a planner on a thread of his own.
+    /// To run scripts on one desk that opens empty, each by a planner on its own thread.
     Crew {
         scripts: Vec<String>,
     },
-    /// To keep a desk, which opens with a solution or empty, with a seat for each planner, and to write minutes where a
-    /// file is given for them.
+    /// To run a desk that opens with a solution or empty, with a seat for each planner, and to
+    /// write the minutes if a file is given for them.
     Desk {
         seats: Vec<String>,
         start: Option<String>,
         minutes: Option<String>,
     },
-    /// To give the journal of minutes.
+    /// To print the journal of the minutes of a desk.
     Journal {
         minutes: String,
     },
-    /// To give the timetable after a journal as a solution.
+    /// To print the timetable after a journal as a solution.
     Listing {
         journal: String,
         start: Option<String>,
     },
-    /// To give a solution without the lectures that cannot be placed.
+    /// To print a solution without the lectures that cannot be placed.
     Mending {
         solution: String,
     },
 }
 
-/// Why the words ask for no job.
+/// Why the words of a command line ask for no job.
 #[derive(Drop)]
 pub enum WordsFault {
-    /// The words form no command of the program, or ask for the weeks of several at once. The text says why.
+    /// The words are not a command of the program, or more than one option says whose week to
+    /// print. The text is the message.
     Refused(String),
-    /// The words ask for this help, or for the version.
+    /// The words ask for help or for the version, which is the text.
     Help(String),
-    /// No memory was left.
+    /// There is not enough memory.
     NoMemory,
 }
 

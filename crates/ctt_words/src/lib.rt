@@ -1,4 +1,4 @@
-//! The words of the command line, and the job that they ask for.
+//! Parsing the command line into the job that it asks for.
 #![tactic(auto)]
 
 mod arguments;

@@ -1,4 +1,4 @@
-//! Commands and their arguments as tables, and as `clap` is told of them.
+//! Tables of commands and their arguments, and the `clap` commands that are built from them.
 
 ghost use Rattle.std.specs.Prelude.{◌≡◌, false, map, IfOk, IsOkAnd};
 ghost use Rattle.clap.specs.Words.{AddsSubcommand, rule_of};
@@ -9,19 +9,19 @@ use clap::{Arg, ArgAction, Command};
 use ctt_text::let_go;
 use std::alloc::{AllocError, Global};
 
-/// An argument of a command: its name for the program, what its value is called in the help, and its help.
+/// An argument of a command: its name, what the help calls its value if it has one, and its help.
 pub(crate) enum Argument {
-    /// One word, by its place; it has to be given.
+    /// One required word, by its position.
     Word(&'static str, &'static str, &'static str),
-    /// One word or more, by their places behind all others; one has to be given.
+    /// One or more required words, by their position after all others.
     Words(&'static str, &'static str, &'static str),
-    /// By its own name, or not at all. It has no value.
+    /// An option without a value.
     Flag(&'static str, &'static str),
-    /// By its own name with a value behind it, or not at all.
+    /// An option with a value.
     Valued(&'static str, &'static str, &'static str),
 }
 
-/// Which command it is.
+/// The name of a command.
 #[derive(Clone, Copy)]
 pub(crate) enum Name {
     Check,
@@ -36,7 +36,7 @@ pub(crate) enum Name {
     Mend,
 }
 
-/// A command.
+/// A command with its texts for the help and its arguments.
 pub(crate) struct Outline {
     pub(crate) command: Name,
     pub(crate) name: &'static str,
@@ -45,7 +45,7 @@ pub(crate) struct Outline {
     pub(crate) arguments: &'static [Argument],
 }
 
-/// The argument, as `clap` is told of it.
+/// Builds the `clap` argument for an argument of the table.
 fn make_argument<'a>(alloc: Global, of: &Argument) -> Arg<'a>
     ensures rule { rule_of result ≡ rule_by of.now }
     ensures local { result.global ≡ false }
@@ -70,7 +70,7 @@ fn make_argument<'a>(alloc: Global, of: &Argument) -> Arg<'a>
     }
 }
 
-/// The command, as `clap` is told of it.
+/// Builds the `clap` command for a command of the table.
 fn make_command<'a>(alloc: Global, of: &Outline) -> Result<Command<'a>, AllocError>
     ensures { IfOk result (IsCommand (app_by of.now)) }
 {
@@ -83,7 +83,7 @@ fn make_command<'a>(alloc: Global, of: &Outline) -> Result<Command<'a>, AllocErr
     Ok(command)
 }
 
-/// A program with one command more, if both could be made.
+/// Adds a command to the program, if both could be built.
 fn with_command<'a>(
     program: Result<Command<'a>, AllocError>,
     made: Result<Command<'a>, AllocError>,
@@ -106,7 +106,7 @@ fn with_command<'a>(
     }
 }
 
-/// The program with these commands.
+/// Adds these commands to the program.
 pub(crate) fn with_commands<'a>(
     alloc: Global,
     alone: Command<'a>,
@@ -122,7 +122,7 @@ pub(crate) fn with_commands<'a>(
     program
 }
 
-/// The command of this name among these.
+/// Finds the command of this name among these.
 pub(crate) fn find(outlines: &[Outline], name: &str) -> Option<Name>
     ensures { result ≡ named_in (map names_by outlines.now) name.now }
 {

@@ -1,4 +1,4 @@
-//! The words of the command line.
+//! Parsing the words of the command line.
 
 ghost use Rattle.std.specs.Prelude.{◌≡◌, ◌↔◌, [], map, IfOk, IfErr, IsErrAnd, IsTrue, OnOk};
 ghost use Rattle.clap.specs.Words.{found_of, kind_of, rows_of, subcommand_rows_of};
@@ -16,13 +16,13 @@ use clap::ArgMatches;
 use clap::error::ErrorKind;
 use std::alloc::{AllocError, Global};
 
-/// The options that say whose week it is, of which at most one may be given.
+/// The options that say whose week to print; at most one may be given.
 const CHOICES: &[&str] = &["curriculum", "teacher", "course", "room"];
 
-/// What is said where more are given.
+/// The message if more than one is given.
 const SEVERAL: &str = "timedesk: at most one of --curriculum, --teacher, --course, --room\n";
 
-/// Whether the weeks of several are asked for at once.
+/// Returns whether more than one option says whose week to print.
 fn wants_several(name: &str, given: &ArgMatches<'_>) -> bool
     ensures { IsTrue result ↔ WantsSeveral name.now (rows_of (found_of given.now)) }
 {
@@ -32,7 +32,7 @@ fn wants_several(name: &str, given: &ArgMatches<'_>) -> bool
     }
 }
 
-/// The fault that `clap` found in the words.
+/// Converts an error of `clap` to a fault of the words.
 fn fault_of_words(alloc: Global, error: clap::Error) -> WordsFault
     ensures { IsOfKind (kind_of error) result }
 {
@@ -47,7 +47,7 @@ fn fault_of_words(alloc: Global, error: clap::Error) -> WordsFault
     }
 }
 
-/// The task of the command of this name, by its matches.
+/// Builds the task of the command of this name from its matches.
 fn task_by(alloc: Global, name: &str, given: &ArgMatches<'_>) -> Result<Task, AllocError>
     requires whole { IsWhole name.now (rows_of (found_of given.now)) }
     requires one { ¬ WantsSeveral name.now (rows_of (found_of given.now)) }
@@ -68,7 +68,7 @@ fn task_by(alloc: Global, name: &str, given: &ArgMatches<'_>) -> Result<Task, Al
     }
 }
 
-/// The job of the command of this name, by its matches.
+/// Builds the job of the command of this name from its matches.
 fn job_by(alloc: Global, name: &str, given: &ArgMatches<'_>) -> Result<Job, AllocError>
     requires whole { IsWhole name.now (rows_of (found_of given.now)) }
     requires one { ¬ WantsSeveral name.now (rows_of (found_of given.now)) }
@@ -81,7 +81,7 @@ fn job_by(alloc: Global, name: &str, given: &ArgMatches<'_>) -> Result<Job, Allo
     })
 }
 
-/// The job that is asked for, by the matches of the words.
+/// Builds the job from the matches of all words.
 fn job_of(alloc: Global, matches: &ArgMatches<'_>) -> Result<Job, WordsFault>
     requires { IsMatched (subcommand_rows_of matches.now) }
     ensures job { IfOk result (IsJobIn (subcommand_rows_of matches.now)) }
@@ -96,7 +96,7 @@ fn job_of(alloc: Global, matches: &ArgMatches<'_>) -> Result<Job, WordsFault>
     Ok(job_by(alloc, name, given)?)
 }
 
-/// Reads the words of a command line, of which the first is the program's name.
+/// Parses the words of a command line, the first of which is the program's name.
 pub fn read_words(alloc: Global, words: &[&str]) -> Result<Job, WordsFault>
     ensures job { IfOk result (IsJobOf (map (λ word. word.now) words.now)) }
     ensures taken { OnOk result (faults_of (map (λ word. word.now) words.now) ≡ []) }

@@ -4,6 +4,6 @@ use Rattle.ctt_script.specs.JournalWords.{reads}
 use Rattle.ctt_script.specs.ReplyPlaces.{lecture}
 use Rattle.ctt_script.proofs.replies.read_so_many_lectures.Given as goal
 
--- what was read so far, and the rest read after it, is all
+-- what was parsed so far, and the rest parsed after it, is all
 abbrev pub invariant-loop : goal.invariant-loop
 invariant-loop l = reads (times (one_more (lecture l.instance)) (l.count - l.counter) l.lectures.items) l.reader ≡ reads (times (one_more (lecture l.instance)) l.count []) l.fn.reader

@@ -4,6 +4,6 @@ use Rattle.ctt_script.specs.JournalWords.{reads}
 use Rattle.ctt_script.specs.ReplyPlaces.{priced}
 use Rattle.ctt_script.proofs.replies.read_so_many_priced.Given as goal
 
--- what was read so far, and the rest read after it, is all
+-- what was parsed so far, and the rest parsed after it, is all
 abbrev pub invariant-loop : goal.invariant-loop
 invariant-loop l = reads (times (one_more (priced l.instance)) (l.count - l.counter) l.list) l.reader ≡ reads (times (one_more (priced l.instance)) l.count []) l.fn.reader

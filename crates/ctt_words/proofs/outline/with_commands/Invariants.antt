@@ -4,6 +4,6 @@ use Rattle.ctt_words.specs.Outlines.{app_by}
 use Rattle.ctt_words.proofs.CommandSteps.{WantsCommands}
 use Rattle.ctt_words.proofs.outline.with_commands.Given as goal
 
--- the commands that are left are wanted
+-- the commands that are left remain to be added
 abbrev pub invariant-loop-outline : goal.invariant-loop-outline
 invariant-loop-outline l = IfOk l.program (WantsCommands (with_commands bare (map app_by l.outlines)) (map app_by (drop l.outline-index l.outlines)))
