@@ -21,7 +21,7 @@ use Rattle.ctt_office.specs.SeatAnswers.{Adds, Does, IsAnsweredBy, IsCommitAlone
 pub adds : {T E : Type 0} (written : Result T E) (P : List ℕ → Type 0) (old new answer : List ℕ) → P answer → OnOk written (new ≡ old ++ answer) → OnOk written (Adds P old new)
 adds written P old new answer is grown = on_ok_weaker written (λ g. (answer, is, g)) grown
 
--- what is answered so is answered in another way
+-- if P implies Q, an added answer of which P holds is one of which Q holds
 pub adds_also : {T E : Type 0} (written : Result T E) (P Q : List ℕ → Type 0) (old new : List ℕ) → ((answer : List ℕ) → P answer → Q answer) → OnOk written (Adds P old new) → OnOk written (Adds Q old new)
 adds_also written P Q old new also grown = on_ok_weaker written (λ a. (a.0, also a.0 a.1, a.2)) grown
 
@@ -43,7 +43,7 @@ module _ {X Y : Type 0} (i : Problem) (t0 : List Placed) where
   no_commit book IsKept Failed (Abandon p) before after answer other is = is
   no_commit book IsKept Failed (Show look) before after answer other is = is
 
-  -- what is no look at what is published is done as in a crew
+  -- all but a look at the published timetable is done as in a crew
   pub no_show : (event : Event) (before after : Seat X Y) (told : Told) → ((look : Look) → event ≡ Show look → ⊥) → Takes i t0 event before after told → Does i t0 event before after told
   no_show (Open p) before after told other is = is
   no_show (Ask p call) before after told other is = is
@@ -54,13 +54,13 @@ module _ {X Y : Type 0} (i : Problem) (t0 : List Placed) where
   no_show (Abandon p) before after told other is = is
   no_show (Show look) before after told other is = absurd (other look refl)
 
-  -- a commit where no book is kept
+  -- a commit without a book
   pub no_book : {B : Type 0} (book : Option B) (IsKept : List JournalEntry → Type 0) (Failed : Type 0) (event : Event) (p : ℕ) (before after : Workplace X Y) (answer : List ℕ) → book ≡ None → event ≡ Commit p → IsCommitAlone i t0 before after answer
       → IsStepAnswer book IsKept Failed i t0 event before after answer
   no_book book IsKept Failed event p before after answer none same is =
       subst (λ e. IsStepAnswer book IsKept Failed i t0 e before after answer) (sym same) (subst (λ o. IsAnsweredBy o IsKept Failed i t0 before after answer) (sym none) is)
 
-  -- a commit where one is
+  -- a commit with a book
   pub with_book : {B : Type 0} (book : Option B) (b : B) (IsKept : List JournalEntry → Type 0) (Failed : Type 0) (event : Event) (p : ℕ) (before after : Workplace X Y) (answer : List ℕ) → book ≡ Some b → event ≡ Commit p
       → IsCommitAnswer IsKept Failed i t0 before after answer → IsStepAnswer book IsKept Failed i t0 event before after answer
   with_book book b IsKept Failed event p before after answer some same is =

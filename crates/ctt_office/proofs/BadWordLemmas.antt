@@ -12,7 +12,7 @@ word_there [] (suc k) w rest h = cc
 word_there (v ∷ ws) zero w rest h = cc
 word_there (v ∷ ws) (suc k) w rest h = word_there ws k w rest h
 
--- and what is left from the next place
+-- what is left from the next place
 pub rest_there : (ws : List (List ℕ)) (k : ℕ) (w : List ℕ) (rest : List (List ℕ)) → drop k ws ≡ w ∷ rest → drop (suc k) ws ≡ rest
 rest_there [] zero w rest h = cc
 rest_there [] (suc k) w rest h = cc
@@ -25,7 +25,7 @@ none_there (v ∷ ws) zero n h le = cc
 none_there (v ∷ ws) (suc k) zero h le = absurd (omega (arith, le))
 none_there (v ∷ ws) (suc k) (suc n) h le = none_there ws k n h (omega (arith, le))
 
--- the first word that is no text
+-- the first word that is not UTF-8
 pub untext_here : (n : ℕ) (w : List ℕ) (ws : List (List ℕ)) → ¬ IsUtf8 w → first_untext n (w ∷ ws) ≡ n
 untext_here n w ws not = by (is_utf8 w) refl
   where

@@ -52,7 +52,7 @@ module _ {X Y : Type 0} (i : Problem) (t0 : List Placed) where
   refused d (refusal.Stale q row asked) is = is.0.planner.committed
   refused d (refusal.NoMemory back) is = ap (λ (e : DraftingValue). e.planner.committed) is.0
 
-  -- a commit that is refused
+  -- a refused commit
   refuses : (before after : Seat X Y) (told : Told) → Commits i t0 before after (Err told) → CommitsNone before after
   refuses (Free p) after told is = as_before (Free p) after is.0
   refuses (Drafting d) after told is = ap (λ (s : Seat X Y). (leaver s).committed) is.2 ∙ refused d is.0 is.1

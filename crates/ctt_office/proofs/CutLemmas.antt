@@ -7,7 +7,7 @@ use Rattle.ctt_text.specs.Reading.{reading}
 use Rattle.ctt_text.proofs.FormLaws.{Yields, at_once, err_same, fills_read, ok_is_err, ok_same, one_later, read_fills}
 use Rattle.ctt_office.specs.Blocks.{AreBlocks}
 
--- where words that fill a form are cut, one is missing
+-- if words that fill a form are cut, one is missing
 pub cut_misses : {F A : Type 0} (missing : ℕ → F) (form : Form F A) (front : List (List ℕ)) (w : List ℕ) (rest : List (List ℕ)) (a : A) (n : ℕ) → Fills form (front ++ w ∷ rest) a
     → read missing form front n ≡ Err (missing (n + length front))
 unfolding read
@@ -16,7 +16,7 @@ cut_misses missing (done x) (v ∷ vs) w rest a n is = absurd is
 cut_misses missing (place rule next) [] w rest a n is = ap (λ k. Err (missing k)) (at_once n)
 cut_misses missing (place rule next) (v ∷ vs) w rest a n is = rw is.0 (cut_misses missing (next v) vs w rest a (n + 1) is.1 ∙ ap (λ k. Err (missing k)) (one_later n (length vs)))
 
--- two lists in turn are two others in turn: the first of them is cut, or has the first of those
+-- if xs and ys joined are us and vs joined, xs is a proper prefix of us, or begins with us
 abbrev AreParts : {X : Type 0} → List X → List X → List X → List X → Type 0
 AreParts {X} xs ys us vs = ((x : X) × (more : List X) × (us ≡ xs ++ x ∷ more)) ⊎ ((more : List X) × (xs ≡ us ++ more) × (more ++ ys ≡ vs))
 
@@ -38,7 +38,7 @@ no_word (x ∷ xs) ys is = cc
 
 module _ {F A : Type 0} (missing : ℕ → F) (form : Form F A) (spell : A → List (List ℕ)) (P : A → Type 0)
     (fills : (a : A) → P a → Fills form (spell a) a) (some : (n : ℕ) → read missing form [] n ≡ Err (missing n)) where
-  -- so are words that are left, and the blocks whose words they are, as far as they go
+  -- the same for the words that are left, and the blocks that these words spell, as far as they go
   abbrev pub AreCut : List A → List (List ℕ) → List (List ℕ) → Type 0
   AreCut es words cut = Each P es × (words ++ cut ≡ flat_map spell es)
 
@@ -49,7 +49,7 @@ module _ {F A : Type 0} (missing : ℕ → F) (form : Form F A) (spell : A → L
       let both : (b, mid) ≡ (e, record { words = more; next = n + length (spell e) }) = ok_same _ _ (sym reads ∙ ap (λ w. read missing form w n) is ∙ all) in
       (ap (λ x. x.0) both, ap (λ x. x.1) both)
 
-  -- the blocks that are read of words that are cut are the first of those that were written
+  -- the blocks that are parsed from cut words are the first of those that were written
   pub read_of_cut : (es bs : List A) (left rest : Left) (cut : List (List ℕ)) → AreCut es left.words cut → AreBlocks missing form left bs rest
       → (more : List A) × (es ≡ bs ++ more) × AreCut more rest.words cut
   read_of_cut es [] left rest cut are is = (es, refl, subst (λ l. AreCut es l.words cut) is are)
@@ -66,7 +66,7 @@ module _ {F A : Type 0} (missing : ℕ → F) (form : Form F A) (spell : A → L
           let next = others (are.0.1, ap (λ (l : Left). l.words ++ cut) first.1 ∙ c.2) is.2 in
           (next.0, (let same = first.0 in let e' = next.1 in cc), next.2)
 
-  -- where words that are cut are read on, one is missing, or a block is whole
+  -- if cut words are parsed further, one is missing, or a block is whole
   pub fault_of_cut : (es : List A) (left : Left) (cut : List (List ℕ)) (fault : F) → AreCut es left.words cut → reading missing form left ≡ Err fault → (k : ℕ) × (fault ≡ missing k)
   fault_of_cut [] left cut fault are is = (left.next, err_same _ _ (sym is ∙ ap (λ w. read missing form w left.next) (no_word left.words cut are.1) ∙ some left.next))
   fault_of_cut (e ∷ es) left cut fault are is = by (parts left.words cut (spell e) (flat_map spell es) are.1)
@@ -75,15 +75,15 @@ module _ {F A : Type 0} (missing : ℕ → F) (form : Form F A) (spell : A → L
       by (inl c) = (left.next + length left.words, err_same _ _ (sym is ∙ cut_misses missing form left.words c.0 c.1 e left.next (subst (λ w. Fills form w e) c.2 (fills e are.0.0))))
       by (inr c) = ok_is_err _ _ _ (sym (ap (λ w. read missing form w left.next) c.1 ∙ fills_read missing form (spell e) c.0 left.next e (fills e are.0.0)) ∙ is)
 
--- ---- blocks that are read one after another
+-- ---- blocks that are parsed one after another
 
--- with one more behind them
+-- with one more after them
 pub one_more_block : {F A : Type 0} (missing : ℕ → F) (form : Form F A) (left mid rest : Left) (xs : List A) (a : A) → AreBlocks missing form left xs mid → reading missing form mid ≡ Ok (a, rest)
     → AreBlocks missing form left (xs ++ a ∷ []) rest
 one_more_block missing form left mid rest [] a is reads = (rest, subst (λ l. reading missing form l ≡ Ok (a, rest)) (sym is) reads, refl)
 one_more_block missing form left mid rest (b ∷ bs) a is reads = (is.0, is.1, one_more_block missing form is.0 mid rest bs a is.2 reads)
 
--- what the form yields holds of each
+-- what holds of each value of the form holds of each block
 pub blocks_hold : {F A : Type 0} (missing : ℕ → F) (form : Form F A) (Q : A → Type 0) → Yields Q form → (left rest : Left) (xs : List A) → AreBlocks missing form left xs rest → Each Q xs
 blocks_hold missing form Q yields left rest [] is = tt
 blocks_hold missing form Q yields left rest (a ∷ xs) is =

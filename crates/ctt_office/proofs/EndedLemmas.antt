@@ -1,4 +1,4 @@
--- The calls of a draft that has ended stale fit.
+-- The calls of a draft that ended stale fit.
 use Rattle.std.proofs.Common.{◌≡◌, inl, inr, Bool, true, false, cond, List, Option, None, Result, Ok, Err, subst, sym}
 use Rattle.std.specs.List.{AllByRecursion as Each}
 use Rattle.ctt_text.specs.Problem.{Problem}
@@ -28,7 +28,7 @@ use Rattle.ctt_crew.specs.declared.seat.Told.TheVariants.{Answer as Answered, No
 use Rattle.ctt_office.specs.Ended.{BackFits, EndedFits, OpenFits, ended_after, is_fresh_start}
 use Rattle.ctt_office.specs.SeatAnswers.{Does}
 
--- what is told by an answer brings no calls back
+-- a report that is an answer returns no calls
 by_answer : (i : Problem) (told : Told) (answer : Answer) → told ≡ Answered answer → BackFits i told
 by_answer i told answer is = subst (BackFits i) (sym is) tt
 
@@ -72,7 +72,7 @@ module _ (i : Problem) (t0 : List Placed) where
     refused_back d (refusal.Stale q row asked) is fit = subst (Each (AskedFits i)) (sym is.0.back) fit
     refused_back d (refusal.NoMemory back) is fit = tt
 
-    -- a commit that is refused brings back calls that fit
+    -- a refused commit returns calls that fit
     pub commits_back : (before after : Seat X Y) (told : Told) → OpenFits i before → Commits i t0 before after (Err told) → BackFits i told
     commits_back (Free p) after told fit is = by_answer i told _ is.1
     commits_back (Drafting d) after told fit is = subst (BackFits i) (sym is.3) (refused_back d is.0 is.1 fit)
@@ -101,7 +101,7 @@ module _ (i : Problem) (t0 : List Placed) where
     outcome_back before after (Ok history) fit is = tt
     outcome_back before after (Err told) fit is = commits_back before after told fit is
 
-    -- and so does any step
+    -- any step does so too
     pub does_back : (event : Event) (before after : Seat X Y) (told : Told) → OpenFits i before → Does i t0 event before after told → BackFits i told
     does_back (Open p) before after told fit is = opens_back before after told is
     does_back (Ask p call) before after told fit is = asks_back call before after told is
@@ -112,7 +112,7 @@ module _ (i : Problem) (t0 : List Placed) where
     does_back (Abandon p) before after told fit is = abandons_back before after told is
     does_back (Show look) before after told fit is = views_back look before after told is
 
--- so the calls fit that are there behind it
+-- so the calls that can be redone then fit
 pub ended_fits : (i : Problem) (told : Told) (before : Option (List Asked)) → EndedFits i before → BackFits i told → EndedFits i (ended_after told before)
 ended_fits i (Answered answer) before fit back = by (is_fresh_start answer)
   where

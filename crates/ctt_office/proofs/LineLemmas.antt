@@ -1,4 +1,4 @@
--- Lines that are cut off the front of bytes.
+-- Lines at the beginning of bytes.
 use Rattle.std.proofs.Common.{◌≡◌, ℕ, suc, ◌+◌, ◌-◌, ◌<◌, ◌==◌, Bool, true, false, List, [], ◌∷◌, ◌++◌, length, take, drop, position, Option, Some, None, refl, sym, ap, subst, ◌∙◌, arith, not}
 use Rattle.std.specs.List.{position_or_len}
 use Rattle.std.specs.Prelude.{OnSome}
@@ -16,7 +16,7 @@ none_from (x ∷ xs) h = by (x == 10) refl (none_from xs)
     by true e more = let first : position_or_len (λ b. b == 10) (x ∷ xs) ≡ 0 = rw e refl in absurd (omega (arith, h, first))
     by false e more = let first : position_or_len (λ b. b == 10) (x ∷ xs) ≡ 1 + position_or_len (λ b. b == 10) xs = rw e refl in (e, more (omega (arith, h, first)))
 
--- where no end is found there is none
+-- if no newline is found there is none
 pub none_ends : (xs : List ℕ) → position (λ b. b == 10) xs ≡ None → IsOpen xs
 none_ends xs h = none_from xs (grind (arith, common_steps, prefix_len-le-length (λ b. not (b == 10)) xs))
 
@@ -37,13 +37,13 @@ cut_at (x ∷ xs) n h lt = by (x == 10) refl (cut_at xs (position_or_len (λ b. 
         let rest = more (omega (arith, lt, at)) in
         subst (λ k. IsCut (take k (x ∷ xs)) (drop (suc k) (x ∷ xs)) (x ∷ xs)) at ((e, rest.0), ap (λ ys. x ∷ ys) rest.1)
 
--- where an end is found the line stands before it
+-- if a newline is found, the line is what precedes it
 pub cut : (xs : List ℕ) (n : ℕ) → position (λ b. b == 10) xs ≡ Some n → IsCut (take n xs) (drop (n + 1) xs) xs
 cut xs n h =
     let more : suc n ≡ n + 1 = omega arith in
     subst (λ k. IsCut (take n xs) (drop k xs) xs) more (cut_at xs n (grind (arith, common_steps)) (grind (arith, common_steps)))
 
--- a line behind so many bytes
+-- a line after the first n bytes
 pub cut_behind : (xs : List ℕ) (g n : ℕ) → IsCut (take n (drop g xs)) (drop (n + 1) (drop g xs)) (drop g xs)
     → IsCut (take (g + n - g) (drop g xs)) (drop (g + n + 1) xs) (drop g xs)
 cut_behind xs g n is =
@@ -51,7 +51,7 @@ cut_behind xs g n is =
     let rest : drop (n + 1) (drop g xs) ≡ drop (g + n + 1) xs = drop-drop (n + 1) g xs ∙ ap (λ k. drop k xs) (omega arith) in
     subst (λ k. IsCut (take k (drop g xs)) (drop (g + n + 1) xs) (drop g xs)) same (subst (λ r. IsCut (take n (drop g xs)) r (drop g xs)) rest is)
 
--- bytes with such a line have one
+-- bytes that begin with such a line contain a newline
 has_line : (line rest bytes : List ℕ) → IsCut line rest bytes → HasLine bytes
 has_line line rest bytes is none = ends line (subst IsOpen is.1 none)
   where

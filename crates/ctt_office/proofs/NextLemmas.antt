@@ -1,4 +1,4 @@
--- What a reader of lines gives next.
+-- What a reader of lines returns next.
 use Rattle.std.proofs.Common.{◌≡◌, ℕ, ◌+◌, ◌-◌, ◌<◌, ◌≤◌, Bool, false, List, [], ◌∷◌, ◌++◌, length, take, drop, Option, Some, None, refl, sym, ap, subst, ◌∙◌, arith, append_assoc, append-nil, inl, inr}
 use Rattle.std.specs.Io.KnownBytes.{Consumes, IsAtEnd, Keeps, prepend_known}
 use Rattle.std.proofs.KnownBytes.{Consumes-kept, Consumes-nil, Consumes-trans}
@@ -11,12 +11,12 @@ open_both : (xs ys : List ℕ) → IsOpen xs → IsOpen ys → IsOpen (xs ++ ys)
 open_both [] ys a b = b
 open_both (x ∷ xs) ys a b = (a.0, open_both xs ys a.1 b)
 
--- what was held is let go
+-- what was held is discarded
 let_go : (left : Option (List ℕ)) (held : List ℕ) → Consumes (prepend_known held left) (prepend_known [] left) held
 let_go None held = tt
 let_go (Some rest) held = refl
 
--- known bytes that lost a front, and then a line with its end, lost the line with that front
+-- known bytes that lost a prefix, and then a line with its newline, lost the line with that prefix
 cut_given : (P : List ℕ → Type 0) (all : Option (List ℕ)) (left : Option (List ℕ)) (front line held rest : List ℕ) → IsOpen front → P (front ++ line)
     → Consumes all (prepend_known held left) front → IsCut line rest held → Gives P all (prepend_known rest left)
 cut_given P None left front line held rest unended long gone is = tt
@@ -69,7 +69,7 @@ at_end_kept None b keeps end = tt
 at_end_kept (Some x) None keeps end = absurd keeps
 at_end_kept (Some x) (Some y) keeps end = sym keeps ∙ end
 
--- what is given behind some reads is given before them
+-- what is returned next after some reads is what is returned next before them
 pub next_kept : (next : Next) (old now new : ReaderValue) → Keeps (coming old) (coming now) → GivesNext next now new → GivesNext next old new
 next_kept Line old now new keeps gives = gives_kept (λ line. (new.line ≡ line) × IsShort line) (coming old) (coming now) (coming new) keeps gives
 next_kept TooLong old now new keeps gives = (gives.0, gives_kept IsLong (coming old) (coming now) (coming new) keeps gives.1)
@@ -77,14 +77,14 @@ next_kept End old now new keeps gives = at_end_kept (coming old) (coming now) ke
 
 -- ---- a line that is too long
 
--- of a line that is too long this much is gone
+-- this much of a line that is too long is gone
 pub record IsPast (old now : ReaderValue) : Type 0 where
   pub gone : List ℕ
   pub unended : IsOpen gone
   pub long : IsLong gone
   pub lost : Consumes (coming old) (coming now) gone
 
--- with what is held it is too long, and not at its end
+-- with what is held the line is too long, and does not end yet
 pub record IsPassing (old now : ReaderValue) : Type 0 where
   pub gone : List ℕ
   pub unended : IsOpen gone
@@ -118,12 +118,12 @@ prepend_none : (held : List ℕ) (left : Option (List ℕ)) → held ≡ [] → 
 prepend_none held None none end = tt
 prepend_none held (Some left) none end = ap (λ h. h ++ left) none ∙ end
 
--- it ends with all bytes
+-- the line ends at the end of all bytes
 pub ends_with_all : (old now : ReaderValue) → IsPast old now → now.line ≡ [] → now.held ≡ [] → IsAtEnd now.left → GivesNext TooLong old now
 ends_with_all old now is none held end =
     (none, lost_all IsLong (coming old) (coming now) is.gone is.unended is.long (let l = is.long in omega (arith, l)) is.lost (prepend_none now.held now.left held end))
 
--- it ends where a line of what is held ends
+-- the line ends at a newline that is held
 pub ends_there : (old now new : ReaderValue) (line : List ℕ) → IsPast old now → new.line ≡ [] → IsCut line new.held now.held → new.left ≡ now.left → GivesNext TooLong old new
 ends_there old now new line is none cut left =
     let long : IsLong (is.gone ++ line) = (let more = length-append is.gone line in let l = is.long in omega (arith, more, l)) in (
@@ -132,7 +132,7 @@ ends_there old now new line is none cut left =
           (cut_given IsLong (coming old) now.left is.gone line now.held new.held is.unended long is.lost cut),
     )
 
--- what is read behind g bytes of what is held, which is a line of n bytes
+-- what is read after the first g bytes held, which begin with a line of n bytes
 pub ends_behind : (old now : ReaderValue) (left : Option (List ℕ)) (items slice : List ℕ) (g n : ℕ) → IsPast old now → now.held ≡ drop g items → now.left ≡ left → slice ≡ drop g items
     → IsCut (take n slice) (drop (n + 1) slice) slice → Gives IsLong (coming old) (prepend_known (drop (g + n + 1) items) left)
 ends_behind old now left items slice g n is held left_is slice_is cut =
@@ -150,7 +150,8 @@ none_taken k xs = let none : k - k ≡ 0 = omega arith in ap (λ j. take j xs) n
 
 -- ---- what was read
 
--- the bytes that were read so far end no line, with those that were held at first; no read failed, and each gave some
+-- the bytes read so far, with those held at first, contain no newline; no read failed, and each
+-- gave some
 pub record HasRead (old now : ReaderValue) : Type 0 where
   pub read : List ℕ
   pub unended : IsOpen (old.held ++ read)
@@ -168,7 +169,7 @@ open_after (x ∷ xs) ys both = open_after xs ys both.1
 open_all : (xs ys more held : List ℕ) → IsOpen (xs ++ ys) → IsOpen (held ++ more) → IsOpen (xs ++ (ys ++ more))
 open_all xs ys more held some both = subst IsOpen (append_assoc xs ys more) (open_both (xs ++ ys) more some (open_after held more both))
 
--- one read more ended no line either
+-- one more read gave no newline either
 pub reads_more : (old now new : ReaderValue) → HasRead old now → IsGrown now new → IsOpen new.held → new.has_failed ≡ now.has_failed → HasRead old new
 reads_more old now new is grown unended same = record {
   read = is.read ++ grown.0;
@@ -178,11 +179,11 @@ reads_more old now new is grown unended same = record {
   few = (let more = length-append is.read grown.0 in let first = is.few in let more_reads = grown.3 in omega (arith, more, first, more_reads));
 }
 
--- what is held is let go
+-- what is held is discarded
 pub reads_still : (old now : ReaderValue) → HasRead old now → HasRead old (record now { line = []; held = [] })
 reads_still old now is = record { read = is.read; unended = is.unended; given = is.given; unfailed = is.unfailed; few = is.few }
 
--- what is read at most once from there on is so from the first on
+-- what is read at most once from a later state is read at most once from the first
 pub once_from : {R : Type 0} (left : R → Option (List ℕ)) (has_failed : R → Bool) (pulls : R → ℕ) (old now : ReaderValue) (reads : ℕ) → HasRead old now → IsReadOnce left has_failed pulls now reads
     → IsReadOnce left has_failed pulls old reads
 once_from left has_failed pulls old now reads is once = (

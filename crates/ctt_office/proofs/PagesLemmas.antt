@@ -34,22 +34,22 @@ minutes_grow i start old new before history entry minutes adds prefix long ends 
     ap (λ e. flat_map (entry_text i) before ++ e) (ends.3 ∙ sym (append-nil (entry_text i last))) ∙ sym (flat_map-append (entry_text i) before (last ∷ [])) in
     subst (λ h. Appends start new (flat_map (entry_text i) h)) is (subst (Appends start new) text (Appends-trans start old new (flat_map (entry_text i) before) entry minutes adds))
 
--- nothing is a front of any text
+-- the empty list is a prefix of any text
 pub nothing_of : (known : Option (List ℕ)) (bs : List ℕ) → AppendsFront known known bs
 nothing_of known bs = (0, Appends-nil known)
 
--- where all was taken and is kept, a front was
+-- if all was taken and is durable, a prefix was taken
 pub all_kept : {T E : Type 0} (synced : Result T E) (old mid new : Option (List ℕ)) (bs : List ℕ) → Appends old mid bs → Keeps mid new → OnErr synced (AppendsFront old new bs)
 all_kept synced old mid new bs all keeps = on_err synced (whole_front old new bs (Appends-kept old mid new bs all keeps))
 
--- an entry is the last one of a history that has some
+-- an entry is the last one of a history that is not empty
 pub has_some : (i : Problem) (history : List JournalEntry) (entry : List ℕ) → EndsWith i history entry → 0 < length history
 has_some i history entry ends =
     let many = length-append ends.0 (ends.1 ∷ []) in
     let whole : length history ≡ length (ends.0 ++ ends.1 ∷ []) = ap length ends.2 in
     omega (arith, whole, many)
 
--- a writer that takes no entry any more, or is not to have this one next, could not take one
+-- a writer that takes no further entry, or already has as many, could not take one
 pub is_out : {W : Type 0} (taken : W → Option (List ℕ)) (marked : W → Bool) (i : Problem) (written history : List JournalEntry) (now : W) (failed : Bool)
     → (failed ≡ false → AreTaken taken i written (taken now)) → (failed ≡ true → IsOut taken marked i written now) → 0 < length history → (failed ≡ true) ⊎ (length history ≤ length written) → IsOut taken marked i written now
 is_out taken marked i written history now true minutes out some why = out refl

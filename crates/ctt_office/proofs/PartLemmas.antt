@@ -1,4 +1,4 @@
--- The words of whole lines, and of what stands behind them.
+-- The words of whole lines, and of what follows them.
 use Rattle.std.proofs.Common.{◌≡◌, ◌∙◌, ℕ, Bool, true, false, not, List, [], ◌∷◌, ◌++◌, refl, sym, ap}
 use Rattle.ctt_text.specs.Words.{begins_word, grow, is_blank, words}
 
@@ -25,7 +25,7 @@ begins_before : (init rest : List ℕ) → begins_word ((init ++ 10 ∷ []) ++ r
 begins_before [] rest = refl
 begins_before (b ∷ init) rest = refl
 
--- the end of a line parts words
+-- a newline separates words
 pub words_apart : (init rest : List ℕ) → words ((init ++ 10 ∷ []) ++ rest) ≡ words (init ++ 10 ∷ []) ++ words rest
 unfolding words is_blank
 words_apart [] rest = refl

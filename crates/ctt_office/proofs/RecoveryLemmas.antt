@@ -28,7 +28,7 @@ use Rattle.ctt_office.specs.Recovery.{AreEntries, EndsLine, IsEntryFault, IsLine
 use Rattle.ctt_office.proofs.CutLemmas.{AreCut, blocks_hold, fault_of_cut, read_of_cut}
 use Rattle.ctt_office.proofs.PartLemmas.{words_apart}
 
--- entries that were read can be written
+-- entries that were parsed can be written
 pub entries_hold : (i : Problem) → IsProblem i → (left rest : Left) (es : List JournalEntry) → AreEntries i left es rest → Each (IsEntry i) es
 entries_hold i is left rest es are = blocks_hold missing (entry_form i) (IsEntry i) (yields_entry i is) left rest es are
 
@@ -38,18 +38,18 @@ entries_fit i es are = Each-map (IsEntry i) (EntryFits i) (λ e both. both.0) es
 pub entries_short : (i : Problem) (es : List JournalEntry) → Each (IsEntry i) es → Each IsShort es
 entries_short i es are = Each-map (IsEntry i) IsShort (λ e both. both.1) es are
 
--- where no word is left an entry lacks its first
+-- if no word is left, an entry lacks its first
 pub lacks_first : (i : Problem) (n : ℕ) → read missing (entry_form i) [] n ≡ Err (missing n)
 unfolding read entry_form ◌>>=◌ fixed known one
 lacks_first i n = refl
 
--- whole lines part words from what stands behind them
+-- whole lines separate their words from those after them
 lines_apart : (lines rest : List ℕ) → EndsLine lines → words (lines ++ rest) ≡ words lines ++ words rest
 unfolding words
 lines_apart lines rest (inl none) = ap (λ l. words (l ++ rest)) none ∙ sym (ap (λ l. words l ++ words rest) none)
 lines_apart lines rest (inr ended) = ap (λ l. words (l ++ rest)) ended.1 ∙ words_apart ended.0 rest ∙ sym (ap (λ l. words l ++ words rest) ended.1)
 
--- ---- whole lines of a text are a text
+-- ---- whole lines of a text are UTF-8 too
 
 take_lines : (front behind : List ℕ) → take (suc (length front)) ((front ++ 10 ∷ []) ++ behind) ≡ front ++ 10 ∷ []
 take_lines [] behind = refl
@@ -75,11 +75,11 @@ pub lines_are_text : (lines behind all : List ℕ) → EndsLine lines → IsUtf8
 lines_are_text lines behind all (inl none) is same = subst IsUtf8 (sym none) (IsUtf8-nil)
 lines_are_text lines behind all (inr ended) is same = subst IsUtf8 (sym ended.1) (ended_is_text ended.0 behind (subst IsUtf8 (same ∙ ap (λ l. l ++ behind) ended.1) is))
 
--- what is behind the whole lines of a text that is cut
+-- what follows the whole lines of a text that is cut
 pub cut_all : (all text lines tail : List ℕ) (n : ℕ) → text ≡ take n all → text ≡ lines ++ tail → all ≡ lines ++ (tail ++ drop n all)
 cut_all all text lines tail n cut parts = sym (take-append-drop n all) ∙ ap (λ t. t ++ drop n all) (sym cut ∙ parts) ∙ append_assoc lines tail (drop n all)
 
--- bytes are left behind so many where there are more than so many
+-- bytes are left after the first n if there are more than n
 pub more_than : (n : ℕ) (bytes : List ℕ) → nat_lt n (length bytes) ≡ has_byte (drop n bytes)
 more_than n bytes = by (drop n bytes) (length-drop n bytes)
   where
@@ -98,12 +98,13 @@ module _ (i : Problem) (is : IsProblem i) (named : IsNamed i) where
       ∙ parts_words (IsEntry i) (entry_text i) (entry_words i) (entry_part i is named) es fit []
       ∙ append-nil (flat_map (entry_words i) es)
 
-  -- whole lines at the beginning of the text of entries are cut off their words
+  -- the words of whole lines at the beginning of the text of entries are cut off from those after
+  -- them
   pub lines_are_cut : (es : List JournalEntry) (lines rest : List ℕ) → Each (IsEntry i) es → flat_map (entry_text i) es ≡ lines ++ rest → EndsLine lines
       → AreCut missing (entry_form i) (entry_words i) (IsEntry i) (entry_fills i is named) (lacks_first i) es (words lines) (words rest)
   lines_are_cut es lines rest fit all ends = (fit, sym (lines_apart lines rest ends) ∙ ap words (sym all) ∙ text_words es fit)
 
-  -- so the entries that are read of them are the first of those that were written
+  -- so the entries that are parsed from them are the first of those that were written
   pub first_entries : (es bs : List JournalEntry) (lines behind : List ℕ) (rest : Left) → Each (IsEntry i) es → flat_map (entry_text i) es ≡ lines ++ behind → EndsLine lines
       → AreEntries i (record { words = words lines; next = 1 }) bs rest → (more : List JournalEntry) × (es ≡ bs ++ more)
   first_entries es bs lines behind rest fit all ends are =
@@ -111,7 +112,7 @@ module _ (i : Problem) (is : IsProblem i) (named : IsNamed i) where
       (lines_are_cut es lines behind fit all ends) are in
       (r.0, r.1)
 
-  -- and a fault behind them is that of a word that is missing
+  -- a fault after them is that of a missing word
   pub only_missing : (es bs : List JournalEntry) (lines behind : List ℕ) (rest : Left) (fault : JournalFault) → Each (IsEntry i) es → flat_map (entry_text i) es ≡ lines ++ behind → EndsLine lines
       → AreEntries i (record { words = words lines; next = 1 }) bs rest → reads (entry_form i) rest ≡ Err fault → (k : ℕ) × (fault ≡ Missing k)
   only_missing es bs lines behind rest fault fit all ends are is_fault =
@@ -119,7 +120,7 @@ module _ (i : Problem) (is : IsProblem i) (named : IsNamed i) where
       (lines_are_cut es lines behind fit all ends) are in
       fault_of_cut missing (entry_form i) (entry_words i) (IsEntry i) (entry_fills i is named) (lacks_first i) r.0 rest (words behind) fault r.2 is_fault
 
-  -- both, of what is read of whole lines
+  -- both, for what is parsed from whole lines
   pub read_first : (es bs : List JournalEntry) (lines behind : List ℕ) (lacks : Bool) → Each (IsEntry i) es → flat_map (entry_text i) es ≡ lines ++ behind → EndsLine lines → IsReadOf i lines bs lacks → IsPrefix bs es
   read_first es bs lines behind lacks fit all ends r =
       let first = first_entries es bs lines behind r.rest fit all ends r.reads_them in

@@ -1,4 +1,4 @@
--- Edits that are made again, one by one.
+-- Edits that are redone, one by one.
 use Rattle.std.proofs.Common.{◌≡◌, ◌∙◌, inl, inr, ℕ, suc, ◌+◌, ◌<◌, Bool, true, false, List, [], ◌∷◌, ◌++◌, length, drop, get_or, flat_map, Option, Some, None, codes, arith, refl, sym, ap, ap₂, subst, append-nil, append_assoc}
 use Rattle.std.specs.Fmt.{decimal}
 use Rattle.std.proofs.Math.Seq.{drop-cons}
@@ -40,7 +40,8 @@ parts_joined (w ∷ ws) vs = ap (λ x. codes " " ++ (w ++ x)) (parts_joined ws v
 abbrev pub parts_of : Problem → List LeftOut → List ℕ
 parts_of i xs = flat_map (λ x. words_part (left_out_words i x)) xs
 
--- of the edits of the draft d, which is e now, some are left: those before them were made again, or left out in the text, which was so and is so now
+-- some edits of the draft d, which is now e, are left; those before them were redone, or left out
+-- in the text, which grew from `old`
 pub record IsRemaking (i : Problem) (d e : DraftingValue) (old now : List ℕ) (again edits : ℕ) (all left : List Edit) : Type 0 where
   pub same : e ≡ record d { asked = e.asked }
   pub calls : e.asked ++ remade i (present_of i e) left ≡ d.asked ++ remade i (present_of i d) all
@@ -48,7 +49,7 @@ pub record IsRemaking (i : Problem) (d e : DraftingValue) (old now : List ℕ) (
   pub mades : again + length (remade i (present_of i e) left) ≡ length (remade i (present_of i d) all)
   pub counts : edits + length left ≡ length all
 
--- the timetable behind an edit that is made
+-- the timetable after an edit that is made
 made_on : (i : Problem) (e : DraftingValue) (x : Edit) → edit_fault i (present_of i e) x ≡ None → present_of i (asked_also e (Edits x) Done) ≡ edited (present_of i e) x
 made_on i e x free =
     ap (whole i e.base) (calls-push e.asked (record { call = Edits x; reply = Done }))
@@ -155,12 +156,12 @@ whole_line i t all again edits text mades counts texts =
 pub new_present : (i : Problem) (d : DraftingValue) → d.asked ≡ [] → present_of i d ≡ d.base
 new_present i d none = ap (λ xs. whole i d.base (calls_of xs)) none
 
--- memory is wanted for a draft that was opened
+-- memory runs out for a draft that was opened
 pub wanted : {X Y : Type 0} (i : Problem) (t0 : List Placed) (p : PlannerValue) (asked : List Asked) (d : DraftingValue) (q : PlannerValue) (after : Workplace X Y) (answer : List ℕ) → IsOpen i t0 p d → q ≡ d.planner → after.seat ≡ Free q → after.ended ≡ Some asked
     → answer ≡ told_line i (Answered NoMemory) → RedoesCalls i t0 p asked after answer
 wanted i t0 p asked d q after answer opened same seat ended line_is = inr (q, Answered NoMemory, (shared.NoMemory, subst (Grows i t0 p) (sym same) opened.planner, refl), seat, ended, line_is)
 
--- the edits that are made again, asked one by one
+-- the edits that are redone, asked for one by one
 abbrev AreAskedFrom : Problem → DraftingValue → List Asked → Type 0
 AreAskedFrom i d xs = AreAsked {X = Unit {0}} {Y = Unit {0}} i (edits_done xs) (Drafting d) (Drafting (record d { asked = d.asked ++ xs }))
 

@@ -59,7 +59,7 @@ module _ {T : Type 0} (asked : List ℕ → SeatLine) (Is : SeatLine → T → T
       let here : all ≡ rest = cc in
       (gives.0, after, refl, gives.1, subst (IsFirstLine gives.0 after) here gives.2)
 
-  -- a line by which he does not leave is answered, and he goes on
+  -- a line by which the planner does not leave is answered, and the seat goes on
   pub sits_on : (before seat next : T) (left old mid new still later : Option (List ℕ)) (line : SeatLine) → IsSitting asked Is before left old mid still seat → Gives (λ bytes. line ≡ asked bytes) still later
       → Tells (Is line seat next) mid new → line ≢ Leave → IsSitting asked Is before left old new later next
   sits_on before seat next None old mid new still later line sits gives tells goes =
@@ -80,7 +80,7 @@ module _ {T : Type 0} (asked : List ℕ → SeatLine) (Is : SeatLine → T → T
       }
 
 module _ {T : Type 0} (asked : List ℕ → SeatLine) (Is : SeatLine → T → T → List ℕ → Type 0) (Gone Unheard : T → Type 0) where
-  -- a line by which he leaves is answered, and he has left
+  -- a line by which the planner leaves is answered, and the seat ends
   pub leaves_by : (before seat next : T) (left old mid new still later : Option (List ℕ)) (line : SeatLine) → IsSitting asked Is before left old mid still seat → Gives (λ bytes. line ≡ asked bytes) still later
       → Tells (Is line seat next) mid new → line ≡ Leave → Gone next → IsSat asked Is Gone Unheard before left old new Left
   leaves_by before seat next None old mid new still later line sits gives tells leaves gone =
@@ -111,28 +111,28 @@ module _ {T : Type 0} (asked : List ℕ → SeatLine) (Is : SeatLine → T → T
       let so_far = sits.served in
       record { answers = sits.answers; told = sits.told; served = (so_far.0, so_far.1, seat, so_far.3, (so_far.4, at_end so_far.1 still so_far.2 end), gone) }
 
-  -- the lines so far are answered, and nothing behind them
+  -- the lines so far are answered, and nothing follows their answers
   stops : (before seat : T) (left old now still : Option (List ℕ)) → IsSitting asked Is before left old now still seat → Gone seat → IsCutShort asked Is Gone before left old now
   stops before seat None old now still sits gone = record { answers = sits.answers; part = []; told = subst (Appends old now) (sym (append-nil sits.answers)) sits.told; served = tt }
   stops before seat (Some bytes) old now still sits gone =
       let so_far = sits.served in
       record { answers = sits.answers; part = []; told = subst (Appends old now) (sym (append-nil sits.answers)) sits.told; served = (so_far.0, so_far.1, seat, so_far.3, so_far.4, inl (refl, gone)) }
 
-  -- the same where memory is wanted
+  -- the same if memory runs out
   halts : (before seat : T) (left old now still : Option (List ℕ)) → IsSitting asked Is before left old now still seat → Unheard seat → IsSat asked Is Gone Unheard before left old now NoMemory
   halts before seat None old now still sits unheard = record { answers = sits.answers; told = sits.told; served = tt }
   halts before seat (Some bytes) old now still sits unheard =
       let so_far = sits.served in
       record { answers = sits.answers; told = sits.told; served = (so_far.0, so_far.1, seat, so_far.3, so_far.4, unheard) }
 
-  -- no line comes any more
+  -- no further line comes
   pub ends_by : (before seat : T) (left old now still : Option (List ℕ)) (failed : Bool) (why : Ending) → IsSitting asked Is before left old now still seat → EndsAt still failed why → Gone seat → IsSat asked Is Gone Unheard before left old now why
   ends_by before seat left old now still failed Left sits end gone = absurd end
   ends_by before seat left old now still failed Ended sits end gone = ended before seat left old now still sits end gone
   ends_by before seat left old now still failed Broken sits end gone = stops before seat left old now still sits gone
   ends_by before seat left old now still failed NoMemory sits end gone = absurd end
 
-  -- a front of the answer to a line more is written
+  -- a prefix of the answer to one more line is written
   cut_off : (before seat next : T) (left old mid new still later : Option (List ℕ)) (line : SeatLine) → IsSitting asked Is before left old mid still seat → Gives (λ bytes. line ≡ asked bytes) still later
       → (answer : List ℕ) → Is line seat next answer → AppendsFront mid new answer → Gone next → IsCutShort asked Is Gone before left old new
   cut_off before seat next None old mid new still later line sits gives answer is front gone =
@@ -156,14 +156,14 @@ module _ {T : Type 0} (asked : List ℕ → SeatLine) (Is : SeatLine → T → T
   breaks_off before seat next left old mid new still later line NoMemory sits gives kept gone unheard =
       halts before seat left old new still (record { answers = sits.answers; told = Appends-kept old mid new sits.answers sits.told kept; served = sits.served }) (unheard refl)
 
--- where a device is the cause it has failed
+-- if a device is the cause, it has failed
 pub read_failed : (known : Option (List ℕ)) (failed : Bool) (why : Ending) (Q : Type 0) → EndsAt known failed why → why ≡ Broken → (failed ≡ true) ⊎ Q
 read_failed known failed why Q end same = inl (subst (EndsAt known failed) same end)
 
 pub write_failed : (failed : Bool) (why : Ending) (P : Type 0) → IsBroken failed why → why ≡ Broken → P ⊎ (failed ≡ true)
 write_failed failed why P is same = inr (subst (IsBroken failed) same is)
 
--- what is lost in front is such a line in another way too
+-- if P implies Q, a line that is lost and of which P holds is one of which Q holds
 pub gives_also : (P Q : List ℕ → Type 0) (old new : Option (List ℕ)) → ((line : List ℕ) → P line → Q line) → Gives P old new → Gives Q old new
 gives_also P Q None new also gives = tt
 gives_also P Q (Some all) None also gives = absurd gives
@@ -177,7 +177,7 @@ asks_short i p line given what is same short = by (nat_le (length line) 65536) r
     by true e = is ∙ ap (seat_line i p) same
     by false e = (let within = le-leb (length line) 65536 short in cc)
 
--- one that is too long asks for nothing that is known
+-- a line that is too long asks for nothing known
 pub asks_long : (i : Problem) (p : ℕ) (line : List ℕ) → IsLong line → TooLong ≡ asked_by i p line
 asks_long i p line long = by (nat_le (length line) 65536) refl
   where
@@ -185,7 +185,7 @@ asks_long i p line long = by (nat_le (length line) 65536) refl
     by true e = (let within = leb-true (length line) 65536 e in absurd (omega (arith, within, long)))
     by false e = refl
 
--- what a line asks for that has come
+-- what the line that was read asks for
 pub asks_short_line : (i : Problem) (p : ℕ) (given : List ℕ) (what : SeatLine) (old new : ReaderValue) → GivesNext Line old new → given ≡ new.line → what ≡ seat_line i p given → Gives (λ line. what ≡ asked_by i p line) (coming old) (coming new)
 asks_short_line i p given what old new gives same is = gives_also (λ line. (new.line ≡ line) × IsShort line) _ (coming old) (coming new) (λ line h. asks_short i p line given what is (same ∙ h.0) h.1) gives
 

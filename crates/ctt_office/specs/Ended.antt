@@ -1,4 +1,4 @@
--- The calls of a draft that has ended stale, and the workplace where they are kept.
+-- The calls of a draft that ended stale, which a workplace stores.
 use Rattle.std.specs.Prelude.{Bool, true, false, cond, List, Option, Some, None, IfSome}
 use Rattle.std.specs.List.{AllByRecursion as Each}
 use Rattle.ctt_text.specs.Problem.{Problem}
@@ -11,30 +11,30 @@ use Rattle.ctt_crew.specs.declared.seat.Seat.TheVariants.{Drafting, Free}
 use Rattle.ctt_crew.specs.declared.seat.Told.{Told}
 use Rattle.ctt_crew.specs.declared.seat.Told.TheVariants.{Answer as Answered, NoPlace, NotYours, Stale}
 
--- by this answer a draft begins, or ends as its planner wants
+-- the answer reports that a draft is opened, committed or abandoned
 abbrev pub is_fresh_start : Answer → Bool
 is_fresh_start Opened = true
 is_fresh_start (Committed n) = true
 is_fresh_start Abandoned = true
 is_fresh_start _ = false
 
--- the calls of an ended draft after what a planner is told, of those from before
+-- the calls that can be redone after a report to the planner, given the earlier ones
 abbrev pub ended_after : Told → Option (List Asked) → Option (List Asked)
 ended_after (Stale row asked) before = Some asked
 ended_after (Answered answer) before = cond (is_fresh_start answer) None before
 ended_after (NotYours n) before = before
 ended_after NoPlace before = before
 
--- such calls fit, with their replies
+-- the calls of the ended draft, and their replies, fit
 abbrev pub EndedFits : Problem → Option (List Asked) → Type 0
 EndedFits i ended = IfSome ended (Each (AskedFits i))
 
--- those of the open draft fit, if one is open
+-- the calls of the open draft fit, if one is open
 abbrev pub OpenFits : {X Y : Type 0} → Problem → Seat X Y → Type 0
 OpenFits i (Free p) = Unit {0}
 OpenFits i (Drafting d) = Each (AskedFits i) d.asked
 
--- and those that come back with what is told
+-- the calls that a report returns fit
 abbrev pub BackFits : Problem → Told → Type 0
 BackFits i (Answered answer) = Unit {0}
 BackFits i (Stale row asked) = Each (AskedFits i) asked

@@ -1,4 +1,4 @@
--- What layers above rest on.
+-- Laws for the layers above.
 use Rattle.std.specs.Prelude.{◌≡◌, List, [], ◌∷◌}
 use Rattle.ctt_text.specs.Problem.{Problem}
 use Rattle.ctt_edits.specs.declared.call.Call.TheVariants.{Edit as Edits}
@@ -13,11 +13,11 @@ use Rattle.ctt_crew.specs.declared.seat.Seat.TheVariants.{Drafting}
 use Rattle.ctt_crew.specs.declared.seat.Told.TheVariants.{Answer as Answered}
 use Rattle.ctt_office.specs.Redone.{remade}
 
--- each of these edits is asked at a seat, one behind another, and answered as done
+-- each of these edits is asked for at a seat, one after another, and answered as done
 abbrev pub AreAsked : {X Y : Type 0} → Problem → List Edit → Seat X Y → Seat X Y → Type 0
 AreAsked i [] before after = after ≡ before
 AreAsked {X} {Y} i (e ∷ es) before after = (next : Seat X Y) × Asks i (Edits e) before next (Answered (Replied Done)) × AreAsked i es next after
 
--- a draft that was opened, and in which edits are made again, stands where asking for those leaves it that were made
+-- redoing edits in a draft without calls gives the same draft as asking for those that can be made
 abbrev pub RedoIsAsking : Type 0
 RedoIsAsking = (i : Problem) (d : DraftingValue) (edits : List Edit) → d.asked ≡ [] → AreAsked {X = Unit {0}} {Y = Unit {0}} i (edits_done (remade i d.base edits)) (Drafting d) (Drafting (record d { asked = remade i d.base edits }))

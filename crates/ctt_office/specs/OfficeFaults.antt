@@ -1,4 +1,4 @@
--- Why a desk is not kept to its end.
+-- Why a desk could not be run to its end.
 use Rattle.std.specs.Prelude.{ℕ, ◌<◌, Result, Ok, Err}
 use Rattle.ctt_desk.specs.declared.shared_fault.SharedFault.{SharedFault}
 use Rattle.ctt_desk.specs.declared.shared_fault.SharedFault.TheVariants as shared
@@ -7,7 +7,7 @@ use Rattle.ctt_office.specs.declared.office_fault.OfficeFault.TheVariants.{Canno
 use Rattle.ctt_office.specs.declared.office_fault.SeatFault.{SeatFault}
 use Rattle.ctt_office.specs.declared.office_fault.SeatFault.TheVariants as seat
 
--- a fault of a desk with so many seats: of one of them the lines cannot be read
+-- a fault of a desk with this number of seats: an unreadable seat is one of them
 abbrev pub IsOfficeFault : ℕ → OfficeFault → Type 0
 IsOfficeFault seats (CannotRead place) = place < seats
 IsOfficeFault seats NoPlace = Unit {0}
@@ -16,19 +16,19 @@ IsOfficeFault seats CannotWrite = Unit {0}
 IsOfficeFault seats NotWritten = Unit {0}
 IsOfficeFault seats NoMemory = Unit {0}
 
--- the fault of an opening that stands, which wants memory or a place
+-- the fault of a shared desk whose opening is lawful: memory or a place is lacking
 abbrev pub of_shared : SharedFault → OfficeFault
 of_shared (shared.Unlawful at fault) = NoMemory
 of_shared shared.NoPlace = NoPlace
 of_shared shared.NoMemory = NoMemory
 
--- the fault of the seat at this place
+-- the fault of the seat with this index
 abbrev pub at_seat : ℕ → SeatFault → OfficeFault
 at_seat place seat.CannotRead = CannotRead place
 at_seat place seat.CannotWrite = CannotWrite
 at_seat place seat.NoMemory = NoMemory
 
--- how the first seats ended, with the seat at this place more: the first fault of all stays
+-- the first fault so far, after the seat with this index has ended too
 abbrev pub first_fault : Result (Unit {0}) OfficeFault → ℕ → Result (Unit {0}) SeatFault → Result (Unit {0}) OfficeFault
 first_fault (Err fault) place seat = Err fault
 first_fault (Ok done) place (Ok same) = Ok same

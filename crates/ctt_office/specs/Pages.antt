@@ -5,11 +5,13 @@ use Rattle.ctt_text.specs.Problem.{Problem}
 use Rattle.ctt_core.specs.declared.journal.JournalEntry.{JournalEntry}
 use Rattle.ctt_script.specs.WrittenText.{entry_text}
 
--- the bytes that stay, where they are known, are all that were taken
+-- if the durable bytes are known, they are all that were taken
 abbrev pub Stays : Option (List ℕ) → Option (List ℕ) → Type 0
 Stays kept taken = IfSome kept (λ bytes. taken ≡ Some bytes)
 
--- pages by their value: the bytes that were taken, and those of them that stay, where they are known; the history of which the entries are written, and whether one could not be; whether a call of the writer has failed
+-- the value of pages: the bytes taken and those of them that are durable, if known; the history
+-- whose entries are written; whether an entry could not be written; whether a call of the writer
+-- has failed
 pub record PagesValue : Type 0 where
   pub taken : Option (List ℕ)
   pub kept : Option (List ℕ)
@@ -17,40 +19,43 @@ pub record PagesValue : Type 0 where
   pub failed : Bool
   pub marked : Bool
 
--- the history that was seen last; none where none was
+-- the history of the last receipt, which is empty if there is none
 abbrev pub seen : Option (List JournalEntry) → List JournalEntry
 seen None = []
 seen (Some history) = history
 
--- what was taken since the start, where the bytes are known, are the entries of the history as a journal has them, in their order
+-- if the bytes are known, those taken since the start are the entries of the history, in order, as
+-- a journal has them
 abbrev pub AreMinutesOf : Problem → List JournalEntry → Option (List ℕ) → Option (List ℕ) → Type 0
 AreMinutesOf i history start taken = Appends start taken (flat_map (entry_text i) history)
 
--- there was a writer, and what was taken since then are these entries
+-- for some earlier state of the writer, the bytes taken since then are the entries of the history
 abbrev pub AreTaken : {W : Type 0} → (W → Option (List ℕ)) → Problem → List JournalEntry → Option (List ℕ) → Type 0
 AreTaken {W} taken i history now = (start : W) × AreMinutesOf i history (taken start) now
 
--- a writer has taken the entries of the history since a start, and all that it has taken stays
+-- some writer has taken the entries of the history since a start, and all that it has taken is
+-- durable
 abbrev pub IsInMinutes : {W : Type 0} → (W → Option (List ℕ)) → (W → Option (List ℕ)) → Problem → List JournalEntry → Type 0
 IsInMinutes {W} taken kept i history = (now : W) × AreTaken taken i history (taken now) × Stays (kept now) (taken now)
 
--- a writer could not take an entry: a call of it has failed, or it has the entries of a history that is no shorter than the one of which the entry is the last
+-- a writer could not take an entry: a call of it has failed, or it already has the entries of a
+-- history that is at least as long as the one that ends with the entry
 abbrev pub IsOut : {W : Type 0} → (W → Option (List ℕ)) → (W → Bool) → Problem → List JournalEntry → W → Type 0
 IsOut {W} taken marked i written now = (marked now ≡ true) ⊎ (AreTaken taken i written (taken now) × (history : List JournalEntry) × (0 < length history) × (length history ≤ length written))
 
--- there was a writer that had taken the entries of a history
+-- some writer has taken the entries of a history
 abbrev pub IsSound : {W : Type 0} → (W → Option (List ℕ)) → Problem → Type 0
 IsSound {W} taken i = (now : W) × (written : List JournalEntry) × AreTaken taken i written (taken now)
 
--- there was a writer that could not take an entry
+-- some writer could not take an entry
 abbrev pub HasFailed : {W : Type 0} → (W → Option (List ℕ)) → (W → Bool) → Problem → Type 0
 HasFailed {W} taken marked i = (now : W) × (written : List JournalEntry) × IsOut taken marked i written now
 
--- the history ends with this entry, as a journal has it
+-- this is the last entry of the history, as a journal has it
 abbrev pub EndsWith : Problem → List JournalEntry → List ℕ → Type 0
 EndsWith i history entry = (before : List JournalEntry) × (last : JournalEntry) × (history ≡ before ++ last ∷ []) × (entry ≡ entry_text i last)
 
--- the last entry of the history was written behind all others, and stays
+-- the last entry of the history was written after all others, and is durable
 pub record IsEntered (history : List JournalEntry) (entry : List ℕ) (old new : PagesValue) : Type 0 where
   pub sound : old.failed ≡ false
   pub still : new.failed ≡ false

@@ -14,11 +14,11 @@ use Rattle.ctt_script.specs.declared.journal_fault.JournalFault.TheVariants.{Bad
 use Rattle.ctt_office.specs.Blocks.{AreBlocks}
 use Rattle.ctt_office.specs.Lines.{IsOpen}
 
--- the bytes are whole lines
+-- the bytes are whole lines: they are empty or end with a newline
 abbrev pub EndsLine : List ℕ → Type 0
 EndsLine bytes = (bytes ≡ []) ⊎ ((front : List ℕ) × (bytes ≡ front ++ 10 ∷ []))
 
--- these entries are read one behind another, and then this is left
+-- these entries are parsed one after another, and then `rest` is left
 abbrev pub AreEntries : Problem → Left → List JournalEntry → Left → Type 0
 AreEntries i left entries rest = AreBlocks missing (entry_form i) left entries rest
 
@@ -26,38 +26,42 @@ AreEntries i left entries rest = AreBlocks missing (entry_form i) left entries r
 abbrev pub IsEnd : Left → Type 0
 IsEnd rest = rest.words ≡ []
 
--- an entry begins that lacks a word
+-- parsing an entry fails since a word is missing
 abbrev pub LacksWord : Problem → Left → Type 0
 LacksWord i rest = (k : ℕ) × (reading missing (entry_form i) rest ≡ Err (Missing k))
 
--- what comes behind the entries: nothing, or an entry that lacks a word, and whether it is that
+-- what follows the entries: nothing, or, if the flag is set, an entry that lacks a word
 abbrev pub Stops : Problem → Left → Bool → Type 0
 Stops i rest false = IsEnd rest
 Stops i rest true = LacksWord i rest
 
--- the fault of the entry that begins there: a word that cannot stand in its place; wanted memory has no cause
+-- the fault of the entry that begins there: a wrong word, or that memory ran out, which needs no
+-- cause
 abbrev pub IsEntryFault : Problem → Left → JournalFault → Type 0
 IsEntryFault i rest (BadWord k) = reading missing (entry_form i) rest ≡ Err (BadWord k)
 IsEntryFault i rest NoMemory = Unit {0}
 IsEntryFault i rest (Missing k) = ⊥
 IsEntryFault i rest (NotText byte) = ⊥
 
--- the entries were read as far as they are whole, or up to a fault
+-- the entries were parsed as far as they are whole, or up to a fault
 abbrev pub IsReadWhole : Problem → Left → Result Bool JournalFault → List JournalEntry → Type 0
 IsReadWhole i left (Ok lacks) entries = (rest : Left) × AreEntries i left entries rest × Stops i rest lacks
 IsReadWhole i left (Err fault) entries = (rest : Left) × AreEntries i left entries rest × IsEntryFault i rest fault
 
+-- the list is not empty
 abbrev pub has_byte : List ℕ → Bool
 has_byte [] = false
 has_byte (b ∷ bs) = true
 
--- of whole lines these entries are read, and behind them nothing stands, or an entry that lacks a word
+-- these entries are parsed from whole lines, and then follows nothing, or an entry that lacks a
+-- word
 pub record IsReadOf (i : Problem) (lines : List ℕ) (entries : List JournalEntry) (lacks : Bool) : Type 0 where
   pub rest : Left
   pub reads_them : AreEntries i (record { words = words lines; next = 1 }) entries rest
   pub stops : Stops i rest lacks
 
--- the text has whole lines, which begin with these entries; behind them stands nothing, or an entry that lacks a word, and behind the lines one without an end
+-- the text begins with whole lines, from which these entries are parsed; it is torn if an entry
+-- that lacks a word follows them, or if bytes without a newline follow the lines
 pub record IsRecovered (i : Problem) (text : List ℕ) (entries : List JournalEntry) (torn : Bool) : Type 0 where
   pub lines : List ℕ
   pub tail : List ℕ
@@ -68,10 +72,10 @@ pub record IsRecovered (i : Problem) (text : List ℕ) (entries : List JournalEn
   pub reads_them : IsReadOf i lines entries lacks
   pub torn_is : torn ≡ lacks || has_byte tail
 
--- the cause of a fault in whole lines that are text: the entry behind those that are whole has it
+-- the cause of a fault in whole lines that are UTF-8: the entry after the whole ones has it
 abbrev pub IsLinesFault : Problem → List ℕ → JournalFault → Type 0
 IsLinesFault i lines fault = (entries : List JournalEntry) × (rest : Left) × AreEntries i (record { words = words lines; next = 1 }) entries rest × IsEntryFault i rest fault
 
--- the cause of a fault in minutes: the whole lines at their beginning are no text, or have it
+-- the cause of a fault in minutes: their whole lines are not UTF-8, or have a fault
 abbrev pub IsMinutesFault : Problem → List ℕ → JournalFault → Type 0
 IsMinutesFault i text fault = (lines tail : List ℕ) × (text ≡ lines ++ tail) × EndsLine lines × IsOpen tail × ((¬ IsUtf8 lines × (fault ≡ NotText (utf8_valid_len lines))) ⊎ IsLinesFault i lines fault)

@@ -30,15 +30,15 @@ use itoa::Buffer;
 use std::alloc::{AllocError, Global};
 use std::sync::Wait;
 
-/// The line of the words with which a line may begin.
+/// The answer to `help`: the words with which a line may begin.
 const HELP: &str =
     "words abandon cheapest commit cost course coursecost curriculum drop help leave missing \
     move open peek place price redo refresh reroom show slot status swap teacher undo\n";
 
-/// How much room is made for the line of an accepted draft.
+/// The capacity in bytes that is reserved for the answer to an accepted draft.
 const COMMITTED: usize = 64;
 
-/// Adds the line of a draft that is not in the minutes.
+/// Adds the answer to a commit that is not in the minutes.
 fn write_not_written(text: &mut String) -> Result<(), AllocError>
     ensures line { OnOk result (string_bytes text.new ≡ string_bytes text.old ++ not_written) }
     ensures room { string_len text.old + 64 ≤ string_capacity text.old → IsOk result }
@@ -46,21 +46,21 @@ fn write_not_written(text: &mut String) -> Result<(), AllocError>
     text.push_str("not written\n")
 }
 
-/// Adds the line with which a planner leaves.
+/// Adds the answer to a planner who leaves.
 fn write_left(text: &mut String) -> Result<(), AllocError>
     ensures { OnOk result (string_bytes text.new ≡ string_bytes text.old ++ left_line) }
 {
     text.push_str("left\n")
 }
 
-/// Adds the line of the words with which a line may begin.
+/// Adds the answer to `help`.
 fn write_help(text: &mut String) -> Result<(), AllocError>
     ensures { OnOk result (string_bytes text.new ≡ string_bytes text.old ++ help_line) }
 {
     text.push_str(HELP)
 }
 
-/// Adds the line of an accepted draft, for which there is room.
+/// Adds the answer to an accepted draft, for which capacity has been reserved.
 fn add_committed(text: &mut String, number: u64)
     requires { string_len text.old + 64 ≤ string_capacity text.old }
     ensures { string_bytes text.new ≡ string_bytes text.old ++ committed_line number }
@@ -70,7 +70,7 @@ fn add_committed(text: &mut String, number: u64)
     text.push('\n').unwrap();
 }
 
-/// Adds the line of what is not done for want of memory.
+/// Adds the answer to a line for which memory ran out.
 pub(crate) fn write_no_memory(instance: &Instance, text: &mut String) -> Result<(), AllocError>
     ensures { OnOk result (string_bytes text.new
         ≡ string_bytes text.old ++ told_line instance.now (Answered NoMemory)) }
@@ -78,7 +78,7 @@ pub(crate) fn write_no_memory(instance: &Instance, text: &mut String) -> Result<
     write_told(text, instance, &Told::Answer(Answer::NoMemory))
 }
 
-/// The entry of the open draft, and room for the line of the answer.
+/// Returns the entry of the open draft, and reserves capacity for the answer.
 fn entry_of<'i, S: Sheet<'i>, J: Naming>(
     alloc: Global,
     seat: &Seat<'i, S, J>,
@@ -94,8 +94,8 @@ fn entry_of<'i, S: Sheet<'i>, J: Naming>(
     Ok(entry)
 }
 
-/// Enters a draft that was accepted last before the receipt was given, and adds the line of the answer, for which there is
-/// room: its number, if it is in the book.
+/// Enters an accepted draft into the book, and adds the answer, for which capacity has been
+/// reserved: the draft's number if it is in the book, and else that it is not written.
 fn enter<J: Naming, W: Durable, R: Wait>(
     rt: &R,
     instance: &Instance,
@@ -116,7 +116,7 @@ fn enter<J: Naming, W: Durable, R: Wait>(
     }
 }
 
-/// Adds the line of a commit that was refused. The calls of a draft that is stale are there then.
+/// Adds the answer to a refused commit. If the draft is stale, its calls can be redone.
 fn refuse<'i, S: Sheet<'i>, J: Naming>(
     instance: &Instance,
     seat: Seat<'i, S, J>,
@@ -135,7 +135,8 @@ fn refuse<'i, S: Sheet<'i>, J: Naming>(
     (Workplace { seat, ended }, written)
 }
 
-/// Commits the draft, and adds the line of the answer: it is reported as accepted if it is in the book.
+/// Commits the draft, and adds the answer. The draft is reported as accepted only if it is in the
+/// book.
 fn commit<'i, S: Sheet<'i>, J: Naming, W: Durable, R: Wait>(
     rt: &R,
     alloc: Global,
@@ -173,7 +174,7 @@ fn commit<'i, S: Sheet<'i>, J: Naming, W: Durable, R: Wait>(
     }
 }
 
-/// Commits the draft without a book, and adds the line of the answer.
+/// Commits the draft without a book, and adds the answer.
 fn commit_alone<'i, S: Sheet<'i>, J: Naming, R: Wait>(
     rt: &R,
     desk: &SharedDesk<S, J>,
@@ -205,7 +206,7 @@ fn commit_alone<'i, S: Sheet<'i>, J: Naming, R: Wait>(
     }
 }
 
-/// Does a step. A look at what is published is shown with a draft open too, which goes on as it was.
+/// Performs a step. A look at the published timetable leaves an open draft as it is.
 fn do_step<'i, S: Sheet<'i>, J: Naming, R: Wait>(
     rt: &R,
     desk: &SharedDesk<S, J>,
@@ -226,7 +227,7 @@ fn do_step<'i, S: Sheet<'i>, J: Naming, R: Wait>(
     }
 }
 
-/// Does a step, and adds the line of the answer.
+/// Performs a step, and adds the answer.
 fn take<'i, S: Sheet<'i>, J: Naming, R: Wait>(
     rt: &R,
     desk: &SharedDesk<S, J>,
@@ -252,7 +253,8 @@ fn take<'i, S: Sheet<'i>, J: Naming, R: Wait>(
     (Workplace { seat, ended }, written)
 }
 
-/// Does a step, and adds the line of the answer. Accepted drafts are entered into the book, if there is one.
+/// Performs a step, and adds the answer. Accepted drafts are entered into the book, if there is
+/// one.
 fn step<'i, S: Sheet<'i>, J: Naming, W: Durable, R: Wait>(
     rt: &R,
     alloc: Global,
@@ -282,7 +284,7 @@ fn step<'i, S: Sheet<'i>, J: Naming, W: Durable, R: Wait>(
     }
 }
 
-/// Takes the last edit back, and adds the line of the answer.
+/// Undoes the last edit, and adds the answer.
 fn undo_at<'i, S: Sheet<'i>, J: Naming>(
     instance: &Instance,
     place: Workplace<'i, S, J>,
@@ -300,9 +302,9 @@ fn undo_at<'i, S: Sheet<'i>, J: Naming>(
     (Workplace { seat, ended }, written)
 }
 
-/// Answers a line of a seat, and adds the line of the answer, if it has one.
+/// Answers a line of a seat, and adds the answer, which is one line or empty.
 ///
-/// `AllocError` if there is no room for that line. An accepted draft has room.
+/// `AllocError` if memory runs out for the answer. No draft is committed then.
 pub(crate) fn answer<'i, S: Sheet<'i>, J: Naming, W: Durable, R: Wait>(
     rt: &R,
     alloc: Global,

@@ -1,4 +1,4 @@
-//! The first word of a line that cannot stand.
+//! The first wrong word of a line.
 
 ghost use Rattle.std.specs.Prelude.{◌≡◌, ◌++◌, [], OnOk, string_bytes};
 ghost use Rattle.ctt_text.specs.Words.{words};
@@ -9,8 +9,8 @@ use ctt_text::{Reader, Words};
 use std::alloc::AllocError;
 use std::marker::Model;
 
-/// The first word of a line that cannot stand, with its number, counted from 1. The word is empty
-/// where the line ends too early, or the word is no text.
+/// The first wrong word of a line, with its number, counted from 1. The word is empty if the line
+/// ends too early, or if the word is not UTF-8.
 #[derive(Drop)]
 pub struct BadWord<'a> {
     at: u64,
@@ -26,7 +26,7 @@ impl<'a> Model for BadWord<'a> {
 }
 
 impl<'a> BadWord<'a> {
-    /// The word of a text with this number, which is counted from 1.
+    /// Returns the word of a text with this number, counted from 1.
     pub(crate) fn of(text: &'a str, at: u64) -> Self
         ensures { result ≡ bad_word at (words text.now) }
     {
@@ -42,7 +42,7 @@ impl<'a> BadWord<'a> {
         }
     }
 
-    /// The first word of a line that is no text. It is not shown.
+    /// Returns the first word of a line that is not UTF-8, by its number alone.
     pub(crate) fn first_untext(line: &[u8]) -> Self
         ensures { result ≡ record { at = first_untext 1 (words line.now); word = [] } }
     {
@@ -50,7 +50,7 @@ impl<'a> BadWord<'a> {
         BadWord { at, word: "" }
     }
 
-    /// Adds the line of the answer.
+    /// Adds the answer to the line.
     pub(crate) fn write(&self, text: &mut String) -> Result<(), AllocError>
         ensures { OnOk result (string_bytes text.new
             ≡ string_bytes text.old ++ bad_word_line self.now) }
@@ -64,7 +64,7 @@ impl<'a> BadWord<'a> {
     }
 }
 
-/// The number of the first word of a line that is no text, counted from 1.
+/// Returns the number of the first word that is not UTF-8, counted from 1.
 fn first_untext(line: &[u8]) -> u64
     ensures { result ≡ first_untext 1 (words line.now) }
 {

@@ -1,4 +1,4 @@
-//! The whole entries at the beginning of minutes.
+//! The recovery of the whole entries at the beginning of minutes.
 
 ghost use Rattle.std.specs.Prelude.{◌≡◌, ◌≤◌, ◌||◌, ℕ, Bool, List, [], length, take, drop, flat_map, IfOk, IfErr, IfSome, MatchResult, is_some};
 ghost use mathlib.Core.List.{IsPrefix};
@@ -18,7 +18,7 @@ use ctt_script::{JournalFault, read_entry, write_entry};
 use ctt_text::{Instance, NoMemory, Reader, let_go};
 use std::alloc::Global;
 
-/// The most entries that are taken.
+/// The most entries that are accepted.
 const ENTRY_LIMIT: u32 = 999_999_999;
 
 /// The whole entries at the beginning of minutes.
@@ -26,11 +26,11 @@ const ENTRY_LIMIT: u32 = 999_999_999;
 pub struct Blocks {
     /// The entries, in order.
     pub entries: Vec<JournalEntry>,
-    /// Behind how many bytes an entry begins that is not whole, if one does.
+    /// The length of these entries in bytes, as a journal has them, if an incomplete entry follows.
     pub torn: Option<usize>,
 }
 
-/// How many bytes the whole lines at the beginning have.
+/// Returns the length in bytes of the whole lines at the beginning.
 fn lines_len(text: &[u8]) -> usize
     ensures within { result ≤ length text.now }
     ensures ends { EndsLine (take result text.now) }
@@ -46,7 +46,7 @@ fn lines_len(text: &[u8]) -> usize
     0
 }
 
-/// How many bytes entries have, as a journal has them.
+/// Returns the length of entries in bytes, as a journal has them.
 fn written_len(
     alloc: Global,
     instance: &Instance,
@@ -63,7 +63,7 @@ fn written_len(
     Ok(text.len())
 }
 
-/// Reads entries up to the end, or up to one that lacks a word, and answers whether one does.
+/// Parses entries to the end, or up to one that lacks a word, and returns whether one does.
 fn read_whole(
     alloc: Global,
     reader: &mut Reader,
@@ -88,7 +88,7 @@ fn read_whole(
     Err(JournalFault::NoMemory)
 }
 
-/// The entries of whole lines, behind which others may stand that are not.
+/// Parses the entries of whole lines. `is_cut` says that an incomplete line follows them.
 fn read_lines(
     alloc: Global,
     instance: &Instance,
@@ -133,10 +133,11 @@ fn read_lines(
     }
 }
 
-/// Reads minutes: the entries one behind another, as a journal has them. The last one may be torn: it is left out. All
-/// else that is no entry is a fault, which names the first word that cannot stand in its place.
+/// Parses minutes: entries one after another, as a journal has them. An incomplete last entry is
+/// left out. Anything else that is not an entry is a fault, which names the first word that is
+/// wrong.
 ///
-/// Of minutes that are cut at any byte these are the first entries of those that were written.
+/// If minutes are cut at any byte, these are the first of the entries that were written.
 pub fn read_blocks(alloc: Global, instance: &Instance, text: &[u8]) -> Result<Blocks, JournalFault>
     ensures recovered { IfOk result (λ b.
         IsRecovered instance.now text.now b.entries.items (is_some b.torn)) }

@@ -1,4 +1,4 @@
-//! The book of minutes: the accepted drafts, in the order of their commits, on a writer whose bytes stay.
+//! The book of minutes: the accepted drafts, in the order of their commits, on a durable writer.
 
 ghost use Rattle.std.specs.Prelude.{◌≡◌, ◌+◌, ◌<◌, ◌≤◌, ◌↔◌, ◌⊎◌, [], length, true, false, IsTrue, OnErr, OnOk};
 ghost use Rattle.std.specs.Io.KnownBytes.{Appends};
@@ -13,23 +13,23 @@ use ctt_devices::{Failed, put_whole};
 use std::marker::Model;
 use std::sync::{Condvar, Mutex, MutexGuard, Wait};
 
-/// What became of an entry that was to be written.
+/// The outcome of an attempt to write an entry.
 #[derive(Clone, Copy, PartialEq, Eq)]
 pub enum Attempt {
-    /// It is written, and stays.
+    /// The entry is written and durable.
     Entered,
-    /// Another one comes before it.
+    /// An earlier entry is still to be written.
     NotYet,
-    /// It is not, and none will be any more.
+    /// The entry is not written, and no later one will be.
     Failed,
 }
 
-/// The pages of the book: a writer, and the last draft that it has taken so that it stays.
+/// The pages of the book: a writer, and the receipt of the last draft whose entry is durable.
 #[derive(Drop)]
 pub struct Pages<W: Durable, J: Naming> {
     writer: W,
     last: Option<Receipt<J>>,
-    /// Whether an entry could not be written. None is written behind it.
+    /// Whether an entry could not be written. If so, no later one is written.
     failed: bool,
 }
 
@@ -53,7 +53,7 @@ impl<W: Durable, J: Naming> Model for Pages<W, J> {
         → IsOut W.Sink.taken W.Sink.has_failed J.problem (seen p.last) p.writer) };
 }
 
-/// Writes an entry, so that it stays.
+/// Writes an entry and makes it durable.
 #[tactic(auto, using(crate::proofs::PagesLemmas::all_kept))]
 fn write<W: Durable>(writer: &mut W, entry: &[u8]) -> Result<(), Failed>
     ensures taken { OnOk result
@@ -67,7 +67,7 @@ fn write<W: Durable>(writer: &mut W, entry: &[u8]) -> Result<(), Failed>
     writer.sync()
 }
 
-/// How many drafts a history has that was seen, if one was.
+/// Returns the number of drafts in the history of a receipt, or 0 if there is none.
 fn count<J: Naming>(last: &Option<Receipt<J>>) -> u64
     ensures { result ≡ length (seen last.now) }
 {
@@ -77,7 +77,8 @@ fn count<J: Naming>(last: &Option<Receipt<J>>) -> u64
     }
 }
 
-/// Whether the history of a receipt begins with one that was seen, if one was.
+/// Returns whether the history of `receipt` begins with that of `last`, which is empty if there is
+/// none.
 fn begins<J: Naming>(last: &Option<Receipt<J>>, receipt: &Receipt<J>) -> bool
     ensures begins { IsTrue result → IsPrefix (seen last.now) receipt.now }
     ensures shorter { IsTrue result ↔ (length (seen last.now) ≤ length receipt.now) }
@@ -89,7 +90,7 @@ fn begins<J: Naming>(last: &Option<Receipt<J>>, receipt: &Receipt<J>) -> bool
 }
 
 impl<W: Durable, J: Naming> Pages<W, J> {
-    /// Nothing is written.
+    /// Creates pages on which nothing is written.
     pub fn new(writer: W) -> Self
         ensures { result ≡ record {
           taken = W.Sink.taken writer;
@@ -106,7 +107,7 @@ impl<W: Durable, J: Naming> Pages<W, J> {
         }
     }
 
-    /// Whether an entry could not be written.
+    /// Returns whether an entry could not be written.
     pub fn has_failed(&self) -> bool
         ensures failed { result ≡ self.now.failed }
         ensures minutes { result ≡ false
@@ -117,7 +118,7 @@ impl<W: Durable, J: Naming> Pages<W, J> {
         self.failed
     }
 
-    /// Writes the entry of the draft that was accepted last before the receipt was given, where it is the next one.
+    /// Writes the entry of the last draft in the history of a receipt, if it is the next one.
     #[tactic(auto, using(crate::proofs::PagesLemmas::nothing_of))]
     pub fn enter(&mut self, receipt: &Receipt<J>, entry: &[u8]) -> Attempt
         requires { EndsWith J.problem receipt.now entry.now }
@@ -156,16 +157,16 @@ impl<W: Durable, J: Naming> Pages<W, J> {
     }
 }
 
-/// The book of minutes, in which threads enter.
+/// The book of minutes, shared by the threads of the seats.
 #[derive(Drop)]
 pub struct Book<W: Durable, J: Naming> {
     pages: Mutex<Pages<W, J>>,
-    /// An entry was written, or could not be.
+    /// Signalled when an entry has been written, or could not be.
     turned: Condvar,
 }
 
 impl<W: Durable, J: Naming> Book<W, J> {
-    /// A book on this writer, in which nothing is written.
+    /// Creates a book on this writer, in which nothing is written.
     pub fn new(writer: W) -> Self {
         Book {
             pages: Mutex::new(Pages::new(writer)),
@@ -173,7 +174,7 @@ impl<W: Durable, J: Naming> Book<W, J> {
         }
     }
 
-    /// Whether an entry could not be written.
+    /// Returns whether an entry could not be written.
     pub fn has_failed<R: Wait>(&self, rt: &R) -> bool
         ensures sound { result ≡ false → IsSound W.Sink.taken J.problem }
         ensures cause { result ≡ true → HasFailed W.Sink.taken W.Sink.has_failed J.problem }
@@ -181,7 +182,10 @@ impl<W: Durable, J: Naming> Book<W, J> {
         self.pages.lock(rt).has_failed()
     }
 
-    /// Enters the draft that was accepted last before the receipt was given, when all before it are written.
+    /// Writes the entry of the last draft in the history of a receipt, after it has waited until
+    /// all earlier ones are written.
+    ///
+    /// `Failed` if an entry could not be written.
     pub fn enter<R: Wait>(&self, rt: &R, receipt: &Receipt<J>, entry: &[u8]) -> Result<(), Failed>
         requires { EndsWith J.problem receipt.now entry.now }
         ensures entered { OnOk result (IsInMinutes W.Sink.taken W.kept J.problem receipt.now) }

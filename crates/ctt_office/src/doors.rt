@@ -1,19 +1,20 @@
-//! How seats are opened.
+//! Opening of the devices of seats.
 
 use ctt_devices::{Failed, Sink, Source};
 use std::marker::{Send, Sync};
 
-/// The devices of seats by their names. Opening one may take as long as nobody is at its other end.
+/// The devices of seats, by the names of the seats. Opening one may block until its other end is
+/// opened.
 pub trait Doors: Sync {
-    /// What a seat reads.
+    /// The input device of a seat.
     type Input: Source + Drop + Send;
 
-    /// What a seat writes.
+    /// The output device of a seat.
     type Output: Sink + Drop + Send;
 
-    /// The device from which the lines of a seat come.
+    /// Opens the device from which the lines of a seat are read.
     fn open_input(&self, seat: &str) -> Result<Self::Input, Failed>;
 
-    /// The device to which the answers of a seat go.
+    /// Opens the device to which the answers of a seat are written.
     fn open_output(&self, seat: &str) -> Result<Self::Output, Failed>;
 }

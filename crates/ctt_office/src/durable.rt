@@ -1,4 +1,4 @@
-//! A writer whose bytes outlive the machine.
+//! Writers whose bytes survive a crash of the machine.
 
 ghost use Rattle.std.specs.Prelude.{◌≡◌, true, OnErr, OnOk};
 ghost use Rattle.std.specs.Io.KnownBytes.{Keeps};
@@ -8,16 +8,16 @@ use ctt_devices::{Device, Failed, Sink};
 use std::fs::OpenFile;
 use std::io::Write;
 
-/// A writer that can put what it took where it stays.
+/// A writer that can make durable what it has taken.
 pub trait Durable: Sink + Drop {
     ghost use Rattle.std.specs.Prelude.{ℕ, List, Option};
 
-    /// The bytes that stay, whatever becomes of the machine, where the writer tells them.
+    /// The bytes that survive a crash of the machine, if they are known.
     ghost kept: { Self → Option (List ℕ) };
 
-    /// Returns when all that was taken stays.
+    /// Returns once all bytes taken are durable.
     ///
-    /// `Failed` where that is not known.
+    /// `Failed` if they may not be.
     fn sync(&mut self) -> Result<(), Failed>
         ensures taken { Keeps (Self.Sink.taken self.old) (Self.Sink.taken self.new) }
         ensures kept { OnOk result (Stays (kept self.new) (Self.Sink.taken self.new)) }

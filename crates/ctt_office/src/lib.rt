@@ -1,5 +1,5 @@
-//! The desk that planners use while they sit at it: lines that are answered one by one, the minutes on the disk, and
-//! the journal that is read from minutes.
+//! The desk that planners use at seats: lines answered one by one, minutes on disk, and the
+//! recovery of a journal from minutes.
 #![tactic(auto)]
 
 mod answering;

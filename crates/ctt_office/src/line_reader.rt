@@ -1,4 +1,4 @@
-//! The lines of a reader, one by one, as they come.
+//! Reading of lines from a source, one at a time.
 
 ghost use Rattle.std.specs.Prelude.{◌≡◌, ◌<◌, ◌≤◌, ◌+◌, ◌-◌, ◌==◌, ℕ, List, [], true, false, length, drop, take, Ok, Some, OnErr, OnOk, OnSome, IfOk, IfSome, IfNone, IsErr, vec_len};
 ghost use Rattle.std.specs.Vec.{vec_capacity};
@@ -13,38 +13,38 @@ use std::alloc::Global;
 use std::marker::Model;
 use std::sync::Wait;
 
-/// The longest line that is kept, without its end.
+/// The greatest length of a line that is stored, in bytes without its newline.
 pub const LINE_LIMIT: usize = 65_536;
 
-/// How many bytes are asked for at once.
+/// The most bytes that one read asks for.
 const PIECE: usize = 4096;
 
-/// How many bytes there is room for: a line that may still be short, and a piece more.
+/// The capacity of the buffer: a line of the greatest length, and one more read.
 const ROOM: usize = LINE_LIMIT + PIECE;
 
-/// What comes next.
+/// The outcome of a request for the next line.
 #[derive(Clone, Copy, PartialEq, Eq)]
 pub enum Next {
-    /// A line, which is at hand now.
+    /// A line, which `line` returns.
     Line,
-    /// A line that is too long, of which nothing is kept.
+    /// A line longer than `LINE_LIMIT`, of which nothing is stored.
     TooLong,
-    /// Nothing: all lines were given.
+    /// Nothing: all lines have been returned.
     End,
 }
 
-/// A reader of which one line after the other is given. It is read from only if no whole line is at hand. Its room is
-/// made with it, so that no line wants memory.
+/// A reader that returns one line after another. It reads from its source only if its buffer holds
+/// no whole line. The buffer is allocated at construction, so that no line can run out of memory.
 #[derive(Drop)]
 pub struct LineReader<R: Source> {
     source: R,
     held: Vec<u8>,
-    /// Where the present line begins and ends in these bytes, and where what comes behind it begins.
+    /// The current line is `held[start..end]`, and the bytes after it begin at `given`.
     start: usize,
     end: usize,
     given: usize,
     is_at_end: bool,
-    /// A read has failed, and none is tried any more.
+    /// Whether a read has failed. If so, no further read is tried.
     is_shut: bool,
 }
 
@@ -70,7 +70,7 @@ impl<R: Source> Model for LineReader<R> {
         × (r.is_shut ≡ true → R.has_failed r.source ≡ true) };
 }
 
-/// Where the first line of bytes ends, if it does.
+/// Returns the offset of the first newline, if there is one.
 #[tactic(auto, using(crate::proofs::LineLemmas::none_ends, crate::proofs::LineLemmas::cut))]
 fn first_end(bytes: &[u8]) -> Option<usize>
     ensures some { OnSome result (HasLine bytes.now) }
@@ -82,7 +82,7 @@ fn first_end(bytes: &[u8]) -> Option<usize>
     line_end(bytes)
 }
 
-/// Takes bytes away at the front.
+/// Removes the first `n` bytes.
 fn remove_front(bytes: &mut Vec<u8>, n: usize)
     requires { n ≤ vec_len bytes.old }
     ensures items { bytes.new.items ≡ drop n bytes.old.items }
@@ -94,9 +94,9 @@ fn remove_front(bytes: &mut Vec<u8>, n: usize)
 }
 
 impl<R: Source> LineReader<R> {
-    /// A reader of which no line was given.
+    /// Creates a reader that has returned no line yet.
     ///
-    /// `NoMemory` if there is no room for a line and a piece more.
+    /// `NoMemory` if the buffer cannot be allocated.
     pub fn new(alloc: Global, source: R) -> Result<Self, NoMemory>
     where
         R: Drop,
@@ -122,15 +122,14 @@ impl<R: Source> LineReader<R> {
         })
     }
 
-    /// The present line, without its end.
+    /// Returns the current line, without its newline.
     pub fn line(&self) -> &[u8]
         ensures { result.now ≡ self.now.line }
     {
         &self.held[self.start..self.end]
     }
 
-    /// Reads some bytes more after those that are held, and answers whether there were any. Only if no whole line is
-    /// held.
+    /// Appends the bytes of one more read to those held, and returns whether there were any.
     fn pull(&mut self) -> Result<bool, Failed>
         requires open { IsOpen self.old.held }
         requires short { IsShort self.old.held }
@@ -164,7 +163,7 @@ impl<R: Source> LineReader<R> {
         Ok(true)
     }
 
-    /// Takes the first line of what is held, if it has an end.
+    /// Takes the first line held, if its newline is held too.
     #[tactic(auto, using(crate::proofs::LineLemmas::cut_behind))]
     fn find(&mut self) -> Option<Next>
         ensures none { IfNone result ((self.new ≡ self.old) × IsOpen self.old.held) }
@@ -188,7 +187,7 @@ impl<R: Source> LineReader<R> {
         Some(Next::Line)
     }
 
-    /// Takes all that is held as the last line, if it is anything.
+    /// Takes all bytes held as the last line, if there are any.
     fn last(&mut self) -> Next
         requires open { IsOpen self.old.held }
         requires short { IsShort self.old.held }
@@ -205,7 +204,7 @@ impl<R: Source> LineReader<R> {
         Next::Line
     }
 
-    /// Lets all go that is held.
+    /// Discards all bytes held.
     fn forget(&mut self)
         ensures { self.new ≡ record self.old { line = []; held = [] } }
     {
@@ -215,7 +214,7 @@ impl<R: Source> LineReader<R> {
         self.given = 0;
     }
 
-    /// Reads on to the end of a line of which so much is held that it is too long, and keeps nothing of it.
+    /// Reads to the end of a line that is known to be too long, and stores nothing of it.
     fn pass_long<W: Wait>(&mut self, rt: &W) -> Result<Next, Failed>
         requires open { IsOpen self.old.held }
         requires long { IsLong self.old.held }
@@ -241,7 +240,7 @@ impl<R: Source> LineReader<R> {
         unreachable!()
     }
 
-    /// Reads on until a line is at hand, or all is read.
+    /// Reads until a whole line is held or the source has ended.
     fn fetch<W: Wait>(&mut self, rt: &W) -> Result<Next, Failed>
         requires { IsOpen self.old.held }
         ensures next { IfOk result (λ next. GivesNext next self.old self.new) }
@@ -264,9 +263,10 @@ impl<R: Source> LineReader<R> {
         unreachable!()
     }
 
-    /// The next line that comes. Bytes after the last end of a line are a line too.
+    /// Returns the next line. Bytes after the last newline are a line too.
     ///
-    /// `Failed` if a read fails, and from then on, if no line is at hand, without another read. It takes no memory.
+    /// `Failed` if a read fails, and from then on, without another read, once no whole line is
+    /// held. Allocates nothing.
     pub fn next<W: Wait>(&mut self, rt: &W) -> Result<Next, Failed>
         ensures next { IfOk result (λ next. GivesNext next self.old self.new) }
         ensures at_hand { HasLine self.old.held → self.new.pulls ≡ self.old.pulls }

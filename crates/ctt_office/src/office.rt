@@ -1,4 +1,4 @@
-//! A desk with its seats, from its opening until all have left.
+//! A desk with its seats, from its opening until all planners have left.
 
 ghost use Rattle.std.specs.Prelude.{◌≡◌, ◌≤◌, ◌<◌, ◌+◌, ℕ, [], Err, Ok, is_some, length, map, IfErr, IfOk, IfSome, OnOk, string_bytes};
 ghost use Rattle.ctt_desk.specs.Names.{IsNamed};
@@ -23,7 +23,7 @@ use std::sync::Wait;
 use std::thread;
 use std::thread::{JoinHandle, Threads};
 
-/// The fault of the first seats that have one, with the seat at this place more, which ended so.
+/// Returns the first fault so far, after the seat with this index has ended too.
 fn ended_also(
     ended: Result<(), OfficeFault>,
     place: usize,
@@ -40,7 +40,7 @@ fn ended_also(
     }
 }
 
-/// Waits until all seats have ended, and gives the fault of the first one that has one.
+/// Waits until all seats have ended, and returns the fault of the first one that has one.
 fn joined<R: Threads>(
     rt: &R,
     threads: Vec<JoinHandle<Result<(), SeatFault>>>,
@@ -54,7 +54,7 @@ fn joined<R: Threads>(
     ended
 }
 
-/// Adds a planner's thread, if it was started.
+/// Adds the thread of a planner, if it was started.
 fn added<T: Drop, E: Drop>(threads: &mut Vec<T>, started: Result<T, E>) -> Result<(), OfficeFault>
     ensures added { OnOk result (length threads.new.items ≡ length threads.old.items + 1) }
     ensures fault { (seats : ℕ) → IfErr result (IsOfficeFault seats) }
@@ -65,7 +65,7 @@ fn added<T: Drop, E: Drop>(threads: &mut Vec<T>, started: Result<T, E>) -> Resul
     }
 }
 
-/// Keeps the seats of a desk until all have ended, each by a thread.
+/// Runs the seats of a desk, each on a thread of its own, until all have ended.
 fn sit_at_once<
     'i,
     'x,
@@ -105,7 +105,7 @@ fn sit_at_once<
     )
 }
 
-/// The planners, each with his seat.
+/// Gives each planner a seat, in the order of the names.
 fn stations<'i, 'x, P: Drop, J: Naming, D: Doors, W: Durable>(
     alloc: Global,
     instance: &'i Instance,
@@ -143,7 +143,7 @@ fn stations<'i, 'x, P: Drop, J: Naming, D: Doors, W: Durable>(
     Ok(seats)
 }
 
-/// Keeps the seats of these names until all have ended.
+/// Runs the seats with these names until all have ended.
 fn seated<'i, J: Naming + Send + Sync, D: Doors, W: Durable + Send, R: Threads + Wait + Sync>(
     rt: &R,
     alloc: Global,
@@ -162,7 +162,7 @@ fn seated<'i, J: Naming + Send + Sync, D: Doors, W: Durable + Send, R: Threads +
     sit_at_once(rt, alloc, desk, seats)
 }
 
-/// A desk of which is known which one it is, with its planners.
+/// Creates the shared desk that `J` names, with its planners.
 fn desk_named<S: Timetable, J: Naming, R: Wait>(
     rt: &R,
     named: Named<S, J>,
@@ -173,7 +173,7 @@ fn desk_named<S: Timetable, J: Naming, R: Wait>(
     Ok(SharedDesk::new(rt, named)?)
 }
 
-/// The last lines of a desk that is closed, if all went well.
+/// Returns the last lines of a closed desk, or the fault of its seats.
 fn last_lines<S: Timetable, J: Naming>(
     alloc: Global,
     closed: &Closed<S, J>,
@@ -188,7 +188,7 @@ fn last_lines<S: Timetable, J: Naming>(
     Ok(closing_report(alloc, closed, Vec::new(alloc))?)
 }
 
-/// Closes a desk whose planners are gone, and gives the last lines, if all went well.
+/// Closes a desk whose seats have ended, and returns its last lines or the fault of its seats.
 fn close<S: Timetable, J: Naming, R: Wait>(
     rt: &R,
     alloc: Global,
@@ -206,7 +206,7 @@ fn close<S: Timetable, J: Naming, R: Wait>(
     text
 }
 
-/// That the minutes are written to their end, if they are kept.
+/// Returns the fault of the seats, if any, or `NotWritten` if an entry could not be written.
 fn checked<J: Naming, W: Durable, R: Wait>(
     rt: &R,
     book: Option<&Book<W, J>>,
@@ -232,7 +232,7 @@ fn checked<J: Naming, W: Durable, R: Wait>(
     }
 }
 
-/// A book on the writer, where one is given.
+/// Creates a book on the writer, if there is one.
 fn book_on<W: Durable, J: Naming>(minutes: Option<W>) -> Option<Book<W, J>>
     ensures { is_some result ≡ is_some minutes }
 {
@@ -242,7 +242,7 @@ fn book_on<W: Durable, J: Naming>(minutes: Option<W>) -> Option<Book<W, J>>
     }
 }
 
-/// Keeps the seats of a desk of which is known which one it is.
+/// Runs the desk that `J` names until all planners have left.
 fn keep_named<'i, J: Naming + Send + Sync, D: Doors, W: Durable + Send, R: Threads + Wait + Sync>(
     rt: &R,
     alloc: Global,
@@ -273,9 +273,10 @@ fn keep_named<'i, J: Naming + Send + Sync, D: Doors, W: Durable + Send, R: Threa
     close::<GridSheet<'i>, J, R>(rt, alloc, desk, ended)
 }
 
-/// Keeps a desk until all planners have left. Each has a seat of this name and a thread, which opens the devices of the
-/// seat; a line is answered before the next one is read. Accepted drafts are entered into the minutes, where a writer is
-/// given for them, each before its planner is told. Gives the number of accepted drafts and the costs as lines.
+/// Runs a desk with one planner per name until all have left. Each has a thread, which opens the
+/// devices of the seat and answers each line before it reads the next one. If there is a writer for
+/// minutes, each accepted draft is entered there before it is reported to its planner. Returns the
+/// number of accepted drafts and the costs, as lines.
 pub fn keep_desk<'i, D: Doors, W: Durable + Send, R: Threads + Wait + Sync>(
     rt: &R,
     alloc: Global,

@@ -1,4 +1,4 @@
-//! Why a desk was not kept to its end.
+//! Why a desk could not be run to its end.
 
 ghost use Rattle.std.specs.Prelude.{◌≡◌};
 ghost use Rattle.ctt_office.specs.OfficeFaults.{at_seat, of_shared};
@@ -11,33 +11,33 @@ use std::alloc::{AllocError, AllocFailed};
 /// Why a seat could not be served.
 #[derive(Clone, Copy, PartialEq, Eq)]
 pub(crate) enum SeatFault {
-    /// The device from which the lines come could not be opened.
+    /// The input device of the seat could not be opened.
     CannotRead,
-    /// The device to which the answers go could not be opened.
+    /// The output device of the seat could not be opened.
     CannotWrite,
-    /// There is not enough memory.
+    /// Out of memory.
     NoMemory,
 }
 
-/// Why a desk was not kept, or not to its end.
+/// Why a desk could not be run, or not to its end.
 #[derive(Clone, Copy, PartialEq, Eq)]
 pub enum OfficeFault {
-    /// `left_right` refused a planner's place.
+    /// `left_right` refused a place to a planner.
     NoPlace,
     /// The thread of a planner could not be started.
     NoThread,
-    /// The device from which the lines of the seat at this place come could not be opened.
+    /// The input device of the seat with this index could not be opened.
     CannotRead(usize),
-    /// A device to which answers go could not be opened.
+    /// The output device of a seat could not be opened.
     CannotWrite,
-    /// The minutes could not be written to their end.
+    /// The minutes could not be written completely.
     NotWritten,
-    /// There is not enough memory.
+    /// Out of memory.
     NoMemory,
 }
 
 impl OfficeFault {
-    /// The fault of the seat at this place.
+    /// Converts the fault of the seat with this index.
     pub(crate) fn at_seat(place: usize, fault: SeatFault) -> OfficeFault
         ensures { result ≡ at_seat place fault }
     {
@@ -52,7 +52,8 @@ impl OfficeFault {
 impl From<SharedFault> for OfficeFault {
     ghost from_gives = { λ fault given. given ≡ of_shared fault };
 
-    /// The opening of the desk stands, so it wants memory or a place and nothing else.
+    /// Converts the fault of a shared desk. The desk already has a lawful opening, so that only
+    /// memory or a place can be lacking.
     fn from(fault: SharedFault) -> OfficeFault {
         match fault {
             SharedFault::NoPlace => OfficeFault::NoPlace,

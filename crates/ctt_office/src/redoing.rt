@@ -1,4 +1,4 @@
-//! The accepted edits of a draft that has ended stale, made again in a new one.
+//! Redoing, in a new draft, of the accepted edits of a draft that ended stale.
 
 ghost use Rattle.std.specs.Prelude.{◌≡◌, ◌≢◌, ◌++◌, [], IfNone, IfOk, IfSome, OnErr, OnOk, codes, flat_map, length, string_bytes};
 ghost use Rattle.std.specs.Fmt.{decimal};
@@ -30,14 +30,14 @@ use ctt_script::{words_of_edit, words_of_fault};
 use ctt_text::{Instance, NoMemory, let_go};
 use std::alloc::{AllocError, Global};
 
-/// How many accepted edits an ended draft had, and how many of them were made again.
+/// The number of accepted edits of an ended draft, and how many of them were redone.
 #[derive(Clone, Copy)]
 struct Tally {
     made: u64,
     edits: u64,
 }
 
-/// Adds an edit that is left out, as the one of this number, and why, each word after a blank.
+/// Adds an edit that is left out, with its number and its fault, each word after a blank.
 fn push_left_out(
     text: &mut String,
     instance: &Instance,
@@ -56,7 +56,7 @@ fn push_left_out(
     push_words(text, words_of_fault(instance, fault).as_slice())
 }
 
-/// The fault that a reply tells, if it tells one.
+/// Returns the fault with which a reply refuses an edit, if it does.
 fn refusal(reply: &Reply) -> Option<EditFault>
     ensures fault { IfSome result (λ fault. reply.now ≡ Refused fault) }
     ensures none { IfNone result ((fault : Fault) → reply.now ≢ Refused fault) }
@@ -67,7 +67,8 @@ fn refusal(reply: &Reply) -> Option<EditFault>
     }
 }
 
-/// The fault of an edit in a draft, if it has one, found by its price. It is no call.
+/// Returns the fault that an edit has in a draft, if any, by a peek at its price. The draft records
+/// no call.
 fn fault_of<'i, S: Sheet<'i>, J: Naming>(
     drafting: &Drafting<'i, S, J>,
     edit: &Edit,
@@ -83,7 +84,8 @@ fn fault_of<'i, S: Sheet<'i>, J: Naming>(
     Ok(fault)
 }
 
-/// Makes an edit in a draft, if it can be made, or else adds that it is left out.
+/// Redoes an edit in a draft if it has no fault, and else adds it to those left out. Returns
+/// whether it was redone.
 fn make_again<'i, S: Sheet<'i>, J: Naming>(
     drafting: &mut Drafting<'i, S, J>,
     instance: &Instance,
@@ -110,7 +112,7 @@ fn make_again<'i, S: Sheet<'i>, J: Naming>(
     }
 }
 
-/// Makes the accepted edits of calls again, and adds those that are left out.
+/// Redoes the accepted edits of calls, and adds those left out.
 fn make_all_again<'i, S: Sheet<'i>, J: Naming>(
     drafting: &mut Drafting<'i, S, J>,
     instance: &Instance,
@@ -144,7 +146,7 @@ fn make_all_again<'i, S: Sheet<'i>, J: Naming>(
     Ok(Tally { made, edits })
 }
 
-/// The line of edits that were made again, with these words of those that are left out.
+/// Returns the answer for redone edits, with these words for those left out.
 fn redone_text(alloc: Global, redone: &Tally, omitted: &str) -> Result<String, NoMemory>
     ensures { IfOk result (λ text. string_bytes text ≡ codes "redone " ++ (decimal redone.now.made
         ++ (codes " of " ++ (decimal redone.now.edits ++ (omitted.now ++ codes "\n"))))) }
@@ -158,8 +160,8 @@ fn redone_text(alloc: Global, redone: &Tally, omitted: &str) -> Result<String, N
     Ok(text)
 }
 
-/// Makes the accepted edits of calls again in a new draft, and adds the line of the answer. Where
-/// memory is wanted nothing is added.
+/// Redoes the accepted edits of calls in a new draft, and adds the answer. If memory runs out,
+/// nothing is added.
 fn redo_in<'i, S: Sheet<'i>, J: Naming>(
     alloc: Global,
     drafting: &mut Drafting<'i, S, J>,
@@ -184,7 +186,7 @@ fn redo_in<'i, S: Sheet<'i>, J: Naming>(
     Ok(text.push_str(line.as_str())?)
 }
 
-/// Adds the line of a planner who could not read.
+/// Adds the answer to a planner for whom no draft could be opened.
 fn write_unread(
     instance: &Instance,
     fault: SharedFault,
@@ -200,8 +202,8 @@ fn write_unread(
     write_told(text, instance, &told)
 }
 
-/// Opens a draft, makes the accepted edits of calls again in it, and adds the line of the answer.
-/// Where it cannot be opened, or memory is wanted, the calls stay.
+/// Opens a draft, redoes the accepted edits of calls in it, and adds the answer. If it cannot be
+/// opened, or memory runs out, the calls can still be redone.
 fn redo_calls<'i, S: Sheet<'i>, J: Naming>(
     alloc: Global,
     instance: &Instance,
@@ -244,8 +246,8 @@ fn redo_calls<'i, S: Sheet<'i>, J: Naming>(
     }
 }
 
-/// Makes the edits of the draft again that ended stale last, if no draft is open, and adds the line
-/// of the answer. Nothing is committed.
+/// Redoes the edits of the draft that ended stale last, if no draft is open, and adds the answer.
+/// Nothing is committed.
 pub(crate) fn redo<'i, S: Sheet<'i>, J: Naming>(
     alloc: Global,
     instance: &Instance,

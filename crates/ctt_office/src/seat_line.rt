@@ -1,4 +1,4 @@
-//! What a line of a seat asks for.
+//! Parsing of the lines of a seat.
 
 ghost use Rattle.std.specs.Prelude.{◌≡◌};
 ghost use Rattle.ctt_text.specs.Words.{words};
@@ -17,21 +17,21 @@ pub enum SeatLine<'a> {
     Blank,
     /// To leave.
     Leave,
-    /// The words with which a line may begin.
+    /// For the words with which a line may begin.
     Help,
-    /// To make the edits of the draft again that ended stale last.
+    /// To redo the edits of the draft that ended stale last.
     Redo,
-    /// To take the last edit back.
+    /// To undo the last edit.
     Undo,
     /// A step of the planner, or a look.
     Step(Event),
-    /// Nothing that is known, by this word.
+    /// Nothing that is known; this is the first wrong word.
     Bad(BadWord<'a>),
-    /// Nothing: it is too long to be read.
+    /// Nothing: it is longer than `LINE_LIMIT`.
     TooLong,
 }
 
-/// A word that is a whole line.
+/// A request that is one word.
 #[derive(Clone, Copy)]
 pub(crate) enum Alone {
     Leave,
@@ -40,7 +40,7 @@ pub(crate) enum Alone {
     Undo,
 }
 
-/// Which whole line a word is.
+/// Returns the request that a word is, if it is one.
 #[tactic(auto, unfolding(crate::specs::SeatText::alone_of))]
 fn alone_of(word: &str) -> Option<Alone>
     ensures { result ≡ alone_of word.now }
@@ -58,7 +58,7 @@ fn alone_of(word: &str) -> Option<Alone>
     }
 }
 
-/// What a whole line asks for that is one word.
+/// Returns what a line of this one word asks for.
 fn line_of<'a>(word: Alone) -> SeatLine<'a>
     ensures { result ≡ line_of word }
 {
@@ -70,7 +70,7 @@ fn line_of<'a>(word: Alone) -> SeatLine<'a>
     }
 }
 
-/// The step that a text asks for, or its first word that cannot stand.
+/// Parses a text as a step, or returns the first wrong word.
 fn read_step<'a>(instance: &Instance, planner: PlannerNo, text: &'a str) -> SeatLine<'a>
     ensures line { result ≡ step_line (words text.now)
         (own_event instance.now planner (words text.now)) }
@@ -82,7 +82,7 @@ fn read_step<'a>(instance: &Instance, planner: PlannerNo, text: &'a str) -> Seat
     }
 }
 
-/// What a text asks for.
+/// Parses a line that is UTF-8.
 fn read_text<'a>(instance: &Instance, planner: PlannerNo, text: &'a str) -> SeatLine<'a>
     ensures line { result ≡ words_line instance.now planner (words text.now) }
     ensures fits { LineFits instance.now planner result }
@@ -103,7 +103,7 @@ fn read_text<'a>(instance: &Instance, planner: PlannerNo, text: &'a str) -> Seat
     }
 }
 
-/// What a line of a planner's seat asks for.
+/// Parses a line of this planner's seat, without its newline.
 pub fn read_seat_line<'a>(instance: &Instance, planner: PlannerNo, line: &'a [u8]) -> SeatLine<'a>
     ensures line { result ≡ seat_line instance.now planner line.now }
     ensures fits { LineFits instance.now planner result }

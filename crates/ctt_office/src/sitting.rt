@@ -1,4 +1,4 @@
-//! A planner at a seat: his lines, each answered before the next one is read.
+//! A planner at a seat, whose lines are each answered before the next one is read.
 
 ghost use Rattle.std.specs.Prelude.{◌≡◌, ◌≢◌, ◌⊎◌, ℕ, true, false, Err, IfErr, IfOk, OnErr, OnOk};
 ghost use Rattle.std.specs.Io.KnownBytes.{Appends};
@@ -35,15 +35,15 @@ use std::sync::Wait;
 pub(crate) enum Ending {
     /// The planner left.
     Left,
-    /// His lines ended.
+    /// The planner's lines ended.
     Ended,
-    /// One of his devices failed.
+    /// A device of the seat failed.
     Broken,
-    /// No memory was left for an answer.
+    /// Memory ran out for an answer.
     NoMemory,
 }
 
-/// Writes an answer, if there is one, and passes it on.
+/// Writes and flushes an answer, unless it is empty.
 fn say<O: Sink>(out: &mut O, answer: &[u8]) -> Result<(), Failed>
     ensures all { OnOk result (Appends (O.taken out.old) (O.taken out.new) answer.now) }
     ensures front { OnErr result (AppendsFront (O.taken out.old) (O.taken out.new) answer.now) }
@@ -55,7 +55,7 @@ fn say<O: Sink>(out: &mut O, answer: &[u8]) -> Result<(), Failed>
     put_whole(out, answer)
 }
 
-/// A seat of a desk of the instance, of which nothing is open yet.
+/// A seat at a desk of the instance, none of whose devices is open yet.
 #[derive(Drop)]
 pub(crate) struct Station<'i, 'x, J: Naming, D: Doors, W: Durable> {
     pub(crate) alloc: Global,
@@ -67,7 +67,9 @@ pub(crate) struct Station<'i, 'x, J: Naming, D: Doors, W: Durable> {
     ghost same: { J.problem ≡ instance.now },
 }
 
-/// Whether the next line is at hand, or is too long; none where none comes any more.
+/// Reads the next line.
+///
+/// `Ended` if there is none, `Broken` if it cannot be read.
 fn next_line<I: Source, R: Wait>(rt: &R, lines: &mut LineReader<I>) -> Result<Next, Ending>
     ensures comes { IfOk result (λ next. Comes next lines.old lines.new) }
     ensures end { IfErr result (EndsAt (coming lines.old) lines.new.has_failed) }
@@ -80,7 +82,7 @@ fn next_line<I: Source, R: Wait>(rt: &R, lines: &mut LineReader<I>) -> Result<Ne
     }
 }
 
-/// What a line asks for that has come.
+/// Returns what the line that was read asks for.
 fn line_of<'a>(instance: &Instance, planner: PlannerNo, next: Next, bytes: &'a [u8]) -> SeatLine<'a>
     ensures fits { LineFits instance.now planner result }
     ensures asked { (old new : ReaderValue) → Comes next old new → bytes.now ≡ new.line
@@ -92,8 +94,9 @@ fn line_of<'a>(instance: &Instance, planner: PlannerNo, next: Next, bytes: &'a [
     }
 }
 
-/// Serves one line of a seat: its answer is written and passed on when this returns. The seat goes on, unless the
-/// planner leaves.
+/// Answers one line of a seat. The answer is written and flushed when this returns.
+///
+/// `NoMemory` if memory runs out for the answer, `Broken` if it cannot be written.
 fn serve<'i, S: Sheet<'i>, J: Naming, W: Durable, O: Sink, R: Wait>(
     rt: &R,
     alloc: Global,
@@ -130,7 +133,7 @@ fn serve<'i, S: Sheet<'i>, J: Naming, W: Durable, O: Sink, R: Wait>(
     }
 }
 
-/// Whether this is the line by which the planner leaves.
+/// Returns whether the planner leaves by this line.
 fn is_last(line: &SeatLine) -> bool
     ensures yes { result ≡ true → line.now ≡ Leave }
     ensures no { result ≡ false → line.now ≢ Leave }
@@ -141,8 +144,8 @@ fn is_last(line: &SeatLine) -> bool
     }
 }
 
-/// Answers the lines of a planner at his seat until he leaves, or they end, or one of his devices fails, or memory is
-/// wanted for an answer. He then leaves his seat, and an open draft is given up.
+/// Answers a planner's lines until the planner leaves, the lines end, a device of the seat fails,
+/// or memory runs out for an answer. An open draft is then abandoned.
 #[tactic(auto, using(crate::proofs::SittingLemmas::read_failed, crate::proofs::SittingLemmas::write_failed))]
 fn sit<'i, S: Sheet<'i>, J: Naming, W: Durable, I: Source, O: Sink, R: Wait>(
     rt: &R,
@@ -228,8 +231,8 @@ fn open_and_sit<'i, 'x, S: Sheet<'i>, J: Naming, D: Doors, W: Durable, R: Wait>(
     }
 }
 
-/// A planner with his seat, at the desk that he shares, over a grid sheet. It names the instance's lifetime once, as what
-/// goes to a thread has to.
+/// A planner with a seat at a shared desk, over a grid sheet. The type has one lifetime for the
+/// instance, as required of what moves to a thread.
 #[derive(Drop)]
 pub(crate) struct GridStation<'i, 'x, J: Naming, D: Doors, W: Durable> {
     pub(crate) desk: &'x SharedDesk<GridSheet<'i>, J>,

@@ -1,4 +1,4 @@
-//! The last accepted edit of a draft, taken back by one more edit.
+//! Undoing of the last accepted edit of a draft, by one more edit.
 
 ghost use Rattle.std.specs.Prelude.{◌≡◌, ◌++◌, OnOk, string_bytes};
 ghost use Rattle.ctt_edits.specs.Edits.{EditFits};
@@ -18,7 +18,7 @@ use ctt_script::{words_of_edit, words_of_fault};
 use ctt_text::Instance;
 use std::alloc::AllocError;
 
-/// Adds the line of an edit by which another one is taken back, by what it was told.
+/// Adds the answer to an undo, which made this edit and got this reply.
 fn write_undone(
     text: &mut String,
     instance: &Instance,
@@ -43,8 +43,7 @@ fn write_undone(
     }
 }
 
-/// Takes the last accepted edit of a draft back that is not taken back yet, and adds the line of the
-/// answer.
+/// Undoes the last accepted edit of a draft that is not undone yet, and adds the answer.
 fn undo_in<'i, S: Sheet<'i>, J: Naming>(
     drafting: &mut Drafting<'i, S, J>,
     instance: &Instance,
@@ -66,8 +65,7 @@ fn undo_in<'i, S: Sheet<'i>, J: Naming>(
     }
 }
 
-/// Takes the last accepted edit of the open draft back, if one is open, and adds the line of the
-/// answer.
+/// Undoes the last accepted edit of the open draft, if one is open, and adds the answer.
 pub(crate) fn undo<'i, S: Sheet<'i>, J: Naming>(
     seat: &mut Seat<'i, S, J>,
     instance: &Instance,

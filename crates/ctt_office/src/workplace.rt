@@ -1,4 +1,4 @@
-//! A seat with what can be made again at it.
+//! A seat, with the calls that can be redone there.
 
 ghost use Rattle.std.specs.Prelude.{◌≡◌, None};
 ghost use Rattle.ctt_crew.specs.Attended.{leaver};
@@ -11,7 +11,7 @@ use ctt_desk::{Naming, Planner};
 use ctt_draft::AskedCalls;
 use ctt_text::let_go;
 
-/// A seat, and the calls of the draft that ended stale last at it, until they are made again or no
+/// A seat, and the calls of the last draft that ended stale there, until they are redone or no
 /// longer wanted.
 #[derive(Drop)]
 pub(crate) struct Workplace<'i, S: Timetable, J: Naming> {
@@ -19,7 +19,7 @@ pub(crate) struct Workplace<'i, S: Timetable, J: Naming> {
     pub(crate) ended: Option<AskedCalls>,
 }
 
-/// Whether an answer says that the calls of an ended draft are no longer wanted.
+/// Returns whether an answer makes the calls of an ended draft obsolete.
 fn is_fresh_start(answer: &Answer) -> bool
     ensures { result ≡ is_fresh_start answer.now }
 {
@@ -29,8 +29,8 @@ fn is_fresh_start(answer: &Answer) -> bool
     }
 }
 
-/// The calls of an ended draft after what a planner is told: those of a draft that is stale, none
-/// where the planner begins or ends one, and else those from before.
+/// Returns the calls that can be redone after a report to the planner: those of a stale draft, none
+/// if the planner has opened or ended one, and the earlier ones otherwise.
 pub(crate) fn ended_after(told: Told, before: Option<AskedCalls>) -> Option<AskedCalls>
     ensures { result ≡ ended_after told before }
 {
@@ -47,7 +47,7 @@ pub(crate) fn ended_after(told: Told, before: Option<AskedCalls>) -> Option<Aske
     }
 }
 
-/// Computes nothing: its contract says that the calls of the open draft fit, and their replies.
+/// Computes nothing. Its contract states that the calls of an open draft, and their replies, fit.
 pub(crate) fn calls_fit<'i, S: Sheet<'i>, J: Naming>(seat: &Seat<'i, S, J>)
     ensures { OpenFits J.problem seat.now }
 {
@@ -58,7 +58,7 @@ pub(crate) fn calls_fit<'i, S: Sheet<'i>, J: Naming>(seat: &Seat<'i, S, J>)
 }
 
 impl<'i, S: Sheet<'i>, J: Naming> Workplace<'i, S, J> {
-    /// The seat of a planner who did nothing yet.
+    /// Creates the seat of a planner who has done nothing yet.
     pub(crate) fn new(planner: Planner<S, J>) -> Self
         ensures { result.ended ≡ None }
     {
@@ -68,7 +68,7 @@ impl<'i, S: Sheet<'i>, J: Naming> Workplace<'i, S, J> {
         }
     }
 
-    /// The planner, who leaves. An open draft is given up.
+    /// Ends the seat and returns its planner. An open draft is abandoned.
     pub(crate) fn leave(self) -> Planner<S, J>
         ensures { result ≡ leaver self.entry.seat }
     {

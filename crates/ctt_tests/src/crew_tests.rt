@@ -1,5 +1,5 @@
-//! Crews of two planners at once, on the small instance: each of them waits for the other at every line. The costs were
-//! computed by hand from the rules.
+//! Crews of two planners on two threads, on the small instance. Each planner waits for the other at
+//! every line. The costs were computed by hand from the rules.
 
 use crate::small::small_instance;
 use crate::stopped::Stopped;
@@ -12,8 +12,9 @@ use std::sync::Wait;
 use std::sync::atomic::{AtomicU64, Ordering};
 use std::thread::{Threads, yield_now};
 
-/// A gate at which two planners take turns, line by line, of whom planner 0 begins. It counts the lines that came to it,
-/// and those that were answered. It gives up after ten million looks, and tells whether it did.
+/// A gate at which two planners take turns, line by line, beginning with planner 0. It counts the
+/// lines that arrived and those that were answered. It gives up after ten million checks, and
+/// counts that too.
 #[derive(Drop)]
 struct TurnsGate {
     came: AtomicU64,
@@ -21,7 +22,7 @@ struct TurnsGate {
     given_up: AtomicU64,
 }
 
-/// The turn at which a planner of two has a line, counted from 0.
+/// Returns the turn, counted from 0, at which a planner of two has a line.
 fn turn_of(planner: PlannerNo, line: u64) -> u64 {
     line.saturating_sub(1)
         .saturating_mul(2)
@@ -45,7 +46,7 @@ impl Gate for TurnsGate {
     }
 }
 
-/// Whether two planners with these scripts are answered so, behind a gate.
+/// Returns whether a crew of two planners with these scripts and this gate writes these answers.
 fn is_answered<R: Threads + Wait + Sync>(
     rt: &R,
     alloc: Global,
@@ -65,7 +66,8 @@ fn is_answered<R: Threads + Wait + Sync>(
     Ok(text.as_slice() == answers.as_bytes())
 }
 
-/// Stops where two planners were not answered so, or where one of them did not wait for the other at each of so many lines.
+/// Fails unless two planners with these scripts write these answers and wait for each other at each
+/// of `lines` lines.
 fn expect_turns<R: Threads + Wait + Abort + Sync>(
     rt: &R,
     alloc: Global,
@@ -106,7 +108,7 @@ fn crew_of_two_of_whom_one_is_stale(rt: HostRuntime) -> Result<(), Stopped> {
     expect_turns(&rt, rt.alloc(), [places, looks], 6, answers)
 }
 
-/// Planner 0 ends with a draft open, in which he has placed the lecture that planner 1 commits.
+/// Planner 0 ends with an open draft that places the lecture that planner 1 commits.
 #[test]
 fn crew_of_two_of_whom_one_leaves_a_draft(rt: HostRuntime) -> Result<(), Stopped> {
     let leaves = "open\nplace geo A 0 1\nopen\n";

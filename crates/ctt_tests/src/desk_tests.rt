@@ -1,5 +1,6 @@
-//! Planners of one desk of grid sheets, of whom two commit drafts by turns, on threads of their own: each entry is where its
-//! receipt says. A third planner may then learn their last receipts, and all three see what was placed.
+//! Planners of one desk of grid sheets, two of whom commit drafts in alternation, on threads of
+//! their own. Each entry must be where its receipt says. A third planner may then learn their last
+//! receipts, and all must see what was placed.
 
 ghost use Rattle.ctt_desk.specs.Names.{IsNamed};
 
@@ -18,27 +19,28 @@ use std::process::Abort;
 use std::sync::{Mutex, MutexGuard, Wait};
 use std::thread::{Threads, join};
 
-/// What is played at a desk.
+/// The parameters of a test at one desk.
 #[derive(Clone, Copy)]
 struct Plan<'a> {
-    /// How many planners the desk has. The last two of them commit drafts.
+    /// The number of planners. The last two commit drafts.
     planners: u16,
-    /// How many drafts each of the two commits.
+    /// The number of drafts that each of the two commits.
     drafts: usize,
-    /// The lectures that these leave.
+    /// The lectures that are placed in the end.
     left: &'a [Placed],
-    /// What these cost.
+    /// The costs in the end.
     costs: Cost,
 }
 
-/// A planner who has committed his drafts, with the last receipt.
+/// A planner who has committed, with the last receipt.
 #[derive(Drop)]
 struct Committed<S: Timetable, J: Naming> {
     planner: Planner<S, J>,
     receipt: Receipt<J>,
 }
 
-/// The numbers of a planner's receipts, in the order of his drafts, with the lecture that these place and drop.
+/// The numbers of a planner's receipts, in the order of the drafts, with the lecture that these
+/// place and drop.
 #[derive(Drop)]
 struct Numbers {
     planner: PlannerNo,
@@ -58,7 +60,7 @@ fn commit_edit<'i, S: Sheet<'i>, J: Naming, R: Wait>(
     Some(Committed { planner, receipt })
 }
 
-/// The placing of a lecture and its removal, by turns.
+/// Returns the edit of a turn: placing and dropping alternate.
 fn edit_of(turn: usize, lecture: &Placed) -> Edit {
     if turn % 2 == 0 {
         place(lecture)
@@ -67,7 +69,7 @@ fn edit_of(turn: usize, lecture: &Placed) -> Edit {
     }
 }
 
-/// A planner commits drafts of one edit, at least one. The receipts' numbers are noted.
+/// Commits drafts of one edit each, at least one, and records the numbers of the receipts.
 fn commit_all<'i, S: Sheet<'i>, J: Naming, R: Wait>(
     rt: &R,
     desk: &SharedDesk<S, J>,
@@ -88,8 +90,8 @@ fn commit_all<'i, S: Sheet<'i>, J: Naming, R: Wait>(
     Some(last)
 }
 
-/// A planner at a desk, with the lecture that is placed and removed, in how many drafts, and where planners go when they are
-/// done.
+/// The work of one planner: the desk, the lecture to place and drop, the number of drafts, and the
+/// list to which the planner is returned.
 #[derive(Drop)]
 struct Turn<'a, 'i, J: Naming> {
     alloc: Global,
@@ -100,7 +102,7 @@ struct Turn<'a, 'i, J: Naming> {
     drafts: usize,
 }
 
-/// What the planner of a turn does. Answers the receipts' numbers.
+/// Does the work of one planner, and returns the numbers of the receipts.
 fn take_turn<'a, 'i, J: Naming, R: Wait>(rt: &R, turn: Turn<'a, 'i, J>) -> Option<Numbers> {
     let Turn {
         alloc,
@@ -123,7 +125,7 @@ fn take_turn<'a, 'i, J: Naming, R: Wait>(rt: &R, turn: Turn<'a, 'i, J>) -> Optio
     Some(numbers)
 }
 
-/// Both planners at work, each on a thread of its own.
+/// Runs both planners, each on a thread of its own.
 fn both_work<'i, J: Naming + Send + Sync, R: Threads + Wait + Sync>(
     rt: &R,
     alloc: Global,
@@ -152,7 +154,7 @@ fn both_work<'i, J: Naming + Send + Sync, R: Threads + Wait + Sync>(
     one.zip(two)
 }
 
-/// A planner sees lectures, each in a draft and in a look at the timetable.
+/// Checks that a planner sees these lectures, each in a draft and in a look at the timetable.
 fn sees_all<'i, S: Sheet<'i>, J: Naming, R: Abort>(
     rt: &R,
     planner: Planner<S, J>,
@@ -165,8 +167,8 @@ fn sees_all<'i, S: Sheet<'i>, J: Naming, R: Abort>(
     Some(planner)
 }
 
-/// The planner who is left, if there is one, learns the last receipts of the others, who come back to him, and all see what
-/// was placed.
+/// Lets the remaining planner, if there is one, learn the last receipts of the others, and checks
+/// that all planners see what was placed. All planners are returned to the list.
 fn all_see<'i, S: Sheet<'i>, J: Naming, R: Abort>(
     rt: &R,
     planners: &mut Vec<Planner<S, J>>,
@@ -187,7 +189,7 @@ fn all_see<'i, S: Sheet<'i>, J: Naming, R: Abort>(
     Some(())
 }
 
-/// The same, over grid sheets.
+/// Calls `all_see` with grid sheets.
 fn all_see_on_grid<'i, J: Naming, R: Abort>(
     rt: &R,
     planners: &mut Vec<Planner<GridSheet<'i>, J>>,
@@ -197,13 +199,14 @@ fn all_see_on_grid<'i, J: Naming, R: Abort>(
     all_see::<GridSheet<'i>, J, R>(rt, planners, done, plan)
 }
 
-/// The entry with this number, from 1.
+/// Returns the entry with this number, counted from 1.
 fn entry_at(journal: &[JournalEntry], number: u64) -> Option<&JournalEntry> {
     let before = number.checked_sub(1)?;
     journal.get(usize::try_from(before).ok()?)
 }
 
-/// Whether a planner has so many receipts, and the entry at the number of each is his draft.
+/// Returns whether a planner has this number of receipts, and the entry at the number of each is
+/// the planner's draft.
 fn stands_in(journal: &[JournalEntry], numbers: &Numbers, drafts: usize) -> bool {
     for (turn, number) in numbers.list.iter().enumerate() {
         let Some(entry) = entry_at(journal, *number) else {
@@ -216,7 +219,7 @@ fn stands_in(journal: &[JournalEntry], numbers: &Numbers, drafts: usize) -> bool
     numbers.list.len() == drafts
 }
 
-/// How often a number stands in a list.
+/// Returns how often a number occurs in a list.
 fn count_of(list: &[u64], number: u64) -> u64 {
     let mut count = 0u64;
     for one in list {
@@ -227,7 +230,7 @@ fn count_of(list: &[u64], number: u64) -> u64 {
     count
 }
 
-/// Whether each number from 1 to the last one comes once in the receipts of two planners.
+/// Returns whether each number from 1 to the last one occurs once in the receipts of two planners.
 fn come_once(one: &Numbers, two: &Numbers, last: u64) -> bool {
     for number in 1..=last {
         let count = count_of(&one.list, number).saturating_add(count_of(&two.list, number));
@@ -238,8 +241,8 @@ fn come_once(one: &Numbers, two: &Numbers, last: u64) -> bool {
     true
 }
 
-/// Whether a closed desk has the entries of both planners where the receipts say, each number once, and the lectures that are
-/// left.
+/// Returns whether a closed desk has the entries of both planners where their receipts say, each
+/// number once, and the lectures that are left.
 fn is_of_both<S: Timetable, J: Naming>(
     closed: &Closed<S, J>,
     numbers: &(Numbers, Numbers),
@@ -257,7 +260,7 @@ fn is_of_both<S: Timetable, J: Naming>(
         && is_left(closed, plan.left, plan.costs)
 }
 
-/// Stops where a desk was not closed with all planners, or does not have the entries of both.
+/// Fails unless a desk was closed with all its planners and has the entries of both.
 fn expect_both<S: Timetable, J: Naming>(
     rt: &impl Abort,
     closed: Result<Closed<S, J>, Closed<S, J>>,
@@ -274,8 +277,8 @@ fn expect_both<S: Timetable, J: Naming>(
     }
 }
 
-/// Two planners work at once, and all see what they did: every receipt's number comes once, its entry stands there, and the
-/// journal begins with what each planner has seen.
+/// Runs two planners at once, and checks that each receipt's number occurs once, that its entry is
+/// there, and that all planners see what was placed.
 fn played<'i, J: Naming + Send + Sync, R: Threads + Wait + Abort + Sync>(
     rt: &R,
     alloc: Global,
@@ -314,7 +317,7 @@ fn played_on_grid<'i, R: Threads + Wait + Abort + Sync>(
     played::<Brand, R>(rt, alloc, opened, plan.planners, plan)
 }
 
-/// Plays a plan on the small instance.
+/// Runs a test on the small instance.
 fn expect_played<R: Threads + Wait + Abort + Sync>(
     rt: &R,
     alloc: Global,

@@ -1,4 +1,4 @@
-//! Planners at a desk for threads: their calls, and what is told.
+//! Calls of planners at a shared desk, and checks of the answers.
 
 ghost use Rattle.std.specs.Prelude.{◌≡◌, ◌↔◌, IsTrue};
 ghost use Rattle.ctt_edits.specs.Calls.{CallFits};
@@ -14,19 +14,19 @@ use std::alloc::Global;
 use std::process::Abort;
 use std::sync::Wait;
 
-/// The edit that places a lecture.
+/// Returns the edit that places a lecture.
 pub(crate) fn place(lecture: &Placed) -> Edit {
     Edit::Place(lecture.course, lecture.slot, lecture.room)
 }
 
-/// Whether a call has numbers of the instance.
+/// Returns whether the numbers of a call are those of the instance.
 fn call_fits<'i, S: Sheet<'i>, J: Naming>(drafting: &Drafting<'i, S, J>, call: &Call) -> bool
     ensures { IsTrue result ↔ CallFits J.problem call.now }
 {
     call.fits(drafting.instance())
 }
 
-/// Makes a call in a draft.
+/// Makes a call in a draft, if its numbers are those of the instance.
 fn ask<'i, S: Sheet<'i>, J: Naming>(
     drafting: &mut Drafting<'i, S, J>,
     call: Call,
@@ -37,7 +37,7 @@ fn ask<'i, S: Sheet<'i>, J: Naming>(
     drafting.call(call).ok()
 }
 
-/// Opens a draft of one call.
+/// Opens a draft, and makes one call in it.
 pub(crate) fn drafted<'i, S: Sheet<'i>, J: Naming>(
     planner: Planner<S, J>,
     call: Call,
@@ -47,7 +47,7 @@ pub(crate) fn drafted<'i, S: Sheet<'i>, J: Naming>(
     Some((drafting, reply))
 }
 
-/// Commits a draft.
+/// Commits a draft, which must be accepted.
 pub(crate) fn accepted<'i, S: Sheet<'i>, J: Naming, R: Wait>(
     rt: &R,
     desk: &SharedDesk<S, J>,
@@ -56,7 +56,7 @@ pub(crate) fn accepted<'i, S: Sheet<'i>, J: Naming, R: Wait>(
     drafting.commit(rt, desk).ok()
 }
 
-/// Whether a reply shows this lecture alone.
+/// Returns whether a reply shows this lecture alone.
 fn shows(reply: &Reply, lecture: &Placed) -> bool {
     match reply {
         Reply::Lectures(list) => list.as_slice() == [*lecture].as_slice(),
@@ -64,7 +64,7 @@ fn shows(reply: &Reply, lecture: &Placed) -> bool {
     }
 }
 
-/// Whether an entry is this edit of this planner, which was made.
+/// Returns whether an entry is this one edit of this planner, answered as done.
 pub(crate) fn is_entry(entry: &JournalEntry, planner: PlannerNo, edit: Edit) -> bool {
     match entry.asked.as_slice() {
         [asked] => {
@@ -76,7 +76,7 @@ pub(crate) fn is_entry(entry: &JournalEntry, planner: PlannerNo, edit: Edit) -> 
     }
 }
 
-/// Costs.
+/// Builds costs from their four parts.
 pub(crate) fn costs(capacity: u64, days: u64, compactness: u64, stability: u64) -> Cost {
     Cost {
         capacity,
@@ -86,7 +86,7 @@ pub(crate) fn costs(capacity: u64, days: u64, compactness: u64, stability: u64) 
     }
 }
 
-/// Whether a closed desk has these lectures, which cost so much.
+/// Returns whether a closed desk has these lectures and these costs.
 pub(crate) fn is_left<S: Timetable, J: Naming>(
     closed: &Closed<S, J>,
     lectures: &[Placed],
@@ -98,12 +98,12 @@ pub(crate) fn is_left<S: Timetable, J: Naming>(
     }
 }
 
-/// The empty timetable.
+/// Opens the empty timetable.
 pub(crate) fn empty<'i, S: Sheet<'i>>(alloc: Global, small: &'i Instance) -> Option<Opened<S>> {
     Opened::<S>::new(alloc, small, &[]).ok()
 }
 
-/// Stops where a look has numbers beyond those of the instance.
+/// Fails unless the numbers of a look are those of the instance.
 fn expect_look_fits<J: Naming>(rt: &impl Abort, small: &Instance, look: &Look)
     requires { small.now ≡ J.problem }
     ensures { LookFits J.problem look.now }
@@ -111,7 +111,7 @@ fn expect_look_fits<J: Naming>(rt: &impl Abort, small: &Instance, look: &Look)
     assert!(rt; look.fits(small));
 }
 
-/// Stops where a planner does not see this lecture alone in its slot in a look at the timetable.
+/// Fails unless a look at the timetable shows the planner this lecture alone in its slot.
 fn expect_viewed<'i, S: Sheet<'i>, J: Naming, R: Abort>(
     rt: &R,
     small: &Instance,
@@ -127,8 +127,8 @@ fn expect_viewed<'i, S: Sheet<'i>, J: Naming, R: Abort>(
     Some(())
 }
 
-/// Stops where a planner does not see this lecture alone in its slot: in a draft that he then abandons, and in a look at
-/// the timetable.
+/// Fails unless the planner sees this lecture alone in its slot, in a draft that is then abandoned
+/// and in a look at the timetable.
 pub(crate) fn expect_seen<'i, S: Sheet<'i>, J: Naming, R: Abort>(
     rt: &R,
     planner: Planner<S, J>,

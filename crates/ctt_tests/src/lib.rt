@@ -1,5 +1,6 @@
-//! Tests of planners on threads: what no clause says, and neither a run of the program nor the trials show. They stand by
-//! themselves, so that no other crate is proved a second time for its tests.
+//! Tests of planners on threads that neither contracts nor runs of the program nor the trials
+//! cover. They are a crate of their own so that no other crate is proved a second time for its
+//! tests.
 #![tactic(auto)]
 
 #[cfg(test)]

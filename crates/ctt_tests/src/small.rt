@@ -4,8 +4,7 @@ use crate::stopped::Stopped;
 use ctt_text::{CourseNo, Instance, Placed, RoomNo, SlotNo, read_instance};
 use std::alloc::Global;
 
-/// Three courses, of which alg and geo are members of a curriculum, and alg and top have one
-/// teacher.
+/// Three courses: alg and geo are in one curriculum, and alg and top have one teacher.
 const SMALL: &str = "Name: Small
 Courses: 3
 Rooms: 2
@@ -27,12 +26,12 @@ geo 0 0
 END.
 ";
 
-/// The small instance.
+/// Parses the small instance.
 pub(crate) fn small_instance(alloc: Global) -> Result<Instance, Stopped> {
     read_instance(alloc, SMALL.as_bytes()).or(Err(Stopped::TextRefused))
 }
 
-/// geo in slot 1 in room A.
+/// Returns geo in slot 1 in room A.
 pub(crate) fn geo_second() -> Placed {
     Placed {
         course: CourseNo::new(1),
@@ -41,7 +40,7 @@ pub(crate) fn geo_second() -> Placed {
     }
 }
 
-/// top in slot 2 in room B.
+/// Returns top in slot 2 in room B.
 pub(crate) fn top_third() -> Placed {
     Placed {
         course: CourseNo::new(2),

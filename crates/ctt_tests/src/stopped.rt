@@ -1,14 +1,14 @@
-//! Why a test could not be played to its end.
+//! Why a test could not be run to its end.
 
-/// What a test met that it did not look for.
+/// An unexpected result of a test.
 #[derive(Clone, Copy, Debug)]
 pub(crate) enum Stopped {
     /// A text was refused.
     TextRefused,
-    /// A desk was not made.
+    /// A desk could not be created.
     NoDesk,
-    /// Something that planners do was refused.
+    /// A call of a planner was refused.
     TurnRefused,
-    /// A desk was not closed.
+    /// A desk could not be closed.
     NotClosed,
 }

@@ -1,4 +1,4 @@
--- What is found of a journal, by the files that were read.
+-- The verdict on a journal, by the files that were read.
 use Rattle.std.proofs.Common.{ℕ, List, Option, inl, inr}
 use Rattle.std.specs.Global.{Global}
 use Rattle.std.specs.declared.string.String.{String}
@@ -15,7 +15,7 @@ use Rattle.ctt_tool.specs.Audits.{FindsIn, IsVerdictFault}
 use Rattle.ctt_tool.specs.Refusals.{IsOfAudited}
 use Rattle.ctt_tool.specs.Texts.{IsJournalText}
 
--- what is found of the entries that were read is found in the files
+-- the verdict on the entries that were read is the verdict on the files
 pub finds_in : (problem : Problem) (journal : String Global) (start : Option (String Global)) (held : Held) (lectures : List Placed) (entries : List JournalEntry) (verdict : Verdict)
     → Holds held journal (λ text. IsJournalText problem text entries) → IsStart problem held start lectures → IsVerdict problem lectures entries verdict → FindsIn problem journal start held verdict
 finds_in problem journal start held lectures entries verdict is_journal is_start found = record {
@@ -26,7 +26,7 @@ finds_in problem journal start held lectures entries verdict is_journal is_start
   found = found;
 }
 
--- a verdict that is not printed is of the journal's audit
+-- a verdict that is not printed has a fault of the audit
 pub verdict_refused : (problem : Problem) (journal : String Global) (start : Option (String Global)) (held : Held) (verdict : Verdict) (fault : Fault) → FindsIn problem journal start held verdict → IsVerdictFault problem verdict fault → IsOfAudited journal start held problem fault
 verdict_refused problem journal start held found.Agrees fault finds is = absurd is
 verdict_refused problem journal start held (found.Differs entry call) fault finds is = inl (inl (memory_of_file held journal fault is))

@@ -13,7 +13,7 @@ use Rattle.ctt_files.proofs.Causes.{three_is_one}
 use Rattle.ctt_tool.specs.Refusals.{IsNoJournalOf}
 use Rattle.ctt_tool.specs.Faults.{fault_of_journal}
 
--- where the fault is no want of memory, the text is that of no journal
+-- if the fault is not that memory ran out, the text is not a journal
 abbrev pub TakesJournals : Problem → List ℕ → JournalFault → Type 0
 TakesJournals problem bytes read = (entries : List JournalEntry) → IsUtf8 bytes → JournalSpells problem (words bytes) entries → read ≡ journal.NoMemory
 

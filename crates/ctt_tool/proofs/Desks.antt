@@ -31,7 +31,7 @@ use Rattle.ctt_tool.specs.Refusals.{IsAnswerFault, IsOfScript}
 use Rattle.ctt_tool.specs.Runs.{KeepOthers, Stores}
 use Rattle.ctt_tool.proofs.Plain.{refused_plain}
 
--- the fault of an opening names a course of the instance, if it names one
+-- if the fault of an opening names a course, it is one of the instance
 pub run_fits : (i : Problem) (ls : List Placed) (left : Option (List ℕ)) (fault : ScriptFault) → Each (Fits i) ls → IsCauseOf i ls left fault → RunFaultFits i fault
 run_fits i ls left (script.Unlawful at fault) fit cause = opening_faults_fit i ls at fault fit cause
 run_fits i ls left script.Read fit cause = tt
@@ -44,7 +44,7 @@ verdict_fits i ls h found.Agrees fit is = tt
 verdict_fits i ls h (found.BadOpening at fault) fit is = opening_faults_fit i ls at fault fit is
 verdict_fits i ls h (found.Differs entry call) fit is = tt
 
--- the desk opens where no lecture stands against it
+-- the desk opens if no lecture has a fault
 opened_is : (r : Result (List Placed) (ℕ × EditFault)) → ((at : ℕ) (found : EditFault) → r ≡ Err (at, found) → ⊥) → (opened : List Placed) × (r ≡ Ok opened)
 opened_is (Ok opened) none = (opened, refl)
 opened_is (Err refused) none = absurd (none refused.0 refused.1 refl)
@@ -61,7 +61,7 @@ abbrev IsLong : ScriptFault → Type 0
 IsLong script.TooLong = Unit {0}
 IsLong _ = ⊥
 
--- why a script is not answered, as the program tells it
+-- why a script is not answered, as the program reports it
 pub answer_refused : (i : Problem) (ls : List Placed) (name : String Global) (left : Option (List ℕ)) (fault : ScriptFault) (told : Fault) (M U : Type 0) → IsRunFault i name fault told → IsCauseOf i ls left fault
     → ((at : ℕ) (found : EditFault) → opening i ls ≡ Err (at, found) → (fault ≡ script.Unlawful at found) ⊎ (fault ≡ script.NoMemory)) → (fault ≡ script.Write → M) → (fault ≡ script.Write) ⊎ U
     → IfUnwritten told M (IsAnswerFault i ls name left told × U)
@@ -78,12 +78,12 @@ answer_refused i ls name left script.Write told M U is cause refused failed unma
 answer_refused i ls name left script.NoMemory told M U is cause refused failed unmarked =
     subst (λ t. IfUnwritten t M (IsAnswerFault i ls name left t × U)) (sym is) (inl (inr refl), unmarked_of script.NoMemory tt unmarked)
 
--- what is so of a text that is left to be read is so of the file that it is read from
+-- what holds of a text still to be read holds of the file that it is read from
 pub told_through : (o left : Option (List ℕ)) (P : List ℕ → Type 0) → IfSome o (λ text. left ≡ Some text) → IfSome left P → IfSome o P
 told_through None left P same h = tt
 told_through (Some text) left P same h = subst (λ l. IfSome l P) same h
 
--- and by the files
+-- the same by the files
 pub answer_in : (i : Problem) (ls : List Placed) (name : String Global) (start : Option (String Global)) (held : Held) (left : Option (List ℕ)) (fault : Fault) → Holds held name (λ text. left ≡ Some text) → IsStart i held start ls
     → IsAnswerFault i ls name left fault → IsOfScript name start held i fault
 answer_in i ls name start held left fault whole is_start (inl machine) = inl machine
@@ -99,15 +99,15 @@ journal_told : (told : Option (List ℕ)) (i : Problem) (entries kept : List Jou
 journal_told None i entries kept accepted bytes same known is = tt
 journal_told (Some text) i entries kept accepted bytes same known is = is ∙ ap (journal_text i) (same ∙ known)
 
--- the files hold what they held before the last that was done, which kept all others
+-- if only the last step changed files, those that it left unchanged are unchanged
 pub others_kept : (stored : Option (String Global)) (before later after : Held) → later ≡ before → KeepOthers stored later after → KeepOthers stored before after
 others_kept stored before later after same keep = subst (λ (held : Held). KeepOthers stored held after) same keep
 
--- files that are as they were are so but for any one
+-- if all files are unchanged, all except any one are
 pub all_kept : (stored : Option (String Global)) (before after : Held) → after ≡ before → KeepOthers stored before after
 all_kept stored before after same = λ other is. ap (λ (held : Held). held other) same
 
--- the journal that is stored is that of the drafts that the script has accepted
+-- the journal that is stored is that of the drafts that the script committed
 pub journal_stored : (journal : Option (String Global)) (before later after : Held) (told : Option (List ℕ)) (i : Problem) (entries kept : List JournalEntry) (accepted : List ℕ → List JournalEntry)
     → later ≡ before → entries ≡ kept → IfSome told (λ text. kept ≡ accepted text) → Stores journal later after (λ bytes. bytes ≡ journal_text i entries)
     → Stores journal before after (λ bytes. IfSome told (λ text. bytes ≡ journal_text i (accepted text)))

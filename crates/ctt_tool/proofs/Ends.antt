@@ -18,7 +18,7 @@ use Rattle.ctt_tool.specs.Faults.{KeptUnless, SaysFault}
 use Rattle.ctt_tool.specs.Work.{DoesAsAsked, DoesTask, WarnsAsAsked, WarnsOfTask}
 use Rattle.ctt_tool.proofs.Known.{says_caused}
 
--- how a job ended is known by the status
+-- the outcome of a job is known by its status
 pub same_outcome : (a b : Outcome) → outcome_status a ≡ outcome_status b → a ≡ b
 same_outcome Done Done e = refl
 same_outcome Done Differs e = absurd (omega (arith, e))
@@ -37,15 +37,15 @@ same_outcome Incomplete Differs e = absurd (omega (arith, e))
 same_outcome Incomplete Unlawful e = absurd (omega (arith, e))
 same_outcome Incomplete Incomplete e = refl
 
--- so a job that ended with a status was done as that says
+-- a job that ended with a status had the outcome of that status
 pub ends_as : (outcome told : Outcome) (status : ℕ) (D : Outcome → Type 0) → status ≡ outcome_status outcome → D outcome → status ≡ outcome_status told → D told
 ends_as outcome told status D is does ends = subst D (same_outcome outcome told (sym is ∙ ends)) does
 
--- and 0 is that of a job that is done and no more
+-- status 0 is that of a job that is done
 pub is_other : (outcome : Outcome) (status : ℕ) → status ≡ outcome_status outcome → status ≢ 0 → outcome ≢ Done
 is_other outcome status is some done = some (is ∙ ap outcome_status done)
 
--- and no job ends with 2
+-- no job ends with status 2
 pub is_not_two : (outcome : Outcome) → outcome_status outcome ≢ 2
 is_not_two Done two = omega (arith, two)
 is_not_two Differs two = omega (arith, two)
@@ -55,22 +55,22 @@ is_not_two Incomplete two = omega (arith, two)
 pub is_some_status : (status n : ℕ) → status ≡ suc n → status ≢ 0
 is_some_status status n is zero = omega (arith, is, zero)
 
--- the status that is told is that of the fault, unless it is 3
+-- the reported status is that of the fault, unless it is 3
 pub one_is_of_fault : (fault : Fault) (status : ℕ) → (status ≡ status_of fault) ⊎ (status ≡ 3) → status ≡ 1 → status_of fault ≡ 1
 one_is_of_fault fault status (inl same) one = sym same ∙ one
 one_is_of_fault fault status (inr three) one = absurd (omega (arith, three, one))
 
--- and 2 is that of a fault
+-- status 2 is that of a fault
 pub two_is_of_fault : (fault : Fault) (status : ℕ) → (status ≡ status_of fault) ⊎ (status ≡ 3) → status ≡ 2 → status_of fault ≡ 2
 two_is_of_fault fault status (inl same) two = sym same ∙ two
 two_is_of_fault fault status (inr three) two = absurd (omega (arith, three, two))
 
--- such words have no fault
+-- words whose job ended with `Differs` have no fault
 pub differs_taken : (words : List (List ℕ)) (before after : Held) (old new : Option (List ℕ)) → DoesAsAsked words Differs before after old new → faults_of words ≡ []
 differs_taken words before after old new (inl help) = cc
 differs_taken words before after old new (inr does) = does.0
 
--- files have changed only where one could not be stored, which ends with status 3
+-- files have changed only if one could not be stored, which ends with status 3
 pub ended_kept : (fault : Fault) (status : ℕ) (S K : Type 0) → (status ≡ status_of fault) ⊎ (status ≡ 3) → KeptUnless fault S K → K ⊎ ((status ≡ 3) × S)
 ended_kept CannotWrite status S K is kept = ⊎_elim inl (λ stored. inr (⊎_elim (λ same. same) (λ three. three) is, stored)) kept
 ended_kept NoMemory status S K is kept = inl kept
@@ -94,18 +94,18 @@ ended_kept (NoTeacher name) status S K is kept = inl kept
 ended_kept (NoCourse name) status S K is kept = inl kept
 ended_kept (NoRoom name) status S K is kept = inl kept
 
--- what ends as done alone has done what it says
+-- what holds of a success with `Done` holds of each success, if `Done` is the only outcome
 pub done_so : {E : Type 0} (r : Result Outcome E) (P : Type 0) (Q : Outcome → Type 0) → IfOk r (λ outcome. outcome ≡ Done) → OnOk r P
     → ((outcome : Outcome) → outcome ≡ Done → P → Q outcome) → IfOk r Q
 done_so (Ok outcome) P Q done does gives = gives outcome done does
 done_so (Err fault) P Q done does gives = tt
 
--- and what holds however it ends holds where it ends well
+-- what holds in any case holds of a success
 pub on_ok_too : {T E : Type 0} (r : Result T E) (P : Type 0) → P → OnOk r P
 on_ok_too (Ok value) P holds = holds
 on_ok_too (Err fault) P holds = tt
 
--- and where it fails
+-- what holds in any case holds of a failure
 pub on_err_too : {T E : Type 0} (r : Result T E) (P : Type 0) → P → OnErr r P
 on_err_too (Ok value) P holds = tt
 on_err_too (Err fault) P holds = holds
@@ -114,12 +114,12 @@ pub on_err_weaker : {T E : Type 0} (r : Result T E) (P Q : Type 0) → (P → Q)
 on_err_weaker (Ok value) P Q more holds = tt
 on_err_weaker (Err fault) P Q more holds = more holds
 
--- and what fails in one way alone has its cause
+-- what holds of a failure holds with what is known of its fault
 pub failed_so : {T : Type 0} (r : Result T Fault) (F : Fault → Type 0) (P : Type 0) (Q : Fault → Type 0) → IfErr r F → OnErr r P → ((fault : Fault) → F fault → P → Q fault) → IfErr r Q
 failed_so (Ok value) F P Q is holds gives = tt
 failed_so (Err fault) F P Q is holds gives = gives fault is holds
 
--- a job that ends otherwise than as done has changed no file
+-- a job that ends with another outcome than `Done` has changed no file
 task_kept : (instance : String Global) (barred : Option (String Global)) (task : Task) (outcome : Outcome) (before after : Held) (old new : Option (List ℕ))
     → DoesTask instance barred task outcome before after old new → outcome ≢ Done → after ≡ before
 task_kept instance barred (Show solution showing) outcome before after old new does other = does.0
@@ -135,7 +135,7 @@ pub other_kept : (words : List (List ℕ)) (outcome : Outcome) (before after : H
 other_kept words outcome before after old new (inl help) other = help.2
 other_kept words outcome before after old new (inr (taken, (job, is, does))) other = task_kept job.instance job.barred job.task outcome before after old new does other
 
--- only where the status is 3 a part of an answer may have been printed
+-- part of an answer may have been printed only if the status is 3
 may_is_three : (fault : Fault) → MayHaveWritten fault → status_of fault ≡ 3
 may_is_three CannotWrite may = refl
 may_is_three NoMemory may = refl
@@ -159,7 +159,7 @@ may_is_three (NoTeacher name) may = absurd may
 may_is_three (NoCourse name) may = absurd may
 may_is_three (NoRoom name) may = absurd may
 
--- so where a text or the words are refused, nothing was
+-- if a text or the words are refused, nothing was printed
 pub unprinted_one : (fault : Fault) (P : Type 0) → MayHaveWritten fault ⊎ P → status_of fault ≡ 1 → P
 unprinted_one fault P unwritten one = ⊎_elim (λ may. three_is_one (sym (may_is_three fault may) ∙ one)) (λ same. same) unwritten
 
@@ -190,28 +190,28 @@ status_between (NoTeacher name) = (omega arith, omega arith)
 status_between (NoCourse name) = (omega arith, omega arith)
 status_between (NoRoom name) = (omega arith, omega arith)
 
--- where no words are had, it is said that one is no text, or that memory is wanted
+-- if no words could be had, it is reported that one is not UTF-8, or that memory ran out
 pub of_no_words : (M : Type 0) (fault : Fault) (status : ℕ) (old new : Option (List ℕ)) → (fault ≡ WordsNotText) ⊎ (fault ≡ NoMemory) → M ⊎ SaysFault (λ told. (told ≡ fault) ⊎ (told ≡ NoMemory)) status old new
     → M ⊎ SaysFault (λ told. (told ≡ WordsNotText) ⊎ (told ≡ NoMemory)) status old new
 of_no_words M fault status old new is said = says_caused M (λ told. (told ≡ WordsNotText) ⊎ (told ≡ NoMemory)) fault status old new is (inr refl) said
 
--- and the status is the one of that
+-- the status is that of this fault
 pub ends_no_words : (fault : Fault) (status : ℕ) → (fault ≡ WordsNotText) ⊎ (fault ≡ NoMemory) → (status ≡ status_of fault) ⊎ (status ≡ 3) → (status ≡ 2) ⊎ (status ≡ 3)
 ends_no_words fault status is ends = ⊎_elim (λ same. ⊎_elim (λ word. inl (same ∙ ap status_of word)) (λ memory. inr (same ∙ ap status_of memory)) is) (λ three. inr three) ends
 
--- a job that ends otherwise than as done says nothing on standard error
+-- a job that ends with another outcome than `Done` writes nothing to standard error
 pub unsaid_other : (outcome : Outcome) (A S : Type 0) → (A × (outcome ≡ Done)) ⊎ S → outcome ≢ Done → S
 unsaid_other outcome A S (inl says) other = absurd (other says.1)
 unsaid_other outcome A S (inr same) other = same
 
--- a fault is said behind what a job has said, unless it could not say that
+-- a fault is reported after what a job has written, unless that could not be written
 pub said_since : {V : Type 0} (taken : V → Option (List ℕ)) (failed : V → Bool) (C : Fault → Type 0) (status : ℕ) (words : List (List ℕ)) (old mid new : V)
     → (failed mid ≡ true) ⊎ WarnsAsAsked words (taken old) (taken mid) → (failed mid ≡ true → failed new ≡ true) → (failed new ≡ true) ⊎ SaysFault C status (taken mid) (taken new)
     → (failed new ≡ true) ⊎ ((warned : Option (List ℕ)) × WarnsAsAsked words (taken old) warned × SaysFault C status warned (taken new))
 said_since taken failed C status words old mid new (inl marks) marked said = inl (marked marks)
 said_since taken failed C status words old mid new (inr warns) marked said = ⊎_elim inl (λ fault. inr (taken mid, warns, fault)) said
 
--- what a job has said, by the words that ask for it
+-- what a job has written, by the words that ask for it
 pub warned_as_asked : {V : Type 0} (taken : V → Option (List ℕ)) (failed : V → Bool) (words : List (List ℕ)) (job : Job) (old new : V) → IsJobOf words job
     → (new ≡ old) ⊎ ((failed new ≡ true) ⊎ WarnsOfTask job.task (taken old) (taken new)) → (failed new ≡ true) ⊎ WarnsAsAsked words (taken old) (taken new)
 warned_as_asked taken failed words job old new is (inl same) = inr (inl (ap taken same))

@@ -1,4 +1,4 @@
--- What holds where bytes are told.
+-- What holds if bytes are known.
 use Rattle.std.proofs.Common.{◌≡◌, ◌<◌, ◌⊎◌, ⊎_elim, length, arith, inl, inr, ap, ℕ, Bool, true, List, refl, sym, subst, Option}
 use Rattle.std.specs.Global.{Global}
 use Rattle.std.specs.Io.KnownBytes.{Appends}
@@ -24,7 +24,7 @@ use Rattle.ctt_tool.specs.Refusals.{IsOfAudited, IsOfMinutes, IsOfScript, IsOfSc
 use Rattle.ctt_tool.specs.Work.{AsksForBadSeats, AsksForRefusedText, AsksForTooMany, GivesHelp, HasCause, IsOfHelp, IsOfJob, IsOfTask}
 use Rattle.ctt_tool.proofs.Plain.{audited_plain, minutes_plain, script_plain, scripts_plain, seats_plain}
 
--- what is said whole, where the mark is not set, is the line of a fault
+-- what is written completely, if the device has not failed, is the line of a fault
 pub says_fault : (M U : Type 0) (C : Fault → Type 0) (fault : Fault) (old new : Option (List ℕ)) (bytes : List ℕ) → C fault → IsLineOf fault bytes → M ⊎ (U × Appends old new bytes)
     → M ⊎ SaysFault C (status_of fault) old new
 says_fault M U C fault old new bytes has line (inl marked) = inl marked
@@ -35,7 +35,7 @@ pub says_weaker : (M : Type 0) (C D : Fault → Type 0) (status : ℕ) (old new 
 says_weaker M C D status old new more (inl marked) = inl marked
 says_weaker M C D status old new more (inr said) = inr (said.0, more said.0 said.1, said.2, said.3)
 
--- the fault that is told is this one, or wanted memory, which needs no cause
+-- the reported fault is this one, or that memory ran out, which needs no cause
 pub says_caused : (M : Type 0) (D : Fault → Type 0) (fault : Fault) (status : ℕ) (old new : Option (List ℕ)) → D fault → D NoMemory
     → M ⊎ SaysFault (λ told. (told ≡ fault) ⊎ (told ≡ NoMemory)) status old new → M ⊎ SaysFault D status old new
 says_caused M D fault status old new has memory said =
@@ -47,7 +47,8 @@ IsWord (Words text) = Unit {0}
 IsWord WordsNotText = Unit {0}
 IsWord _ = ⊥
 
--- a fault of a job is a plain one, but for too many scripts, which only a crew has, and the seats of a desk
+-- a fault of a job is a plain one, except for too many scripts, which only a crew has, and for the
+-- seats of a desk
 abbrev IsSpecial : Task → Fault → Type 0
 IsSpecial task fault = ((fault ≡ TooManyScripts) × (64 < length (scripts_of task))) ⊎ ((fault ≡ BadSeats) × HasBadSeats task)
 
@@ -141,7 +142,7 @@ refused_two words held failed BadSeats has two = inr (inr (has.0, has.1, seats_o
     seats_of task (inr (inl many)) = one_is_none (sym (ap is_many many.0))
     seats_of task (inr (inr bad)) = bad.1
 
--- and a text is refused by a job that they ask for
+-- a text is refused by a job that the words ask for
 pub asked_one : (words : List (List ℕ)) (held : Held) (failed : Bool) (fault : Fault) → HasCause words held failed fault → status_of fault ≡ 1 → AsksForRefusedText words held
 asked_one words held failed (Instance met) has one = ((Instance met), one, has)
 asked_one words held failed (Solution met) has one = ((Solution met), one, has)
@@ -165,7 +166,7 @@ asked_one words held failed (NoTeacher name) has one = ((NoTeacher name), one, h
 asked_one words held failed (NoCourse name) has one = ((NoCourse name), one, has)
 asked_one words held failed (NoRoom name) has one = ((NoRoom name), one, has)
 
--- what is so of files that are kept, and of the cause of the others, may be said otherwise
+-- weaker claims of unchanged files, and of the cause of a change
 pub kept_weaker : (fault : Fault) (S R K L : Type 0) → (S → R) → (K → L) → KeptUnless fault S K → KeptUnless fault R L
 kept_weaker fault S R K L more kept is = unwritten_more fault (K ⊎ S) K (L ⊎ R) L (λ either. ⊎_elim (λ same. inl (kept same)) (λ stored. inr (more stored)) either) kept is
 

@@ -14,7 +14,7 @@ use Rattle.ctt_files.proofs.Plain.{IsPlain, memory_of_file, plain_written}
 use Rattle.ctt_tool.specs.Refusals.{IsLeftFault, IsNoMinutes, IsOfAudited, IsOfMinutes, IsOfWork, IsUnread, IsUnreadAt, IsUnreadOf}
 use Rattle.ctt_tool.specs.Texts.{IsJournalText}
 
--- why the timetable is not printed that entries leave, by the files
+-- why the timetable after the entries is not printed, by the files
 pub left_in : (problem : Problem) (journal : String Global) (start : Option (String Global)) (held : Held) (entries : List JournalEntry) (lectures : List Placed) (fault : Fault) → Holds held journal (λ text. IsJournalText problem text entries)
     → IsStart problem held start lectures → IsLeftFault problem lectures fault → IsOfAudited journal start held problem fault
 left_in problem journal start held entries lectures fault is_journal is_start (inl refused) =
@@ -27,13 +27,13 @@ pub minutes_in : (problem : Problem) (minutes : String Global) (held : Held) (te
 minutes_in problem minutes held text fault told (inl met) = inr (text, told, met)
 minutes_in problem minutes held text fault told (inr memory) = inl (memory_of_file held minutes fault memory)
 
--- a seat that has a place is one of the seats
+-- a seat that has an index is one of the seats
 pub unread_in : (seats : List (String Global)) (at : ℕ) (seat : String Global) (fault : Fault) → at < length seats → seat ≡ get_or seats at seat → IsUnreadAt (string_bytes seat) fault → IsUnread seats fault
 unread_in [] at seat fault lt there is = absurd (omega (arith, lt))
 unread_in (first ∷ seats) zero seat fault lt there is = inl (subst (λ (s : String Global). IsUnreadAt (string_bytes s) fault) there is)
 unread_in (first ∷ seats) (suc at) seat fault lt there is = inr (unread_in seats at seat fault (omega (arith, lt)) there is)
 
--- and it is the seat at that place
+-- it is the seat at that index
 pub unread_of : (seats : List (String Global)) (at : ℕ) (seat : String Global) (fault : Fault) → at < length seats → seat ≡ get_or seats at seat → IsUnreadAt (string_bytes seat) fault → IsUnreadOf seats at fault
 unread_of [] at seat fault lt there is = absurd (omega (arith, lt))
 unread_of (first ∷ seats) zero seat fault lt there is = subst (λ (s : String Global). IsUnreadAt (string_bytes s) fault) there is

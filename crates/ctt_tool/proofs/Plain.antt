@@ -1,4 +1,4 @@
--- The faults of journals, openings, crews and desks: none is of the words, nor of what is written.
+-- The faults of journals, openings, crews and desks: none is of the words, or of the output.
 use Rattle.std.proofs.Common.{◌≡◌, ⊎_elim, ◌∷◌, [], inl, inr, sym, subst, ℕ, List, IfErr, IsErrAnd, Option, Result, Ok, Err}
 use Rattle.std.specs.Global.{Global}
 use Rattle.std.specs.declared.string.String.{String}
@@ -58,7 +58,7 @@ pub seats_plain : (seats : List (String Global)) (start : Option (String Global)
 seats_plain seats start held problem fault is =
     ⊎_elim (λ opens. opening_plain start held problem fault opens) (λ other. ⊎_elim (λ work. work_plain fault work) (λ unread. unread_plain seats fault unread) other) is
 
--- what may be told of a desk, whatever is known of the outputs
+-- what may be reported of a desk, whatever is known of the outputs
 pub passed_desk : {T : Type 0} (r : Result T Fault) (fault : Fault) (Q : Fault → Type 0) → IsErrAnd r (λ told. told ≡ fault) → IsPlain fault → Q fault → IfErr r (λ told. IfUnwritten told (Unit {0}) (Q told))
 passed_desk (Ok x) fault Q same plain q = tt
 passed_desk (Err told) fault Q same plain q = subst (λ other. IfUnwritten other (Unit {0}) (Q other)) (sym same) (plain_written fault (Unit {0}) (Q fault) plain q)

@@ -1,4 +1,4 @@
--- What the command `audit` finds and prints.
+-- What the command `audit` prints.
 use Rattle.std.specs.Prelude.{◌≡◌, ℕ, List, [], ◌∷◌, Option, codes}
 use Rattle.std.specs.Fmt.{decimal}
 use Rattle.std.specs.Global.{Global}
@@ -20,7 +20,7 @@ use Rattle.ctt_files.specs.declared.outcome.Outcome.TheVariants.{Done, Differs}
 use Rattle.ctt_tool.specs.Faults.{IsOpeningFault}
 use Rattle.ctt_tool.specs.Texts.{IsJournalText}
 
--- the verdict is printed, and the program ends as it says
+-- the verdict is printed, and determines the outcome
 abbrev pub PrintsVerdict : Verdict → Outcome → Option (List ℕ) → Option (List ℕ) → Type 0
 PrintsVerdict found.Agrees outcome old new = (outcome ≡ Done) × Appends old new (line (codes "agrees" ∷ []))
 PrintsVerdict (found.Differs entry call) outcome old new = (outcome ≡ Differs) × Appends old new (line (codes "differs" ∷ decimal entry ∷ decimal call ∷ []))
@@ -31,13 +31,13 @@ abbrev pub VerdictFits : Problem → Verdict → Type 0
 VerdictFits problem (found.BadOpening at fault) = FaultFits problem fault
 VerdictFits problem _ = Unit {0}
 
--- why a verdict is not printed: the opening is refused, or memory is wanted
+-- why a verdict is not printed: the opening is refused, or memory runs out
 abbrev pub IsVerdictFault : Problem → Verdict → Fault → Type 0
 IsVerdictFault problem found.Agrees fault = ⊥
 IsVerdictFault problem (found.Differs entry call) fault = fault ≡ NoMemory
 IsVerdictFault problem (found.BadOpening at why) fault = IsOpeningFault problem at why fault
 
--- of an instance, this is found of the journal in the file, on the opening with the start
+-- the verdict on the journal in a file, for an opening with the start
 pub record FindsIn (problem : Problem) (journal : String Global) (start : Option (String Global)) (held : Held) (verdict : Verdict) : Type 0 where
   pub entries : List JournalEntry
   pub is_journal : Holds held journal (λ text. IsJournalText problem text entries)
@@ -45,7 +45,7 @@ pub record FindsIn (problem : Problem) (journal : String Global) (start : Option
   pub is_start : IsStart problem held start lectures
   pub found : IsVerdict problem lectures entries verdict
 
--- of an instance, the journal in the file is audited on the opening with the start, and the verdict is printed
+-- the journal in a file is audited on an opening with the start, and the verdict is printed
 pub record AuditsOn (problem : Problem) (journal : String Global) (start : Option (String Global)) (outcome : Outcome) (held : Held) (old new : Option (List ℕ)) : Type 0 where
   pub entries : List JournalEntry
   pub is_journal : Holds held journal (λ text. IsJournalText problem text entries)
@@ -55,7 +55,7 @@ pub record AuditsOn (problem : Problem) (journal : String Global) (start : Optio
   pub found : IsVerdict problem lectures entries verdict
   pub prints : PrintsVerdict verdict outcome old new
 
--- the same, of the instance in a file
+-- the same for the instance in a file
 pub record AuditsJournal (instance : String Global) (barred : Option (String Global)) (journal : String Global) (start : Option (String Global)) (outcome : Outcome) (held : Held) (old new : Option (List ℕ)) : Type 0 where
   pub problem : Problem
   pub is_instance : IsInstanceIn held instance barred problem

@@ -7,7 +7,8 @@ use Rattle.ctt_text.specs.Problem.{Problem}
 use Rattle.ctt_crew.specs.Attended.{IsCrewText}
 use Rattle.ctt_files.specs.Texts.{Held, HoldInTurn, IsInstanceIn}
 
--- of the instance in a file, that is what a crew writes whose desk opens empty, with a planner for each of the scripts in these files
+-- the bytes are what a crew writes on the instance in a file, with a desk that opens empty and one
+-- planner for each of the scripts in these files
 pub record IsOfCrewOn (instance : String Global) (barred : Option (String Global)) (scripts : List (String Global)) (held : Held) (bytes : List ℕ) : Type 0 where
   pub problem : Problem
   pub is_instance : IsInstanceIn held instance barred problem
@@ -15,7 +16,7 @@ pub record IsOfCrewOn (instance : String Global) (barred : Option (String Global
   pub hold : HoldInTurn held scripts texts
   pub is_crew : IsCrewText problem [] texts bytes
 
--- such a text of one to 64 planners is printed
+-- such a text, of one to 64 planners, is printed
 pub record PrintsCrew (instance : String Global) (barred : Option (String Global)) (scripts : List (String Global)) (held : Held) (old new : Option (List ℕ)) : Type 0 where
   pub some : 1 ≤ length scripts
   pub few : length scripts ≤ 64

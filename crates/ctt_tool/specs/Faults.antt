@@ -1,4 +1,4 @@
--- The faults of journals, crews, openings and runs, and what is said of a fault.
+-- The faults of journals, crews, openings and runs, and the lines that report them.
 use Rattle.std.specs.Prelude.{◌≡◌, ◌⊎◌, ◌++◌, ℕ, List, Option, codes}
 use Rattle.std.specs.Fmt.{decimal}
 use Rattle.std.specs.Global.{Global}
@@ -20,34 +20,34 @@ use Rattle.ctt_files.specs.declared.fault.Fault.{Fault}
 use Rattle.ctt_files.specs.declared.fault.Fault.TheVariants.{CannotRead, CannotWrite, Journal, NoMemory, NoPlace, NoThread, NotYours, Opening, TooLong}
 use Rattle.ctt_files.specs.Faults.{IfUnwritten, IsLineOf, status_of}
 
--- the fault of a journal
+-- the fault of a refused journal
 abbrev pub fault_of_journal : JournalFault → Fault
 fault_of_journal (journal.NotText byte) = Journal 1 byte
 fault_of_journal (journal.Missing word) = Journal 2 word
 fault_of_journal (journal.BadWord word) = Journal 3 word
 fault_of_journal journal.NoMemory = NoMemory
 
--- the fault of a crew
+-- the fault of a crew that could not be run
 abbrev pub fault_of_crew : CrewFault → Fault
 fault_of_crew crew.NoPlace = NoPlace
 fault_of_crew (crew.NoThread planner) = NoThread
 fault_of_crew crew.NotYours = NotYours
 fault_of_crew crew.NoMemory = NoMemory
 
--- the line of an opening of which this lecture, counted from 1, cannot be placed
+-- the line that reports the lecture, counted from 1, that cannot be placed in an opening
 abbrev pub opening_line : Problem → ℕ → EditFault → List ℕ
 opening_line problem at fault = codes "timedesk: opening " ++ (decimal at ++ (codes " " ++ line (fault_words problem fault)))
 
--- the fault of such an opening, or there is no memory for its line
+-- the fault of such an opening, or memory runs out for its line
 abbrev pub IsOpeningFault : Problem → ℕ → EditFault → Fault → Type 0
 IsOpeningFault problem at fault told = ((text : String Global) × (told ≡ Opening text) × (string_bytes text ≡ opening_line problem at fault)) ⊎ (told ≡ NoMemory)
 
--- a fault of a run that names a course of the instance, if it names one
+-- if the fault of a run names a course, it is one of the instance
 abbrev pub RunFaultFits : Problem → ScriptFault → Type 0
 RunFaultFits problem (script.Unlawful at fault) = FaultFits problem fault
 RunFaultFits problem fault = Unit {0}
 
--- the fault of the run of the script in this file
+-- the fault of a run of the script in this file
 abbrev pub IsRunFault : Problem → String Global → ScriptFault → Fault → Type 0
 IsRunFault problem name (script.Unlawful at fault) told = IsOpeningFault problem at fault told
 IsRunFault problem name script.Read told = told ≡ CannotRead name
@@ -55,14 +55,14 @@ IsRunFault problem name script.TooLong told = told ≡ TooLong name
 IsRunFault problem name script.Write told = told ≡ CannotWrite
 IsRunFault problem name script.NoMemory told = told ≡ NoMemory
 
--- K, unless a file that had to be stored could not be written, and then S
+-- K, unless the fault is that something could not be written, and then K or S
 abbrev pub KeptUnless : Fault → Type 0 → Type 0 → Type 0
 KeptUnless fault S K = IfUnwritten fault (K ⊎ S) K
 
--- such a line is said
+-- the line of the fault is written
 abbrev pub SaysLineOf : Fault → Option (List ℕ) → Option (List ℕ) → Type 0
 SaysLineOf fault old new = (bytes : List ℕ) × IsLineOf fault bytes × Appends old new bytes
 
--- the line of a fault of this status, for which there is cause, is said
+-- the line of a fault with this status, for which there is a cause, is written
 abbrev pub SaysFault : (Fault → Type 0) → ℕ → Option (List ℕ) → Option (List ℕ) → Type 0
 SaysFault HasCause status old new = (fault : Fault) × HasCause fault × (status_of fault ≡ status) × SaysLineOf fault old new

@@ -1,4 +1,4 @@
--- What tasks are given, store and say.
+-- Which files tasks get and store, and whether they write to standard error.
 use Rattle.std.specs.Prelude.{◌≡◌, ◌⊎◌, false, true, List, [], Option, Some, None, is_some}
 use Rattle.std.specs.Global.{Global}
 use Rattle.std.specs.declared.string.String.{String}
@@ -11,12 +11,12 @@ abbrev pub IsGiven : Option (String Global) → Type 0
 IsGiven None = ⊥
 IsGiven (Some name) = Unit {0}
 
--- the scripts that a crew is given
+-- the scripts of a crew
 abbrev pub scripts_of : Task → List (String Global)
 scripts_of (Crew scripts) = scripts.items
 scripts_of task = []
 
--- the seats are refused that a desk is given
+-- the seats of a desk are refused
 abbrev pub HasBadSeats : Task → Type 0
 HasBadSeats (Desk seats start minutes) = AreBadSeats seats.items
 HasBadSeats task = ⊥
@@ -27,19 +27,20 @@ Storing (Run script start journal) = IsGiven journal
 Storing (Desk seats start minutes) = Unit {0}
 Storing task = ⊥
 
--- the file that the task stores, if it is given one
+-- the file that the task stores, if one is given
 abbrev pub stored_by : Task → Option (String Global)
 stored_by (Run script start journal) = journal
 stored_by task = None
 
--- the task may say something on standard error if it is done: a desk without minutes or whose standard output is a seat, a torn entry of minutes, and lectures that are set aside
+-- the task, when it is done, may write to standard error: for a desk without minutes or with a seat
+-- at standard output, for an incomplete entry of minutes, and for lectures that are set aside
 abbrev pub Saying : Task → Type 0
 Saying (Desk seats start minutes) = (is_some minutes ≡ false) ⊎ (has_standard seats.items ≡ true)
 Saying (Journal minutes) = Unit {0}
 Saying (Mending solution) = Unit {0}
 Saying task = ⊥
 
--- what it says is a warning, which stops nothing if it cannot be said
+-- this output includes a warning, and if that cannot be written, the task is done nevertheless
 abbrev pub Warning : Task → Type 0
 Warning (Desk seats start minutes) = is_some minutes ≡ false
 Warning (Journal minutes) = Unit {0}

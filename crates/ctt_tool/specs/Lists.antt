@@ -19,36 +19,38 @@ use Rattle.ctt_files.specs.declared.outcome.Outcome.TheVariants.{Done}
 use Rattle.ctt_tool.specs.Audits.{PrintsVerdict}
 use Rattle.ctt_tool.specs.Texts.{IsJournalText}
 
--- behind so many bytes, which these entries have, one begins that is not whole
+-- if an incomplete entry follows these entries, it begins after their bytes
 abbrev pub IsTornBehind : Problem → List JournalEntry → Option ℕ → Type 0
 IsTornBehind problem entries torn = IfSome torn (λ at. at ≡ length (flat_map (entry_text problem) entries))
 
--- the bytes are the journal of the whole entries at the beginning of minutes, behind which one may be torn
+-- the bytes are the journal of the whole entries at the beginning of minutes, which an incomplete
+-- entry may follow
 pub record IsRecoveredJournal (problem : Problem) (text : List ℕ) (torn : Option ℕ) (bytes : List ℕ) : Type 0 where
   pub entries : List JournalEntry
   pub is_recovered : IsRecovered problem text entries (is_some torn)
   pub is_behind : IsTornBehind problem entries torn
   pub is : bytes ≡ journal_text problem entries
 
--- of an instance, the whole entries at the beginning of the minutes in a file are printed as a journal
+-- the whole entries at the beginning of the minutes in a file are printed as a journal
 pub record PrintsEntries (problem : Problem) (minutes : String Global) (held : Held) (old new : Option (List ℕ)) : Type 0 where
   pub entries : List JournalEntry
   pub torn : Bool
   pub is_recovered : Holds held minutes (λ text. IsRecovered problem text entries torn)
   pub prints : Appends old new (journal_text problem entries)
 
--- the same, of the instance in a file
+-- the same for the instance in a file
 pub record PrintsJournal (instance : String Global) (barred : Option (String Global)) (minutes : String Global) (held : Held) (old new : Option (List ℕ)) : Type 0 where
   pub problem : Problem
   pub is_instance : IsInstanceIn held instance barred problem
   pub prints : PrintsEntries problem minutes held old new
 
--- what is said of the byte at which an entry begins that is not whole; nothing where all are whole
+-- the line that reports the byte at which an incomplete entry begins, or the empty text
 abbrev pub torn_text : Option ℕ → List ℕ
 torn_text None = []
 torn_text (Some at) = codes "timedesk: torn at byte " ++ (decimal at ++ codes "\n")
 
--- of an instance, the byte is said behind which an entry is torn in the minutes in a file, if one is
+-- if an incomplete entry follows the whole ones in the minutes of a file, the byte at which it
+-- begins is reported
 pub record SaysTorn (problem : Problem) (minutes : String Global) (held : Held) (old new : Option (List ℕ)) : Type 0 where
   pub entries : List JournalEntry
   pub torn : Option ℕ
@@ -56,19 +58,20 @@ pub record SaysTorn (problem : Problem) (minutes : String Global) (held : Held) 
   pub is_behind : IsTornBehind problem entries torn
   pub says : Appends old new (torn_text torn)
 
--- the same, of the instance in a file
+-- the same for the instance in a file
 pub record SaysTornOf (instance : String Global) (barred : Option (String Global)) (minutes : String Global) (held : Held) (old new : Option (List ℕ)) : Type 0 where
   pub problem : Problem
   pub is_instance : IsInstanceIn held instance barred problem
   pub says : SaysTorn problem minutes held old new
 
--- the timetable that is left is printed as a solution; or what an audit finds, where it finds something else than that the journal agrees
+-- the timetable after the entries is printed as a solution, or the verdict of the audit if the
+-- entries do not agree
 abbrev pub PrintsLeft : Problem → List Placed → List JournalEntry → Outcome → Option (List ℕ) → Option (List ℕ) → Type 0
 PrintsLeft problem lectures entries outcome old new =
     ((outcome ≡ Done) × ((list : List Placed) × LeavesList problem lectures entries list × Appends old new (soltext problem list)))
     ⊎ ((verdict : Verdict) × IsVerdict problem lectures entries verdict × (verdict ≢ Agrees) × PrintsVerdict verdict outcome old new)
 
--- of an instance, so is done with the journal in the file, on the opening with the start
+-- the same for the journal in a file, on an opening with the start
 pub record ListsOn (problem : Problem) (journal : String Global) (start : Option (String Global)) (outcome : Outcome) (held : Held) (old new : Option (List ℕ)) : Type 0 where
   pub entries : List JournalEntry
   pub is_journal : Holds held journal (λ text. IsJournalText problem text entries)
@@ -76,7 +79,7 @@ pub record ListsOn (problem : Problem) (journal : String Global) (start : Option
   pub is_start : IsStart problem held start lectures
   pub prints : PrintsLeft problem lectures entries outcome old new
 
--- the same, of the instance in a file
+-- the same for the instance in a file
 pub record ListsJournal (instance : String Global) (barred : Option (String Global)) (journal : String Global) (start : Option (String Global)) (outcome : Outcome) (held : Held) (old new : Option (List ℕ)) : Type 0 where
   pub problem : Problem
   pub is_instance : IsInstanceIn held instance barred problem

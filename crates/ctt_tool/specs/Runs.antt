@@ -17,16 +17,17 @@ abbrev pub IsOther : Option (String Global) → List ℕ → Type 0
 IsOther None other = Unit {0}
 IsOther (Some name) other = other ≢ string_bytes name
 
--- the files hold what they held, but for this one, if one is given
+-- all files are unchanged, except this one, if it is given
 abbrev pub KeepOthers : Option (String Global) → Held → Held → Type 0
 KeepOthers stored before after = (other : List ℕ) → IsOther stored other → after other ≡ before other
 
--- where a file is given, it holds what it should, and the others hold what they held; where none is, no file has changed
+-- if a file is given, P holds of its bytes and all other files are unchanged; else all files are
 abbrev pub Stores : Option (String Global) → Held → Held → (List ℕ → Type 0) → Type 0
 Stores None before after P = after ≡ before
 Stores (Some name) before after P = Holds after name P × KeepOthers (Some name) before after
 
--- of an instance, the script, which is within the limit, is run on a desk that opens with the start: its answers are printed, and the accepted drafts are stored as a journal where a file is given
+-- the script, which is within the limit, is run on a desk that opens with the start; its answers
+-- are printed, and the accepted drafts are stored as a journal, if a file is given
 pub record RunsOn (problem : Problem) (script : String Global) (start journal : Option (String Global)) (before after : Held) (old new : Option (List ℕ)) : Type 0 where
   pub lectures : List Placed
   pub is_start : IsStart problem before start lectures
@@ -36,7 +37,7 @@ pub record RunsOn (problem : Problem) (script : String Global) (start journal : 
   pub prints : Holds before script (λ text. Appends old new (answer_text problem opened text))
   pub stores : Stores journal before after (λ bytes. Holds before script (λ text. bytes ≡ journal_text problem (accepted_of (script_run problem opened text))))
 
--- the same, of the instance in a file
+-- the same for the instance in a file
 pub record RunsScript (instance : String Global) (barred : Option (String Global)) (script : String Global) (start journal : Option (String Global)) (before after : Held) (old new : Option (List ℕ)) : Type 0 where
   pub problem : Problem
   pub is_instance : IsInstanceIn before instance barred problem

@@ -10,15 +10,15 @@ use Rattle.std.specs.declared.string.String.{String}
 abbrev pub has_seat : List ℕ → List (String Global) → Bool
 has_seat name seats = list_any (λ (seat : String Global). bytes_eq (string_bytes seat) name) seats
 
--- one of the seats is given again
+-- a seat is given twice
 abbrev pub has_twice : List (String Global) → Bool
 has_twice [] = false
 has_twice (seat ∷ seats) = has_seat (string_bytes seat) seats || has_twice seats
 
--- standard input and standard output are a seat
+-- standard input and output are a seat
 abbrev pub has_standard : List (String Global) → Bool
 has_standard seats = has_seat (codes "-") seats
 
--- the seats are more than are taken, or one is given again
+-- there are too many seats, or one is given twice
 abbrev pub AreBadSeats : List (String Global) → Type 0
 AreBadSeats seats = (64 < length seats) ⊎ (has_twice seats ≡ true)

@@ -1,4 +1,4 @@
--- What the program does for the words of its command line, and where it has none.
+-- What the program does for the words of its command line, and if it has none.
 use Rattle.std.specs.Prelude.{◌≡◌, ◌≢◌, ◌⊎◌, Bool, true, ℕ, List, [], Option}
 use Rattle.ctt_files.specs.Texts.{Held}
 use Rattle.ctt_files.specs.declared.fault.Fault.TheVariants.{WordsNotText, NoMemory}
@@ -7,8 +7,9 @@ use Rattle.ctt_words.specs.Jobs.{faults_of}
 use Rattle.ctt_tool.specs.Faults.{SaysFault}
 use Rattle.ctt_tool.specs.Work.{DoesAsAsked, EndsAsDone, AsksForRefusedText, AsksToStore, AsksToSay, AsksToWarn, SaysAsAsked, KeepAsAsked, AreTurnedDown, HasCause, WarnsAsAsked}
 
--- what the program has done for these words, by the status with which it ends: of standard output `taken` says what it took, and
--- `failed` whether it failed; of standard error `told` and `broken` say so
+-- what the program has done for these words, according to its exit status; `taken` and `failed`
+-- give what standard output took and whether it failed, and `told` and `broken` the same of
+-- standard error
 pub record IsServed {W V : Type 0} (taken : W → Option (List ℕ)) (failed : W → Bool) (told : V → Option (List ℕ)) (broken : V → Bool) (words : List (List ℕ)) (status : ℕ) (before after : Held) (out new_out : W) (err new_err : V) : Type 0 where
   pub done : status ≡ 0 → DoesAsAsked words Done before after (taken out) (taken new_out)
   pub unsaid : status ≡ 0 → AsksToSay words ⊎ (new_err ≡ err)
@@ -23,7 +24,8 @@ pub record IsServed {W V : Type 0} (taken : W → Option (List ℕ)) (failed : W
   pub unstored : status ≢ 0 → (after ≡ before) ⊎ ((status ≡ 3) × ((failed new_out ≡ failed out) × AsksToStore words))
   pub others : KeepAsAsked words before after
 
--- no words were had, since one is no text or there was no memory for them: that is said, and nothing is done
+-- the words could not be had, since one is not UTF-8 or memory ran out; this is reported, and
+-- nothing is done
 pub record IsUnserved {W V : Type 0} (told : V → Option (List ℕ)) (broken : V → Bool) (status : ℕ) (before after : Held) (out new_out : W) (err new_err : V) : Type 0 where
   pub ends : (status ≡ 2) ⊎ (status ≡ 3)
   pub kept : after ≡ before

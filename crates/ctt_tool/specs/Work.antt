@@ -1,4 +1,4 @@
--- What the program has done where it ends well, and what was the cause where it did not.
+-- What the program has done if it succeeds, and the cause if it does not.
 use Rattle.std.specs.Prelude.{◌≡◌, ◌⊎◌, ◌<◌, ℕ, Bool, true, List, [], Option, is_some, length, map}
 use Rattle.std.specs.Borrow.{Bor}
 use Rattle.std.specs.Global.{Global}
@@ -29,7 +29,8 @@ use Rattle.ctt_tool.specs.Mends.{PrintsMendedOf, SaysAsideOf}
 use Rattle.ctt_tool.specs.Refusals.{IsOfAudit, IsOfCrew, IsOfDesk, IsOfMending, IsOfRecovery, IsOfRun}
 use Rattle.ctt_tool.specs.Runs.{KeepOthers, RunsScript}
 
--- the task is done with this instance over these files, where they tell their bytes; its answer is printed, and the program ends as it says
+-- the task is done with this instance and these files, as far as their bytes are known; its answer
+-- is printed, with this outcome
 abbrev pub DoesTask : String Global → Option (String Global) → Task → Outcome → Held → Held → Option (List ℕ) → Option (List ℕ) → Type 0
 DoesTask instance barred (Show solution showing) outcome before after old new = (after ≡ before)
     × ShowsSolution showing instance barred solution outcome before old new
@@ -48,31 +49,33 @@ DoesTask instance barred (Listing journal start) outcome before after old new = 
 DoesTask instance barred (Mending solution) outcome before after old new = (outcome ≡ Done)
     × (after ≡ before) × PrintsMendedOf instance barred solution before old new
 
--- and so is the job
+-- the same for a job
 abbrev pub DoesJob : Job → Outcome → Held → Held → Option (List ℕ) → Option (List ℕ) → Type 0
 DoesJob job outcome before after old new = DoesTask job.instance job.barred job.task outcome before after old new
 
--- what is said on standard error where the task is done: the last lines of a desk, where an entry is torn, or which lectures are set aside, and else nothing
+-- what is written to standard error if the task is done: the warning and the last lines of a desk,
+-- an incomplete entry, or the lectures set aside, and else nothing
 abbrev pub SaysOfTask : String Global → Option (String Global) → Task → Held → Option (List ℕ) → Option (List ℕ) → Type 0
 SaysOfTask instance barred (Desk seats start minutes) held old new = SaysLast instance barred seats.items start minutes held old new
 SaysOfTask instance barred (Journal minutes) held old new = SaysTornOf instance barred minutes held old new
 SaysOfTask instance barred (Mending solution) held old new = SaysAsideOf instance barred solution held old new
 SaysOfTask instance barred task held old new = new ≡ old
 
--- the texts of words that are lent
+-- the contents of borrowed words
 abbrev pub texts : List (Bor (List ℕ)) → List (List ℕ)
 texts words = map (λ word. word.now) words
 
--- the words ask for help or the version, or `clap` finds no fault in them and they ask for a job that is done
+-- the words ask for help or the version, or they have no fault and ask for a job that is done
 abbrev pub DoesAsAsked : List (List ℕ) → Outcome → Held → Held → Option (List ℕ) → Option (List ℕ) → Type 0
 DoesAsAsked words outcome before after old new = (IsRequest (faults_of words) × (outcome ≡ Done) × (after ≡ before))
     ⊎ ((faults_of words ≡ []) × ((job : Job) × IsJobOf words job × DoesJob job outcome before after old new))
 
--- the words end with this status as what was asked is done
+-- the exit status of the words is that of an outcome with which they are done
 abbrev pub EndsAsDone : List (List ℕ) → ℕ → Held → Held → Option (List ℕ) → Option (List ℕ) → Type 0
 EndsAsDone words status before after old new = (outcome : Outcome) × (outcome_status outcome ≡ status) × DoesAsAsked words outcome before after old new
 
--- a fault that the task may meet, over these files, where they tell their bytes; an output that cannot be written aside
+-- a fault that the task may meet with these files, as far as their bytes are known, other than an
+-- output that cannot be written
 abbrev pub IsOfTask : String Global → Option (String Global) → Task → Held → Fault → Type 0
 IsOfTask instance barred (Show solution showing) held fault = IsOfShowing showing held instance barred solution fault
 IsOfTask instance barred (Run script start journal) held fault = IsOfRun held instance barred script start fault
@@ -83,7 +86,7 @@ IsOfTask instance barred (Journal minutes) held fault = IsOfRecovery held instan
 IsOfTask instance barred (Listing journal start) held fault = IsOfAudit held instance barred journal start fault
 IsOfTask instance barred (Mending solution) held fault = IsOfMending held instance barred solution fault
 
--- and so may the job
+-- the same for a job
 abbrev pub IsOfJob : Job → Held → Fault → Type 0
 IsOfJob job held fault = IsOfTask job.instance job.barred job.task held fault
 
@@ -91,7 +94,7 @@ IsOfJob job held fault = IsOfTask job.instance job.barred job.task held fault
 abbrev pub AsksFor : List (List ℕ) → Held → Fault → Type 0
 AsksFor words held fault = (job : Job) × IsJobOf words job × IsOfJob job held fault
 
--- the words ask for a job of which a text is refused
+-- the words ask for a job one of whose texts is refused
 abbrev pub AsksForRefusedText : List (List ℕ) → Held → Type 0
 AsksForRefusedText words held = (fault : Fault) × (status_of fault ≡ 1) × AsksFor words held fault
 
@@ -99,7 +102,7 @@ AsksForRefusedText words held = (fault : Fault) × (status_of fault ≡ 1) × As
 abbrev pub AsksToStore : List (List ℕ) → Type 0
 AsksToStore words = (job : Job) × IsJobOf words job × Storing job.task
 
--- the files hold what they held, but for the one that the words ask to store, if they do
+-- all files are unchanged, except the one that the words ask to store, if they do
 abbrev pub KeepAsAsked : List (List ℕ) → Held → Held → Type 0
 KeepAsAsked words before after = (after ≡ before) ⊎ ((job : Job) × IsJobOf words job × KeepOthers (stored_by job.task) before after)
 
@@ -111,11 +114,11 @@ AsksForTooMany words = (job : Job) × IsJobOf words job × (64 < length (scripts
 abbrev pub AsksForBadSeats : List (List ℕ) → Type 0
 AsksForBadSeats words = (job : Job) × IsJobOf words job × HasBadSeats job.task
 
--- so the words are refused: by `clap`, or by how many weeks, scripts or seats they ask for
+-- the words are refused: by `clap`, or for the number of scripts or the seats that they ask for
 abbrev pub AreTurnedDown : List (List ℕ) → Type 0
 AreTurnedDown words = AreRefused words ⊎ (AsksForTooMany words ⊎ AsksForBadSeats words)
 
--- the words ask for a job that may say something where it is done
+-- the words ask for a job that may write to standard error when it is done
 abbrev pub AsksToSay : List (List ℕ) → Type 0
 AsksToSay words = (job : Job) × IsJobOf words job × Saying job.task
 
@@ -123,36 +126,38 @@ AsksToSay words = (job : Job) × IsJobOf words job × Saying job.task
 abbrev pub AsksToWarn : List (List ℕ) → Type 0
 AsksToWarn words = (job : Job) × IsJobOf words job × Warning job.task
 
--- nothing is said, or what the job says for which the words ask
+-- nothing is written to standard error, or what the job writes that the words ask for
 abbrev pub SaysAsAsked : List (List ℕ) → Held → Option (List ℕ) → Option (List ℕ) → Type 0
 SaysAsAsked words held old new = (new ≡ old) ⊎ ((job : Job) × IsJobOf words job × SaysOfTask job.instance job.barred job.task held old new)
 
--- what has been said where the task is not done: that a desk has no minutes, and else nothing
+-- what is written to standard error if the task is not done: the warning of a desk without minutes,
+-- and else nothing
 abbrev pub WarnsOfTask : Task → Option (List ℕ) → Option (List ℕ) → Type 0
 WarnsOfTask (Desk seats start minutes) old new = Warns (is_some minutes) old new
 WarnsOfTask task old new = new ≡ old
 
--- nothing has been said, or what the job has said for which the words ask
+-- nothing is written so, or what the job writes that the words ask for
 abbrev pub WarnsAsAsked : List (List ℕ) → Option (List ℕ) → Option (List ℕ) → Type 0
 WarnsAsAsked words old new = (new ≡ old) ⊎ ((job : Job) × IsJobOf words job × WarnsOfTask job.task old new)
 
--- help is given, or the version
+-- the words ask for help or the version
 abbrev pub GivesHelp : WordsFault → Type 0
 GivesHelp (Help text) = Unit {0}
 GivesHelp _ = ⊥
 
--- its text is printed
+-- the text of the help is printed
 abbrev pub PrintsHelp : WordsFault → Option (List ℕ) → Option (List ℕ) → Type 0
 PrintsHelp (Help text) old new = Appends old new (string_bytes text)
 PrintsHelp _ old new = ⊥
 
--- what is told where it is not: the words are refused, there was no memory for that, or standard output failed
+-- the fault if help is not given: the words are refused, memory ran out, or standard output failed
 abbrev pub IsOfHelp : WordsFault → Bool → Fault → Type 0
 IsOfHelp (Help text) failed told = (told ≡ CannotWrite) × (failed ≡ true)
 IsOfHelp (Refused text) failed told = told ≡ Words text
 IsOfHelp no.NoMemory failed told = told ≡ NoMemory
 
--- the cause of a fault, by the words, the files, and whether standard output failed; wanted memory has none, and words that are given are text
+-- the cause of a fault, by the words, the files, and whether standard output failed; running out of
+-- memory has none, and words that are given are UTF-8
 abbrev pub HasCause : List (List ℕ) → Held → Bool → Fault → Type 0
 HasCause words held failed CannotWrite = (failed ≡ true) ⊎ AsksToStore words
 HasCause words held failed NoMemory = Unit {0}

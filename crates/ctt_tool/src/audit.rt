@@ -18,7 +18,7 @@ use ctt_script::read_journal;
 use ctt_text::{Instance, let_go};
 use std::alloc::Global;
 
-/// Prints a verdict, unless it is that the opening is refused.
+/// Prints a verdict, unless the opening is refused, which is a fault.
 pub fn print_verdict<W: Sink>(
     alloc: Global,
     out: &mut W,
@@ -47,7 +47,7 @@ pub fn print_verdict<W: Sink>(
     }
 }
 
-/// The entries of the journal in a file.
+/// Parses the entries of the journal in a file.
 pub fn fetch_entries<F: Files>(
     alloc: Global,
     files: &mut F,
@@ -68,7 +68,8 @@ pub fn fetch_entries<F: Files>(
     }
 }
 
-/// What is found of the journal in a file. The start is read after the journal, and refused after it.
+/// Audits the journal in a file. The start is read after the journal, so that a fault of the
+/// journal comes first.
 fn fetch_verdict<'i, S: Sheet<'i>, F: Files>(
     alloc: Global,
     files: &mut F,
@@ -97,7 +98,7 @@ fn fetch_verdict<'i, S: Sheet<'i>, F: Files>(
     }
 }
 
-/// Audits the journal in a file on this kind of sheet.
+/// Audits the journal in a file on sheets of this kind, and prints the verdict.
 fn audit_on<'i, S: Sheet<'i>, F: Files, W: Sink>(
     alloc: Global,
     files: &mut F,
@@ -119,8 +120,8 @@ fn audit_on<'i, S: Sheet<'i>, F: Files, W: Sink>(
     print_verdict(alloc, out, instance, verdict)
 }
 
-/// Audits a journal of an instance, and prints whether its entries were answered as their drafts are
-/// when they are run whole, one after another. Each text is given by the name of its file.
+/// Audits a journal of an instance, and prints whether its entries have the replies that their
+/// drafts get if they are run whole, one after another. Each text is given by its file name.
 pub fn audit<F: Files, W: Sink>(
     alloc: Global,
     files: &mut F,

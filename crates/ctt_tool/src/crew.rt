@@ -22,7 +22,7 @@ use std::marker::Sync;
 use std::sync::Wait;
 use std::thread::Threads;
 
-/// The fault of a crew that there is not.
+/// Converts the fault of a crew that could not be run.
 fn refused_crew(fault: CrewFault) -> Fault
     ensures { result ≡ fault_of_crew fault }
 {
@@ -34,7 +34,7 @@ fn refused_crew(fault: CrewFault) -> Fault
     }
 }
 
-/// What a crew writes that follows these scripts.
+/// Returns what a crew with these scripts writes.
 fn answers<R: Threads + Wait + Sync>(
     rt: &R,
     alloc: Global,
@@ -57,7 +57,7 @@ fn answers<R: Threads + Wait + Sync>(
     }
 }
 
-/// What a crew writes that follows the scripts in these files.
+/// Returns what a crew with the scripts in these files writes.
 fn answers_on<R: Threads + Wait + Sync, F: Files>(
     rt: &R,
     alloc: Global,
@@ -77,8 +77,8 @@ fn answers_on<R: Threads + Wait + Sync, F: Files>(
     answers(rt, alloc, instance, &texts)
 }
 
-/// What a crew writes on an instance, where the scripts are as many as are taken. The instance is read
-/// first, then the barred rooms, and then the scripts in their order.
+/// Returns what a crew on an instance writes. The instance is read first, then the barred rooms,
+/// and then the scripts, in order.
 fn report<R: Threads + Wait + Sync, F: Files>(
     rt: &R,
     alloc: Global,
@@ -101,9 +101,9 @@ fn report<R: Threads + Wait + Sync, F: Files>(
     answers
 }
 
-/// Runs scripts on one desk of an instance, which opens empty, each by a planner on a thread of his own,
-/// and prints what they are answered when all have ended. Each text is given by the name of its file.
-/// Before any file is read it is looked whether the scripts are too many.
+/// Runs scripts on one desk of an instance, which opens empty, with one planner and one thread per
+/// script, and prints the answers when all have ended. Each text is given by its file name. The
+/// number of scripts is checked before any file is read.
 pub fn crew<R: Threads + Wait + Sync, F: Files, W: Sink>(
     rt: &R,
     alloc: Global,

@@ -25,20 +25,20 @@ use std::marker::Sync;
 use std::sync::Wait;
 use std::thread::Threads;
 
-/// The most seats that a desk may have.
+/// The most seats that a desk can have.
 const SEAT_LIMIT: usize = 64;
 
-/// What is said at a desk without minutes.
+/// The warning at a desk without minutes.
 const NO_MINUTES: &str = "timedesk: no minutes: what is committed ends with the desk\n";
 
-/// Whether one of the seats has this name.
+/// Returns whether one of the seats has this name.
 fn has_seat(seats: &[String], name: &str) -> bool
     ensures { result ≡ has_seat name.now seats.now }
 {
     seats.iter().any(|seat| seat.as_str() == name)
 }
 
-/// Whether one of the seats is given again.
+/// Returns whether a seat is given twice.
 fn has_twice(seats: &[String]) -> bool
     ensures { result ≡ has_twice seats.now }
 {
@@ -50,7 +50,7 @@ fn has_twice(seats: &[String]) -> bool
     false
 }
 
-/// The name of the file from which the lines of a seat come.
+/// Returns the name of the file from which the lines of a seat are read.
 fn input_name(alloc: Global, seat: &str) -> Result<String, AllocError>
     ensures { IfOk result (λ name. string_bytes name ≡ seat.now ++ codes ".in") }
 {
@@ -60,7 +60,7 @@ fn input_name(alloc: Global, seat: &str) -> Result<String, AllocError>
     Ok(name)
 }
 
-/// That the lines of a seat cannot be read.
+/// Returns the fault that the lines of a seat cannot be read.
 fn unread(alloc: Global, seat: &str) -> Fault
     ensures { IsUnreadAt seat.now result ⊎ (result ≡ NoMemory) }
 {
@@ -70,7 +70,7 @@ fn unread(alloc: Global, seat: &str) -> Fault
     }
 }
 
-/// The fault of a desk with these seats.
+/// Converts a fault of a desk with these seats.
 fn fault_of_office(alloc: Global, seats: &[String], fault: OfficeFault) -> Fault
     requires { IsOfficeFault (length seats.now) fault }
     ensures cause { IfUnwritten result (Unit {0}) (IsOfWork result ⊎ IsUnread seats.now result) }
@@ -85,7 +85,7 @@ fn fault_of_office(alloc: Global, seats: &[String], fault: OfficeFault) -> Fault
     }
 }
 
-/// The opening of a desk: the solution that a file holds, or nothing.
+/// Opens the timetable with which a desk begins: the solution in a file, or the empty one.
 fn open_on<'i, S: Sheet<'i>, F: Files>(
     alloc: Global,
     files: &mut F,
@@ -110,7 +110,9 @@ fn open_on<'i, S: Sheet<'i>, F: Files>(
     }
 }
 
-/// The file for minutes, if one is given, unless it has bytes.
+/// Returns the file for minutes, if one is given.
+///
+/// `MinutesExist` if it has bytes.
 fn unused<O: Office>(office: &O, minutes: Option<String>) -> Result<Option<String>, Fault>
     ensures same { IfOk result (λ given. given ≡ minutes) }
     ensures cause { IfErr result (IsOfOldMinutes minutes) }
@@ -124,7 +126,7 @@ fn unused<O: Office>(office: &O, minutes: Option<String>) -> Result<Option<Strin
     Ok(Some(name))
 }
 
-/// Where minutes are written, where a file is given for them.
+/// Opens the file for minutes, if one is given.
 fn minutes_in<O: Office>(office: &O, minutes: Option<String>) -> Result<Option<O::Minutes>, Fault>
     ensures given { IfOk result (λ writer. is_some writer ≡ is_some minutes) }
     ensures cause { IfErr result (λ fault. fault ≡ CannotWrite) }
@@ -138,7 +140,7 @@ fn minutes_in<O: Office>(office: &O, minutes: Option<String>) -> Result<Option<O
     }
 }
 
-/// Says that what is committed ends with the desk, unless minutes are written.
+/// Warns that commits end with the desk, unless minutes are written.
 fn warn<V: Sink>(err: &mut V, is_written: bool)
     ensures warns { ((is_written ≡ false) × (V.has_failed err.new ≡ true))
         ⊎ Warns is_written (V.taken err.old) (V.taken err.new) }
@@ -149,8 +151,8 @@ fn warn<V: Sink>(err: &mut V, is_written: bool)
     }
 }
 
-/// Keeps a desk of the instance until all have left, and gives the last lines. If there are no
-/// minutes, that is said on standard error before the first line of a seat is read.
+/// Runs a desk of the instance until all planners have left, and returns its last lines. If there
+/// are no minutes, a warning is written to standard error before the first line of a seat is read.
 fn keep<R: Threads + Wait + Sync, F: Files, O: Office, V: Sink>(
     rt: &R,
     alloc: Global,
@@ -192,7 +194,8 @@ fn keep<R: Threads + Wait + Sync, F: Files, O: Office, V: Sink>(
     }
 }
 
-/// The same of the instance in a file. It is read first, then the barred rooms, and then the start.
+/// Runs a desk as `keep` does. The instance is read first, then the barred rooms, and then the
+/// start.
 fn report<R: Threads + Wait + Sync, F: Files, O: Office, V: Sink>(
     rt: &R,
     alloc: Global,
@@ -227,7 +230,8 @@ fn report<R: Threads + Wait + Sync, F: Files, O: Office, V: Sink>(
     kept
 }
 
-/// Prints the last lines of a desk, or says them on standard error where standard output is a seat.
+/// Prints the last lines of a desk on standard output, or on standard error if standard output is a
+/// seat.
 fn print_report<W: Sink, V: Sink>(
     out: &mut W,
     err: &mut V,
@@ -251,9 +255,9 @@ fn print_report<W: Sink, V: Sink>(
     }
 }
 
-/// Keeps a desk of an instance with these seats until all planners have left, and prints how many drafts were accepted
-/// and what all costs: on standard output, unless that is a seat, and then on standard error. Nothing is opened where the
-/// seats are refused or the file of the minutes has bytes.
+/// Runs a desk of an instance with these seats until all planners have left. Then prints the number
+/// of accepted drafts and the costs, on standard output, or on standard error if standard output is
+/// a seat. If the seats are refused or the file for minutes has bytes, nothing is opened.
 pub fn desk<R: Threads + Wait + Sync, F: Files, O: Office, W: Sink, V: Sink>(
     rt: &R,
     alloc: Global,

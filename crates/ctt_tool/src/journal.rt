@@ -16,7 +16,8 @@ use ctt_script::write_journal;
 use ctt_text::{Instance, let_go};
 use std::alloc::Global;
 
-/// The line of an entry that is not whole, by the byte at which it begins; nothing where there is none.
+/// Returns the line that reports an incomplete entry by the byte at which it begins, or an empty
+/// text.
 fn torn_line(alloc: Global, torn: Option<usize>) -> Result<String, Fault>
     ensures text { IfOk result (λ line. string_bytes line ≡ torn_text torn) }
     ensures fault { IfErr result (λ fault. fault ≡ NoMemory) }
@@ -27,7 +28,8 @@ fn torn_line(alloc: Global, torn: Option<usize>) -> Result<String, Fault>
     }
 }
 
-/// The journal of the whole entries at the beginning of minutes, and the byte at which an entry begins that is not whole.
+/// Returns the journal of the whole entries at the beginning of minutes, and the byte at which an
+/// incomplete entry begins, if one does.
 fn recovered(
     alloc: Global,
     instance: &Instance,
@@ -48,8 +50,8 @@ fn recovered(
     Ok((journal?, torn))
 }
 
-/// Prints the journal of the whole entries at the beginning of minutes. An entry that is not whole is said on standard
-/// error.
+/// Prints the journal of the whole entries at the beginning of minutes. An incomplete entry is
+/// reported on standard error.
 fn print_journal<F: Files, W: Sink, V: Sink>(
     alloc: Global,
     files: &mut F,
@@ -78,8 +80,8 @@ fn print_journal<F: Files, W: Sink, V: Sink>(
     Ok(Outcome::Done)
 }
 
-/// Prints the journal of minutes of an instance, each given by the name of its file. A last entry that is torn is left
-/// out, and said on standard error.
+/// Prints the journal of minutes of an instance, each given by its file name. An incomplete last
+/// entry is left out, and reported on standard error.
 pub fn journal<F: Files, W: Sink, V: Sink>(
     alloc: Global,
     files: &mut F,

@@ -16,8 +16,8 @@ use ctt_files::{Fault, Files, Outcome, fetch_instance, fetch_start, print};
 use ctt_text::{Instance, Placed, let_go, write_solution};
 use std::alloc::Global;
 
-/// Prints the timetable that entries leave on the opening with these lectures, or what an audit
-/// finds.
+/// Prints the timetable that entries leave on the opening with these lectures, or the verdict of
+/// the audit if it does not agree.
 fn print_left<'i, S: Sheet<'i>, W: Sink>(
     alloc: Global,
     out: &mut W,
@@ -46,8 +46,8 @@ fn print_left<'i, S: Sheet<'i>, W: Sink>(
     }
 }
 
-/// Prints the timetable after the journal in a file on this kind of sheet, or what an audit finds.
-/// The start is read after the journal.
+/// Prints the timetable after the journal in a file, on sheets of this kind, or the verdict of the
+/// audit. The start is read after the journal.
 fn list_on<'i, S: Sheet<'i>, F: Files, W: Sink>(
     alloc: Global,
     files: &mut F,
@@ -78,8 +78,8 @@ fn list_on<'i, S: Sheet<'i>, F: Files, W: Sink>(
     printed
 }
 
-/// Prints the timetable after a journal of an instance as a solution, if the audit agrees. Each text
-/// is given by the name of its file.
+/// Prints the timetable after a journal of an instance as a solution, if the audit agrees, and else
+/// its verdict. Each text is given by its file name.
 pub fn list<F: Files, W: Sink>(
     alloc: Global,
     files: &mut F,

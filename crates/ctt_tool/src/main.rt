@@ -29,7 +29,7 @@ use std::sync::Wait;
 use std::thread::Threads;
 use std::{env, io};
 
-/// The words of the command line, of which the first is the program's name.
+/// Returns the words of the command line, the first of which is the program's name.
 fn owned_words<R: Env + AllocGlobal>(rt: &R) -> Result<Vec<String>, Fault>
     ensures { IfErr result (λ fault. (fault ≡ WordsNotText) ⊎ (fault ≡ NoMemory)) }
 {
@@ -40,7 +40,7 @@ fn owned_words<R: Env + AllocGlobal>(rt: &R) -> Result<Vec<String>, Fault>
     }
 }
 
-/// Does what the words of the command line ask for, as `program` does.
+/// Does what the command line asks for, and returns the exit status, as `program` does.
 fn serve<R: Env + AllocGlobal + Threads + Wait + Sync, F: Files, O: Office, W: Sink, V: Sink>(
     rt: &R,
     files: &mut F,

@@ -14,8 +14,8 @@ use ctt_mend::mend as mend_lectures;
 use ctt_text::{Instance, let_go};
 use std::alloc::Global;
 
-/// Prints the solution in a file without the lectures that cannot be placed on this kind of sheet.
-/// Each of these is said on standard error.
+/// Prints the solution in a file without the lectures that cannot be placed on a sheet of this
+/// kind. These are reported on standard error.
 fn mend_on<'i, S: Sheet<'i>, F: Files, W: Sink, V: Sink>(
     alloc: Global,
     files: &mut F,
@@ -43,9 +43,9 @@ fn mend_on<'i, S: Sheet<'i>, F: Files, W: Sink, V: Sink>(
     Ok(Outcome::Done)
 }
 
-/// Prints a solution of an instance, each given by the name of its file, without the lectures that
-/// cannot be placed one after another in the order of courses and slots. Each of these is said on
-/// standard error.
+/// Prints a solution of an instance, each given by its file name, without the lectures that cannot
+/// be placed one after another, in the order of courses and slots. These are reported on standard
+/// error.
 pub fn mend<F: Files, W: Sink, V: Sink>(
     alloc: Global,
     files: &mut F,

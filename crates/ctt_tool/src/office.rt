@@ -1,4 +1,4 @@
-//! Seats and minutes by the names of their files.
+//! Seats and minutes in files.
 
 use ctt_devices::{Device, Failed};
 use ctt_office::{Doors, Durable};
@@ -9,22 +9,22 @@ use std::marker::{Send, Sync};
 use std::rt::{Stdin, Stdout};
 use std::{fs, io, rt};
 
-/// What a desk of seats opens by names.
+/// The devices of seats and the files of minutes, by their names.
 pub trait Office: Doors {
-    /// Where minutes are written.
+    /// The writer of minutes.
     type Minutes: Durable + Drop + Send;
 
-    /// Whether there is a file of this name that has bytes.
+    /// Returns whether there is a file of this name that is not empty.
     fn has_bytes(&self, name: &str) -> bool;
 
-    /// The file of this name, to be written at its end.
+    /// Opens the file of this name for appending, and creates it if there is none.
     fn open_minutes(&self, name: &str) -> Result<Self::Minutes, Failed>;
 }
 
-/// The seat of standard input and standard output.
+/// The name of the seat at standard input and standard output.
 pub const STANDARD: &str = "-";
 
-/// Where the lines of a seat come from.
+/// The device from which the lines of a seat are read.
 #[derive(Drop)]
 pub enum SeatInput<F> {
     Standard(Stdin),
@@ -40,7 +40,7 @@ impl<F: Read> Read for SeatInput<F> {
     }
 }
 
-/// Where the answers of a seat go.
+/// The device to which the answers of a seat are written.
 #[derive(Drop)]
 pub enum SeatOutput<F> {
     Standard(Stdout),
@@ -63,7 +63,7 @@ impl<F: Write> Write for SeatOutput<F> {
     }
 }
 
-/// Seats and minutes in the files of the system.
+/// Seats and minutes in files of the system.
 #[derive(Drop)]
 pub struct SystemOffice<'r, R> {
     rt: &'r R,
@@ -73,7 +73,7 @@ pub struct SystemOffice<'r, R> {
 }
 
 impl<'r, R: rt::Files> SystemOffice<'r, R> {
-    /// Those that the runtime reaches.
+    /// Creates an office over the runtime's files.
     pub fn new(rt: &'r R, alloc: Global, input: Stdin, out: Stdout) -> Self {
         SystemOffice {
             rt,
@@ -83,7 +83,7 @@ impl<'r, R: rt::Files> SystemOffice<'r, R> {
         }
     }
 
-    /// The name of a seat's file.
+    /// Returns the name of a seat's file.
     fn file_name(&self, seat: &str, end: &str) -> Result<String, Failed> {
         let Ok(mut name) = String::from_str(self.alloc, seat) else {
             return Err(Failed);

@@ -1,4 +1,4 @@
-//! A text with which a job is done.
+//! Printing of a text that completes a job.
 
 ghost use Rattle.std.specs.Prelude.{◌≡◌, true, OnOk, OnErr, IfOk, IfErr};
 ghost use Rattle.std.specs.Io.KnownBytes.{Appends};
@@ -8,7 +8,7 @@ ghost use Rattle.ctt_files.specs.declared.outcome.Outcome.TheVariants.{Done};
 use ctt_devices::Sink;
 use ctt_files::{Fault, Outcome, print};
 
-/// Prints a whole text, with which a job is done.
+/// Prints a text that completes a job.
 pub fn print_last<W: Sink>(out: &mut W, text: &[u8]) -> Result<Outcome, Fault>
     ensures done { IfOk result (λ outcome. outcome ≡ Done) }
     ensures printed { OnOk result (Appends (W.taken out.old) (W.taken out.new) text.now) }

@@ -1,4 +1,4 @@
-//! What the program does.
+//! The program, from the words of its command line to its exit status.
 
 ghost use Rattle.std.specs.Prelude.{◌≡◌, ◌≢◌, ◌≤◌, ◌⊎◌, [], true, false, OnOk, OnErr, IfOk, IfErr};
 ghost use Rattle.ctt_words.specs.Jobs.{HasScripts, faults_of};
@@ -29,7 +29,7 @@ use std::marker::Sync;
 use std::sync::Wait;
 use std::thread::Threads;
 
-/// Does a job.
+/// Runs the command of a job.
 fn do_job<R: Threads + Wait + Sync, F: Files, O: Office, W: Sink, V: Sink>(
     rt: &R,
     alloc: Global,
@@ -92,7 +92,7 @@ fn do_job<R: Threads + Wait + Sync, F: Files, O: Office, W: Sink, V: Sink>(
     }
 }
 
-/// Gives the help that words ask for, or says why they are refused.
+/// Prints the help that the words ask for, or returns why they are refused.
 fn answer_words<W: Sink>(out: &mut W, fault: WordsFault) -> Result<Outcome, Fault>
     ensures done { IfOk result (λ outcome. outcome ≡ Done) }
     ensures helps { OnOk result (GivesHelp fault) }
@@ -110,7 +110,7 @@ fn answer_words<W: Sink>(out: &mut W, fault: WordsFault) -> Result<Outcome, Faul
     }
 }
 
-/// Does the job that the words ask for, or gives help.
+/// Does the job that the words ask for, or prints help.
 fn do_as_asked<R: Threads + Wait + Sync, F: Files, O: Office, W: Sink, V: Sink>(
     rt: &R,
     alloc: Global,
@@ -146,9 +146,9 @@ fn do_as_asked<R: Threads + Wait + Sync, F: Files, O: Office, W: Sink, V: Sink>(
     }
 }
 
-/// Says on standard error why a job was not done, and answers the status.
+/// Reports on standard error why a job was not done, and returns the exit status.
 ///
-/// Where no memory is left for the line, that is said instead.
+/// If memory runs out for the line, that is reported instead.
 pub fn fail_with<V: Sink>(alloc: Global, fault: &Fault, err: &mut V) -> u8
     ensures status { (result ≡ status_of fault.now) ⊎ (result ≡ 3) }
     ensures told { (1 ≤ result) × (result ≤ 3) }
@@ -169,11 +169,11 @@ pub fn fail_with<V: Sink>(alloc: Global, fault: &Fault, err: &mut V) -> u8
     }
 }
 
-/// Does the job that the words ask for, of which the first is the program's name, and answers the
-/// status with which to end: 0 where it was done, 1 where a text is refused or an audit does not agree,
-/// 2 where the words are refused, or ask for too many scripts or seats, and 3 where the machine failed.
-/// Where a solution was asked to be more than it is, that is 4 where it is not lawful, and 5 where it is
-/// lawful and not complete. Answers go to `out`, and why a job was not done to `err`.
+/// Does the job that the words ask for, the first of which is the program's name, and returns the
+/// exit status: 0 if it was done, 1 if a text is refused or an audit does not agree, 2 if the words
+/// are refused or ask for too many scripts or seats, and 3 if the machine failed. If a solution was
+/// required to be more than it is, the status is 4 if it is not lawful, and 5 if it is lawful but
+/// not complete. Answers go to `out`, and the reason why a job was not done to `err`.
 pub fn program<R: AllocGlobal + Threads + Wait + Sync, F: Files, O: Office, W: Sink, V: Sink>(
     rt: &R,
     words: &[&str],

@@ -1,4 +1,4 @@
-//! Openings and journals that are refused.
+//! Faults of openings and journals that are refused.
 
 ghost use Rattle.std.specs.Prelude.{◌≡◌, IfOk};
 ghost use Rattle.std.specs.String.{string_bytes};
@@ -13,7 +13,7 @@ use ctt_text::Instance;
 use std::alloc::{AllocError, Global};
 use std::fmt::Write;
 
-/// The line of an opening of which this lecture, counted from 1, cannot be placed.
+/// Returns the line that reports the lecture, counted from 1, that cannot be placed in an opening.
 fn opening_line(
     alloc: Global,
     instance: &Instance,
@@ -29,7 +29,7 @@ fn opening_line(
     Ok(line)
 }
 
-/// The fault of such an opening.
+/// Returns the fault of an opening in which this lecture, counted from 1, cannot be placed.
 pub fn refused_opening(alloc: Global, instance: &Instance, at: u64, fault: &EditFault) -> Fault
     requires { FaultFits instance.now fault.now }
     ensures { IsOpeningFault instance.now at fault.now result }
@@ -40,7 +40,7 @@ pub fn refused_opening(alloc: Global, instance: &Instance, at: u64, fault: &Edit
     }
 }
 
-/// The fault of a journal that could not be read.
+/// Converts the fault of a journal that could not be parsed.
 pub fn refused_journal(fault: JournalFault) -> Fault
     ensures { result ≡ fault_of_journal fault }
 {

@@ -26,7 +26,7 @@ use ctt_script::{ScriptFault, run_script, write_journal};
 use ctt_text::{Instance, Placed, let_go};
 use std::alloc::Global;
 
-/// The fault of the run of the script in a file.
+/// Converts the fault of a run of the script in this file.
 fn fault_of_run(alloc: Global, instance: &Instance, fault: ScriptFault, script: String) -> Fault
     requires { RunFaultFits instance.now fault }
     ensures { IsRunFault instance.now script fault result }
@@ -40,8 +40,8 @@ fn fault_of_run(alloc: Global, instance: &Instance, fault: ScriptFault, script: 
     }
 }
 
-/// Runs a script on a desk that opens with these lectures, and prints the answers. The script is
-/// read from a file of this name.
+/// Runs a script on a desk that opens with these lectures, and prints the answers. `name` is the
+/// script's file, for faults.
 fn answer<'i, R: Source, W: Sink>(
     alloc: Global,
     instance: &'i Instance,
@@ -74,8 +74,7 @@ fn answer<'i, R: Source, W: Sink>(
     }
 }
 
-/// Stores the journal of these entries if a file is given for it, which ends a run. No other file is
-/// written.
+/// Stores the journal of these entries, if a file is given for it.
 fn store_journal<F: Files>(
     alloc: Global,
     files: &mut F,
@@ -102,8 +101,8 @@ fn store_journal<F: Files>(
     }
 }
 
-/// Runs the script in a file on a desk. The file is opened first, then the start is read, and then
-/// the script.
+/// Runs the script in a file on a desk. The script's file is opened first, then the start is read,
+/// and then the script.
 fn run_on<F: Files, W: Sink>(
     alloc: Global,
     files: &mut F,
@@ -136,8 +135,8 @@ fn run_on<F: Files, W: Sink>(
     store_journal(alloc, files, instance, journal, desk.journal())
 }
 
-/// Runs a script on a desk of an instance, and prints the answers; then stores the journal of the
-/// drafts that were accepted, if a file is given for it. Each text is given by the name of its file.
+/// Runs a script on a desk of an instance, and prints the answers, then stores the journal of the
+/// accepted drafts, if a file is given for it. Each text is given by its file name.
 pub fn run<F: Files, W: Sink>(
     alloc: Global,
     files: &mut F,

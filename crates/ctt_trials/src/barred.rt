@@ -22,7 +22,8 @@ const FILES: &[&str] = &[
 /// A file that bars room A for alg alone.
 const OTHER_FILES: &[&str] = &["Barred: 1 alg A END."];
 
-/// Reads which rooms are barred, and once more where memory is wanted: then the instance is as it was.
+/// Parses a file of barred rooms, once more if memory runs out, which leaves the instance as it
+/// was.
 fn read(story: &mut Story, small: &mut Instance, text: &str) -> Option<BarredFault> {
     let told = read_barred(story.alloc(), small, text.as_bytes()).err();
     if told != Some(BarredFault::NoMemory) {
@@ -32,7 +33,7 @@ fn read(story: &mut Story, small: &mut Instance, text: &str) -> Option<BarredFau
     read_barred(story.alloc(), small, text.as_bytes()).err()
 }
 
-/// Reads files, and tells how each of them ends: where one is refused the instance is as it was.
+/// Parses files, and records how each of them ends. A refused file leaves the instance as it was.
 fn tell_read(story: &mut Story, small: &mut Instance, files: &[&str]) {
     for text in files {
         match read(story, small, text) {
@@ -44,7 +45,7 @@ fn tell_read(story: &mut Story, small: &mut Instance, files: &[&str]) {
     }
 }
 
-/// What is played before and behind files of barred rooms.
+/// Runs cases before and after files of barred rooms.
 pub(crate) fn play<R: Wait>(story: &mut Story, rt: &R, small: &mut Instance) {
     story.say("files of barred rooms");
     tell_read(story, small, FILES);

@@ -1,4 +1,5 @@
-//! A case is a row of a table: a script with its opening, and in which ways it is played.
+//! Cases: rows of a table, each of which is a script with its opening and the ways in which it is
+//! run.
 
 ghost use Rattle.ctt_text.specs.Timetable.{IsTimetable};
 ghost use Rattle.ctt_trials.specs.Scripts.{IsTimetable-prop};
@@ -9,7 +10,7 @@ use ctt_board::{GridSheet, ListSheet, Sheet};
 use ctt_text::{Instance, Placed, let_go, read_solution};
 use std::sync::Wait;
 
-/// How a case is played.
+/// How a case is run.
 pub(crate) enum Way {
     /// Without a sheet.
     Plain(Plain),
@@ -17,76 +18,77 @@ pub(crate) enum Way {
     List(On),
     /// On grid sheets.
     Grid(On),
-    /// As a script, which is run on grid sheets.
+    /// As a script that is parsed and run on grid sheets.
     Script(Told),
-    /// At a desk that planners share.
+    /// At a shared desk.
     Shared,
 }
 
-/// How a case is played without a sheet.
+/// How a case is run without a sheet.
 pub(crate) enum Plain {
-    /// The reports on its opening.
+    /// Record the reports on its opening.
     Reports,
-    /// Its opening is written and read again.
+    /// Write its opening and parse it again.
     Written,
-    /// Which rows its line reads.
+    /// Record the rows that its line reads.
     Rows,
-    /// Its lines are an input that is read whole, of at most four bytes.
+    /// Read its lines as an input of at most four bytes.
     Input,
 }
 
-/// How a case is played on sheets of one kind.
+/// How a case is run on sheets of one kind.
 pub(crate) enum On {
-    /// Its lines, each of which is a call, on a sheet.
+    /// Make its lines, each of which is a call, on a sheet.
     Lines,
-    /// One placement on a sheet.
+    /// Place one lecture on a sheet.
     Placement,
-    /// A draft that is stale on another sheet.
+    /// Make a draft that is stale on another sheet.
     Draft,
-    /// A draft of a thousand calls.
+    /// Make a draft of a thousand calls.
     LongDraft,
-    /// Which changes a sheet accepts.
+    /// Record which changes a sheet accepts.
     Accepted,
-    /// Its lines as events, one by one.
+    /// Send its lines as events, one by one.
     Step,
-    /// Its lines as events, all at once.
+    /// Send its lines as events, all at once.
     Run,
-    /// Its lines are the text of a journal, which is audited.
+    /// Audit its lines, which are the text of a journal.
     Audit,
-    /// Its lines are the text of a journal, and what this leaves is told.
+    /// Record what its lines, which are the text of a journal, leave.
     Left,
 }
 
-/// What is told of a script that is run.
+/// What is recorded of a script that is run.
 pub(crate) enum Told {
     /// Its answers, and what it leaves.
     Answers,
-    /// How long its answers are, and its journal.
+    /// The length of its answers, and its journal.
     Journal,
-    /// That its answers are not passed on.
+    /// That its answers could not be flushed.
     Unflushed,
-    /// Those of its answers that a writer takes which takes three bytes.
+    /// The part of its answers that a writer with room for three bytes takes.
     Cut,
 }
 
-/// One way in which a case is played.
+/// One way in which a case is run.
 pub(crate) struct Play {
     pub(crate) way: Way,
-    /// How the way is called, where what is told has to be what was told in the last way that is not called.
+    /// The name of the way, if its output should be that of the last way without a name; else
+    /// empty.
     pub(crate) called: &'static str,
 }
 
-/// A case.
+/// A case of a table.
 pub(crate) struct Case {
-    /// Its name, if it has one.
+    /// The name of the case, or empty.
     pub(crate) name: &'static str,
-    /// The text of the timetable that stands at first.
+    /// The text of the timetable with which the case begins.
     pub(crate) opening: &'static str,
     pub(crate) lines: &'static str,
     pub(crate) plays: &'static [Play],
 }
 
-/// The lines of a case, with its instance and the lectures with which it opens.
+/// The lines of a case, with its instance and the lectures of its opening.
 #[derive(Drop)]
 pub(crate) struct Script<'i> {
     pub(crate) small: &'i Instance,
@@ -95,7 +97,7 @@ pub(crate) struct Script<'i> {
     ghost timetable: { IsTimetable small.now opening.now } by { IsTimetable-prop small.now opening.now },
 }
 
-/// Plays a case without a sheet.
+/// Runs a case without a sheet.
 fn play_plain(script: &Script, story: &mut Story, plain: &Plain) {
     match plain {
         Plain::Reports => shown::play_reports(script, story),
@@ -105,7 +107,7 @@ fn play_plain(script: &Script, story: &mut Story, plain: &Plain) {
     }
 }
 
-/// Plays a case on sheets of one kind.
+/// Runs a case on sheets of one kind.
 fn play_on<'i, S: Sheet<'i>>(script: &Script<'i>, story: &mut Story, on: &On) {
     match on {
         On::Lines | On::Placement | On::Accepted => sheets::play::<S>(script, story, on),
@@ -117,7 +119,7 @@ fn play_on<'i, S: Sheet<'i>>(script: &Script<'i>, story: &mut Story, on: &On) {
     }
 }
 
-/// Plays a case in one way.
+/// Runs a case in one way.
 fn play_once<R: Wait>(script: &Script, story: &mut Story, rt: &R, way: &Way) {
     match way {
         Way::Plain(plain) => play_plain(script, story, plain),
@@ -128,7 +130,7 @@ fn play_once<R: Wait>(script: &Script, story: &mut Story, rt: &R, way: &Way) {
     }
 }
 
-/// Plays a case with the lectures of its opening.
+/// Runs a case with the lectures of its opening.
 fn play_opened<R: Wait>(
     story: &mut Story,
     rt: &R,
@@ -155,7 +157,7 @@ fn play_opened<R: Wait>(
     }
 }
 
-/// Plays a case.
+/// Runs a case.
 fn play_case<R: Wait>(story: &mut Story, rt: &R, small: &Instance, case: &Case) {
     match read_solution(story.alloc(), small, case.opening.as_bytes()) {
         Ok(opening) => {
@@ -166,7 +168,7 @@ fn play_case<R: Wait>(story: &mut Story, rt: &R, small: &Instance, case: &Case) 
     }
 }
 
-/// Plays cases, each once more where a call of it wanted memory.
+/// Runs cases, each once more if memory ran out for one of its calls.
 pub(crate) fn play_cases<R: Wait>(story: &mut Story, rt: &R, small: &Instance, cases: &[Case]) {
     for case in cases {
         if !case.name.is_empty() {

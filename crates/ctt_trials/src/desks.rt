@@ -1,4 +1,4 @@
-//! A script as events on a desk: one by one, and at once. What the desk leaves is told.
+//! A script as events on a desk, one by one or all at once, and what the desk leaves.
 
 ghost use Rattle.std.specs.Prelude.{IsTrue};
 ghost use Rattle.std.specs.List.{AllByRecursion as Each};
@@ -11,13 +11,14 @@ use ctt_core::{Desk, DeskFault, Event};
 use ctt_script::{Lines, PLANNERS, read_line};
 use ctt_text::{Instance, NoMemory, let_go};
 
-/// Tells the lectures and the cost of a desk, and how many entries its journal has.
+/// Records the lectures and the cost of a desk, and the number of entries of its journal.
 pub(crate) fn tell_desk<'i, S: Sheet<'i>>(desk: &Desk<'i, S>, story: &mut Story) {
     story.timetable(desk.instance(), desk.list(), desk.cost());
     story.count("entries", desk.journal().len() as u64);
 }
 
-/// Tells what a desk answers to an event, and answers whether it was told: want of memory is not.
+/// Records the answer of a desk to an event, unless memory ran out, and returns whether it was
+/// recorded.
 fn tells_step<'i, S: Sheet<'i>>(desk: &mut Desk<'i, S>, story: &mut Story, event: &Event) -> bool {
     if !event.fits(desk.instance(), desk.planners()) {
         return false;
@@ -28,7 +29,7 @@ fn tells_step<'i, S: Sheet<'i>>(desk: &mut Desk<'i, S>, story: &mut Story, event
 
 /// What a line of a script asks for.
 trait OfLine: Drop {
-    /// None for a bad line.
+    /// Parses a line. Returns `None` if it is bad.
     fn of_line(small: &Instance, line: &[u8]) -> Option<Self>;
 }
 
@@ -38,7 +39,7 @@ impl OfLine for Event {
     }
 }
 
-/// What the lines of a script ask for. The bad ones are told.
+/// Parses the lines of a script, and records the bad ones.
 fn asked_in<T: OfLine>(story: &mut Story, script: &Script) -> Vec<T> {
     let mut list = Vec::new(story.alloc());
     for line in Lines::new(script.lines.as_bytes()) {
@@ -50,7 +51,7 @@ fn asked_in<T: OfLine>(story: &mut Story, script: &Script) -> Vec<T> {
     list
 }
 
-/// Whether a desk of the instance with so many planners can be asked to answer these events.
+/// Returns whether a desk of the instance with this number of planners accepts these events.
 fn all_fit(events: &[Event], instance: &Instance, planners: u16) -> bool
     ensures { IsTrue result → Each (EventFits instance.now planners) events.now }
 {
@@ -62,8 +63,8 @@ fn all_fit(events: &[Event], instance: &Instance, planners: u16) -> bool
     true
 }
 
-/// Tells what a desk answers to events at once. Where an event wants memory those behind it meet another desk than they
-/// should: then the case is played again.
+/// Records the answers of a desk to events at once. If memory runs out for an event, the later ones
+/// find another desk than they should, so the case is run again.
 fn tell_answers<'i, S: Sheet<'i>>(desk: &mut Desk<'i, S>, story: &mut Story, events: &[Event]) {
     if !all_fit(events, desk.instance(), desk.planners()) {
         return story.say("unfit");
@@ -75,7 +76,8 @@ fn tell_answers<'i, S: Sheet<'i>>(desk: &mut Desk<'i, S>, story: &mut Story, eve
     }
 }
 
-/// Plays a script on a desk event by event, each once more where memory is wanted, or at once, and tells what the desk then has.
+/// Runs a script on a desk, event by event, each once more if memory runs out, or all at once, and
+/// records what the desk has then.
 fn play_at<'i, S: Sheet<'i>>(
     desk: &mut Desk<'i, S>,
     story: &mut Story,
@@ -98,7 +100,7 @@ fn play_at<'i, S: Sheet<'i>>(
     tell_desk(desk, story);
 }
 
-/// Plays a script event by event, or at once.
+/// Runs a script event by event, or all at once.
 pub(crate) fn play<'i, S: Sheet<'i>>(script: &Script<'i>, story: &mut Story, on: &On) {
     match Desk::<S>::new(story.alloc(), script.small, script.opening, PLANNERS) {
         Ok(mut desk) => {

@@ -1,4 +1,4 @@
-//! Drafts by themselves.
+//! Drafts without a desk.
 
 ghost use Rattle.std.specs.Prelude.{◌≡◌, IfOk};
 
@@ -19,7 +19,7 @@ fn open<'i, S: Sheet<'i>>(alloc: Global, sheet: &S) -> Result<Draft<'i, S>, NoMe
     Draft::open(alloc, sheet)
 }
 
-/// What a draft answers to the call of a line. Where that is want of memory, it is asked again.
+/// Makes the call of a line in a draft, once more if memory runs out.
 fn ask<'i, S: Sheet<'i>>(
     draft: &mut Draft<'i, S>,
     story: &mut Story,
@@ -40,7 +40,7 @@ fn ask<'i, S: Sheet<'i>>(
     }
 }
 
-/// Asks a draft what a line says, and tells the answer.
+/// Makes the call of a line in a draft, and records the answer.
 fn tell_asked<'i, S: Sheet<'i>>(draft: &mut Draft<'i, S>, story: &mut Story, line: &str)
     ensures { draft.new.problem ≡ draft.old.problem }
 {
@@ -49,7 +49,8 @@ fn tell_asked<'i, S: Sheet<'i>>(draft: &mut Draft<'i, S>, story: &mut Story, lin
     story.reply(small, told);
 }
 
-/// Asks a draft a thousand times, by turns to place geo and to drop it again, and tells how many bytes that is answered.
+/// Places geo and drops it again in a draft, a thousand calls in all, and records the length of the
+/// answers.
 fn ask_often<'i, S: Sheet<'i>>(draft: &mut Draft<'i, S>, story: &mut Story)
     ensures { draft.new.problem ≡ draft.old.problem }
 {
@@ -61,7 +62,7 @@ fn ask_often<'i, S: Sheet<'i>>(draft: &mut Draft<'i, S>, story: &mut Story)
     story.measure(here);
 }
 
-/// Tells whether a draft is stale against a sheet.
+/// Records whether a draft is stale against a sheet.
 fn tell_stale<'i, S: Sheet<'i>>(draft: &Draft<'i, S>, story: &mut Story, sheet: &S)
     requires { S.problem sheet.now ≡ draft.now.problem }
 {
@@ -72,7 +73,7 @@ fn tell_stale<'i, S: Sheet<'i>>(draft: &Draft<'i, S>, story: &mut Story, sheet: 
     }
 }
 
-/// Makes the changes of a draft again on a copy of a sheet.
+/// Makes the changes of a draft on a copy of another sheet.
 fn tell_replayed<'i, S: Sheet<'i>>(draft: &Draft<'i, S>, story: &mut Story, sheet: &S) {
     match sheet.copy() {
         Ok(mut copy) => {
@@ -83,14 +84,14 @@ fn tell_replayed<'i, S: Sheet<'i>>(draft: &Draft<'i, S>, story: &mut Story, shee
     }
 }
 
-/// Tells the cells that a draft would put back, and how many changes and calls it has.
+/// Records the cells that undo a draft, and the numbers of its changes and calls.
 fn tell_work<'i, S: Sheet<'i>>(draft: &Draft<'i, S>, story: &mut Story) {
     tell_cells(story, draft.undo());
     story.count("changes", draft.changes().len() as u64);
     story.count("calls", draft.asked().len() as u64);
 }
 
-/// Ends a draft, and settles it on a sheet, unless it is stale there.
+/// Ends a draft, and settles it on a sheet unless it is stale there.
 fn settle<'i, S: Sheet<'i>>(draft: Draft<'i, S>, story: &mut Story, sheet: &mut S)
     requires { S.problem sheet.old ≡ draft.problem }
 {
@@ -110,8 +111,8 @@ fn settle<'i, S: Sheet<'i>>(draft: Draft<'i, S>, story: &mut Story, sheet: &mut 
     }
 }
 
-/// What is asked of a draft on an empty sheet: a thousand calls, or to look at a slot and to place geo, where another sheet has
-/// top in that slot.
+/// Makes the calls of a draft on an empty sheet: a thousand, or a look at a slot and a placement of
+/// geo, while another sheet has top in that slot.
 fn ask_all<'i, S: Sheet<'i>>(
     draft: &mut Draft<'i, S>,
     story: &mut Story,
@@ -133,7 +134,7 @@ fn ask_all<'i, S: Sheet<'i>>(
     tell_replayed(draft, story, other);
 }
 
-/// A draft on an empty sheet, which is settled there. Another sheet has the lectures of a script.
+/// Runs a draft on an empty sheet, where it is settled. Another sheet has the lectures of a script.
 fn one_draft<'i, S: Sheet<'i>>(story: &mut Story, on: &On, sheet: &mut S, other: &S)
     requires { S.problem other.now ≡ S.problem sheet.old }
 {
@@ -145,7 +146,7 @@ fn one_draft<'i, S: Sheet<'i>>(story: &mut Story, on: &On, sheet: &mut S, other:
     settle(draft, story, sheet);
 }
 
-/// A draft on an empty sheet, beside a sheet with the lectures of a script.
+/// Runs a draft on an empty sheet, with another sheet that has the lectures of a script.
 pub(crate) fn play<'i, S: Sheet<'i>>(script: &Script<'i>, story: &mut Story, on: &On) {
     let alloc = story.alloc();
     let Ok(mut sheet) = placed::<S>(alloc, script.small, &[]) else {

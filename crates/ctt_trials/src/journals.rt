@@ -1,4 +1,4 @@
-//! Journals: their entries written, read and audited.
+//! Journals: their entries are written, parsed and audited.
 
 ghost use Rattle.std.specs.List.{AllByRecursion as Each};
 ghost use Rattle.ctt_core.specs.Entries.{EntryFits};
@@ -11,7 +11,7 @@ use ctt_core::{JournalEntry, NoList, Verdict, audit, list_after};
 use ctt_script::{read_journal, write_journal};
 use ctt_text::{Instance, NoMemory, Placed};
 
-/// Tells what was found of a journal.
+/// Records the verdict on a journal.
 fn tell_found(story: &mut Story, small: &Instance, found: Verdict) {
     match found {
         Verdict::Agrees => story.say("agrees"),
@@ -23,7 +23,7 @@ fn tell_found(story: &mut Story, small: &Instance, found: Verdict) {
     }
 }
 
-/// Tells what an audit found of entries.
+/// Records the verdict on entries, or notes that memory ran out.
 fn tell_audit(story: &mut Story, small: &Instance, told: Result<Verdict, NoMemory>) {
     match told {
         Ok(found) => tell_found(story, small, found),
@@ -31,7 +31,7 @@ fn tell_audit(story: &mut Story, small: &Instance, told: Result<Verdict, NoMemor
     }
 }
 
-/// Tells the timetable that entries leave, or what was found of them.
+/// Records the timetable that entries leave, or the verdict on them.
 fn tell_left(story: &mut Story, small: &Instance, told: Result<Vec<Placed>, NoList>) {
     match told {
         Ok(list) => story.lectures(small, Ok(list)),
@@ -40,7 +40,7 @@ fn tell_left(story: &mut Story, small: &Instance, told: Result<Vec<Placed>, NoLi
     }
 }
 
-/// Tells what an audit of entries finds, or the timetable that they leave.
+/// Audits entries and records the verdict, or records the timetable that they leave.
 fn tell_entries<'i, S: Sheet<'i>>(
     script: &Script<'i>,
     story: &mut Story,
@@ -59,7 +59,7 @@ fn tell_entries<'i, S: Sheet<'i>>(
     }
 }
 
-/// Reads the text of a journal, and tells what an audit finds, or the timetable that it leaves.
+/// Parses the text of a journal, and records the verdict, or the timetable that it leaves.
 pub(crate) fn read_text<'i, S: Sheet<'i>>(
     script: &Script<'i>,
     story: &mut Story,
@@ -72,7 +72,7 @@ pub(crate) fn read_text<'i, S: Sheet<'i>>(
     }
 }
 
-/// Tells the journal of entries, and what is found of it when it is read.
+/// Writes and records the journal of entries, and records what an audit of its text finds.
 pub(crate) fn tell_journal<'i, S: Sheet<'i>>(
     script: &Script<'i>,
     story: &mut Story,

@@ -1,6 +1,6 @@
-//! Trials: the worked cases, played through the calls of the crates below. What each call answers is printed, and at the
-//! end how many calls wanted memory and were made again: what is printed before is the same, whichever one request for
-//! memory is refused.
+//! Trials: the worked cases, run through the calls of the crates below. The answer of each call is
+//! printed, and at the end the number of calls that were repeated because memory ran out. All that
+//! is printed before that number is the same, whichever one request for memory is refused.
 #![tactic(auto)]
 
 mod barred;
@@ -28,13 +28,13 @@ use story::Story;
 use tables::{of_texts, on_desks, on_shared_desks, on_sheets, refreshed_desks, refusing_desks};
 use texts::SMALL;
 
-/// The small instance, read from a device.
+/// Reads and parses the small instance.
 fn small_instance(alloc: Global) -> Option<Instance> {
     let text = read_all(alloc, &mut Device::new(SMALL.as_bytes()), INPUT_LIMIT).ok()?;
     read_instance(alloc, &text).ok()
 }
 
-/// All that is played.
+/// Runs all cases.
 fn play<R: Wait>(story: &mut Story, rt: &R) {
     match small_instance(story.alloc()) {
         Some(mut small) => {
@@ -51,7 +51,7 @@ fn play<R: Wait>(story: &mut Story, rt: &R) {
     }
 }
 
-/// What is told, with room for it.
+/// Creates the transcript.
 fn new_story(alloc: Global) -> Option<Story> {
     match Story::new(alloc) {
         Some(story) => Some(story),

@@ -1,5 +1,5 @@
-//! A script that is read from a device: its answers, told as they are written, and its journal; also where the answers are not
-//! passed on.
+//! A script that is read from a device: its answers as they are written, and its journal, also if
+//! the answers cannot be flushed.
 
 ghost use Rattle.std.specs.Prelude.{IfOk};
 ghost use Rattle.ctt_script.specs.Entries.{IsWritable};
@@ -14,7 +14,7 @@ use ctt_devices::Device;
 use ctt_script::{ScriptFault, run_script};
 use ctt_text::let_go;
 
-/// Runs the lines of a script, whose answers are told.
+/// Runs the lines of a script, and records the answers.
 fn ran<'i>(script: &Script<'i>, story: &mut Story) -> Result<Desk<'i, GridSheet<'i>>, ScriptFault>
     ensures { IfOk result (λ desk. IsWritable script.now.small.now desk.journal) }
 {
@@ -28,7 +28,8 @@ fn ran<'i>(script: &Script<'i>, story: &mut Story) -> Result<Desk<'i, GridSheet<
     )
 }
 
-/// Tells what a desk has, or only how long its answers are, which were told from a place on, and its journal.
+/// Records what a desk has, or only the length of its answers, which begin at this offset, and its
+/// journal.
 fn tell_left<'i>(
     desk: &Desk<'i, GridSheet<'i>>,
     story: &mut Story,
@@ -46,7 +47,7 @@ fn tell_left<'i>(
     }
 }
 
-/// How many bytes of the answers are taken.
+/// Returns how many bytes of the answers are taken.
 fn room_for(told: &Told) -> usize {
     match told {
         Told::Cut => 3,
@@ -54,7 +55,7 @@ fn room_for(told: &Told) -> usize {
     }
 }
 
-/// Plays a script. Its answers are told, and what it leaves; or only how long they are, and its journal.
+/// Runs a script, and records its answers and what it leaves, or only their length and its journal.
 pub(crate) fn play(script: &Script, story: &mut Story, told: &Told) {
     let here = story.len();
     story.is_deaf = matches!(told, Told::Unflushed);

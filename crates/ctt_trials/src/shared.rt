@@ -1,4 +1,4 @@
-//! A desk that planners share, played on one thread.
+//! A shared desk, run on one thread.
 
 ghost use Rattle.std.specs.Prelude.{◌≡◌, IfOk};
 ghost use Rattle.ctt_desk.specs.Names.{IsNamed};
@@ -13,17 +13,17 @@ use std::alloc::Global;
 use std::marker::{Brand, PhantomData};
 use std::sync::Wait;
 
-/// How many planners a desk has.
+/// The number of planners at a desk.
 const PLANNERS: u16 = 4;
 
-/// The opening of a desk.
+/// Opens the timetable of a script.
 fn opened<'i, S: Sheet<'i>>(script: &Script<'i>, alloc: Global) -> Result<Opened<S>, SharedFault>
     ensures { IfOk result (λ opened. opened.problem ≡ script.now.small.now) }
 {
     Opened::<S>::new(alloc, script.small, script.opening)
 }
 
-/// The planners take the turns of a script at their desk. They come back from their seats.
+/// Runs the turns of a script at a desk, and returns the planners from their seats.
 fn play_at<'i, S: Sheet<'i>, J: Naming, R: Wait>(
     here: &Here<'i, '_, S, J, R>,
     story: &mut Story,
@@ -37,7 +37,7 @@ fn play_at<'i, S: Sheet<'i>, J: Naming, R: Wait>(
     leave(seats, story)
 }
 
-/// Tells the lectures of a closed desk, what they cost, and its journal.
+/// Records the lectures of a closed desk, their cost, and its journal.
 fn tell_closed<S: Timetable, J: Naming>(
     story: &mut Story,
     small: &Instance,
@@ -49,8 +49,8 @@ fn tell_closed<S: Timetable, J: Naming>(
     }
 }
 
-/// Closes a desk with its planners, and tells what it left, and how many drafts each of them has
-/// seen, and committed.
+/// Closes a desk with its planners, and records what it left, and how many drafts each planner has
+/// seen and committed.
 fn close<S: Timetable, J: Naming, R: Wait>(
     story: &mut Story,
     rt: &R,
@@ -76,7 +76,7 @@ fn close<S: Timetable, J: Naming, R: Wait>(
     }
 }
 
-/// Plays a script on a desk that is made for it.
+/// Runs a script on a new desk.
 fn play_named<'i, S: Sheet<'i>, J: Naming, R: Wait>(
     script: &Script<'i>,
     story: &mut Story,
@@ -100,7 +100,7 @@ fn play_named<'i, S: Sheet<'i>, J: Naming, R: Wait>(
     }
 }
 
-/// Plays a script on a desk of which is known which one it is.
+/// Runs a script on the desk that `J` names.
 fn play_opened<'i, J: Naming, R: Wait>(
     script: &Script<'i>,
     story: &mut Story,
@@ -119,7 +119,7 @@ fn play_opened<'i, J: Naming, R: Wait>(
     play_named::<GridSheet, J, R>(script, story, rt, named);
 }
 
-/// Plays a script on a desk of grid sheets.
+/// Runs a script on a desk of grid sheets.
 pub(crate) fn play<R: Wait>(script: &Script, story: &mut Story, rt: &R) {
     match opened::<GridSheet>(script, story.alloc()) {
         Ok(opened) => play_opened::<Brand, R>(script, story, rt, opened, PLANNERS),

@@ -1,4 +1,4 @@
-//! Cases on one sheet: what is placed, asked and refused.
+//! Cases on one sheet: edits, looks and refusals.
 
 ghost use Rattle.std.specs.Prelude.{◌↔◌, IfSome, IsTrue};
 ghost use Rattle.ctt_text.specs.Timetable.{Fits};
@@ -12,7 +12,7 @@ use ctt_edits::{Call, Edit, Look, Row, check, look, reads};
 use ctt_script::{Lines, read_own_line};
 use ctt_text::{CourseNo, Instance, NoMemory, Placed, RoomNo, SlotNo};
 
-/// The call that a line asks for.
+/// Parses the call of a line.
 pub(crate) fn call_of(small: &Instance, line: &[u8]) -> Option<Call>
     ensures { IfSome result (CallFits small.now) }
 {
@@ -22,14 +22,14 @@ pub(crate) fn call_of(small: &Instance, line: &[u8]) -> Option<Call>
     }
 }
 
-/// Whether a lecture has numbers of the instance of a sheet.
+/// Returns whether the numbers of a lecture are those of a sheet's instance.
 fn lecture_fits<'i, S: Sheet<'i>>(sheet: &S, lecture: &Placed) -> bool
     ensures { IsTrue result ↔ Fits (S.problem sheet.now) lecture.now }
 {
     lecture.fits(sheet.instance())
 }
 
-/// Tells the cells of a change: course, slot and room by their numbers, or that the room is none.
+/// Records the cells of a change: the numbers of course, slot and room, or that there is no room.
 pub(crate) fn tell_cells(story: &mut Story, cells: &[Cell]) {
     for cell in cells {
         story.pair("cell", u64::from(cell.course.get()));
@@ -41,8 +41,8 @@ pub(crate) fn tell_cells(story: &mut Story, cells: &[Cell]) {
     }
 }
 
-/// Makes an edit on a sheet, and tells that it is done, or in full its change, and by how much that
-/// changes the penalty.
+/// Makes an edit on a sheet, and records that it is done, or, in full, its change and the
+/// difference of the penalty.
 fn make<'i, S: Sheet<'i>>(story: &mut Story, sheet: &mut S, edit: &Edit, in_full: bool) {
     if !edit.fits(sheet.instance()) {
         return story.say("unfit");
@@ -61,7 +61,7 @@ fn make<'i, S: Sheet<'i>>(story: &mut Story, sheet: &mut S, edit: &Edit, in_full
     }
 }
 
-/// Looks at a sheet.
+/// Looks at a sheet, and records the reply.
 fn show<'i, S: Sheet<'i>>(story: &mut Story, sheet: &S, asked: &Look) {
     if !asked.fits(sheet.instance()) {
         return story.say("unfit");
@@ -69,12 +69,12 @@ fn show<'i, S: Sheet<'i>>(story: &mut Story, sheet: &S, asked: &Look) {
     story.reply(sheet.instance(), look(story.alloc(), sheet, asked));
 }
 
-/// Tells the lectures and the cost of a sheet.
+/// Records the lectures and the cost of a sheet.
 pub(crate) fn tell_sheet<'i, S: Sheet<'i>>(story: &mut Story, sheet: &S) {
     story.timetable(sheet.instance(), sheet.list(), sheet.cost());
 }
 
-/// Makes the calls that the lines of a script ask for, and tells what the sheet then has.
+/// Makes the calls of a script's lines, and records what the sheet has then.
 fn answer_lines<'i, S: Sheet<'i>>(script: &Script<'i>, story: &mut Story, sheet: &mut S) {
     for line in Lines::new(script.lines.as_bytes()) {
         match call_of(script.small, line) {
@@ -86,8 +86,8 @@ fn answer_lines<'i, S: Sheet<'i>>(script: &Script<'i>, story: &mut Story, sheet:
     tell_sheet(story, sheet);
 }
 
-/// Tells the room of a lecture on a sheet, how many lectures its course has, its rows, and the
-/// sheet.
+/// Records the room of a lecture on a sheet, the number of lectures of its course, its rows, and
+/// the sheet.
 fn tell_lecture<'i, S: Sheet<'i>>(story: &mut Story, sheet: &S, lecture: &Placed) {
     if !lecture_fits(sheet, lecture) {
         return story.say("unfit");
@@ -101,8 +101,8 @@ fn tell_lecture<'i, S: Sheet<'i>>(story: &mut Story, sheet: &S, lecture: &Placed
     tell_sheet(story, sheet);
 }
 
-/// One placement on an empty sheet: geo in the second period of the first day, in room A. It is told of the sheet and of a
-/// copy.
+/// Places geo on an empty sheet, in the second period of the first day in room A, and records the
+/// sheet and a copy.
 fn place_geo<'i, S: Sheet<'i>>(story: &mut Story, sheet: &mut S) {
     tell_sheet(story, sheet);
     let geo = Placed {
@@ -119,7 +119,7 @@ fn place_geo<'i, S: Sheet<'i>>(story: &mut Story, sheet: &mut S) {
     }
 }
 
-/// A cell in which a lecture is added in room A, or removed.
+/// Returns a cell in which a lecture is added in room A, or removed.
 fn cell(course: u16, slot: u16, is_added: bool) -> Cell {
     let room = if is_added { Some(RoomNo::new(0)) } else { None };
     Cell {
@@ -129,7 +129,7 @@ fn cell(course: u16, slot: u16, is_added: bool) -> Cell {
     }
 }
 
-/// Tells whether a sheet accepts a change of these cells.
+/// Records whether a sheet accepts a change of these cells.
 fn tell_accepted<'i, S: Sheet<'i>>(story: &mut Story, sheet: &S, cells: &[Cell]) {
     tell_cells(story, cells);
     if let Some(change) = Change::of(cells) {
@@ -137,15 +137,15 @@ fn tell_accepted<'i, S: Sheet<'i>>(story: &mut Story, sheet: &S, cells: &[Cell])
     }
 }
 
-/// Tells whether a sheet accepts a third course in a room that is taken, the removal of a lecture,
-/// and a course that is not there.
+/// Records whether a sheet accepts a third course in a room that is taken, the removal of a
+/// lecture, and an unknown course.
 fn tell_all_accepted<'i, S: Sheet<'i>>(story: &mut Story, sheet: &S) {
     tell_accepted(story, sheet, &[cell(2, 1, true)]);
     tell_accepted(story, sheet, &[cell(1, 5, false)]);
     tell_accepted(story, sheet, &[cell(3, 1, true)]);
 }
 
-/// Plays lines or a placement on a sheet that has the lectures of a script at first.
+/// Runs lines or a placement on a sheet with the lectures of a script.
 pub(crate) fn play<'i, S: Sheet<'i>>(script: &Script<'i>, story: &mut Story, on: &On) {
     match placed::<S>(story.alloc(), script.small, script.opening) {
         Ok(mut sheet) => match on {
@@ -157,7 +157,7 @@ pub(crate) fn play<'i, S: Sheet<'i>>(script: &Script<'i>, story: &mut Story, on:
     }
 }
 
-/// Tells the rows that the call of a line reads.
+/// Records the rows that the call of a line reads.
 pub(crate) fn tell_rows(script: &Script, story: &mut Story) {
     let Some(call) = call_of(script.small, script.lines.as_bytes()) else {
         return story.say("bad line");

@@ -1,4 +1,4 @@
-//! A timetable that is shown: its reports, and its text. An input that is read whole.
+//! The reports and the text of a timetable, and an input that is read whole.
 
 use crate::cases::Script;
 use crate::story::Story;
@@ -6,13 +6,13 @@ use ctt_devices::{Device, InputFault, read_all};
 use ctt_findings::{report_json, report_text};
 use ctt_text::{read_solution, write_solution};
 
-/// Both reports on a timetable.
+/// Records both reports on a timetable.
 pub(crate) fn play_reports(script: &Script, story: &mut Story) {
     story.text(report_text(story.alloc(), script.small, script.opening));
     story.text(report_json(story.alloc(), script.small, script.opening));
 }
 
-/// Tells whether a text is read as the timetable.
+/// Records whether a text is parsed as the timetable.
 fn tell_read(script: &Script, story: &mut Story, text: &[u8]) {
     match read_solution(story.alloc(), script.small, text) {
         Ok(read) => {
@@ -24,7 +24,7 @@ fn tell_read(script: &Script, story: &mut Story, text: &[u8]) {
     }
 }
 
-/// A timetable, written and read again.
+/// Writes a timetable, and parses it again.
 pub(crate) fn play_written(script: &Script, story: &mut Story) {
     match write_solution(story.alloc(), script.small, script.opening) {
         Ok(text) => {
@@ -35,7 +35,7 @@ pub(crate) fn play_written(script: &Script, story: &mut Story) {
     }
 }
 
-/// An input that is read whole, of at most four bytes.
+/// Reads an input of at most four bytes.
 pub(crate) fn play_input(script: &Script, story: &mut Story) {
     match read_all(story.alloc(), &mut Device::new(script.lines.as_bytes()), 4) {
         Ok(bytes) => {

@@ -1,4 +1,4 @@
-//! What is told of the trials, and how many calls were made again.
+//! The transcript of the trials, and the number of calls that were repeated.
 
 ghost use Rattle.std.specs.Prelude.{◌↔◌, IsTrue, None};
 ghost use Rattle.ctt_script.specs.Entries.{AnswerFits, RowFits};
@@ -11,13 +11,13 @@ use ctt_script::{write_answer, write_entry};
 use ctt_text::{Instance, NoMemory, Placed};
 use std::alloc::Global;
 
-/// How many bytes are told at most.
+/// The capacity of the transcript, in bytes.
 const ROOM: usize = 65_536;
 
-/// How many bytes a line has at most.
+/// The capacity of a line, in bytes.
 const LINE: usize = 4_096;
 
-/// A text, with room for all that is told, so that telling takes no memory.
+/// A transcript with all its capacity reserved, so that recording allocates nothing.
 #[derive(Drop)]
 pub(crate) struct Story {
     text: Vec<u8>,
@@ -25,14 +25,14 @@ pub(crate) struct Story {
     again: u64,
     is_wanting: bool,
     is_lost: bool,
-    /// Whether it passes on nothing, as a writer.
+    /// Whether it refuses to flush, as a writer.
     pub(crate) is_deaf: bool,
-    /// How many bytes more it takes, as a writer.
+    /// How many more bytes it takes, as a writer.
     pub(crate) room: usize,
     failed: bool,
 }
 
-/// Whether the number of a row is one of the instance.
+/// Returns whether the number of a row is one of the instance.
 fn row_fits(instance: &Instance, row: &Row) -> bool
     ensures { IsTrue result ↔ RowFits instance.now row.now }
 {
@@ -42,7 +42,7 @@ fn row_fits(instance: &Instance, row: &Row) -> bool
     }
 }
 
-/// Whether an answer can be written.
+/// Returns whether an answer can be written.
 fn answer_fits(instance: &Instance, answer: &Answer) -> bool
     ensures { IsTrue result ↔ AnswerFits instance.now answer.now }
 {
@@ -64,7 +64,7 @@ fn answer_fits(instance: &Instance, answer: &Answer) -> bool
 }
 
 impl Story {
-    /// A text in which nothing is told yet, if there is memory.
+    /// Creates an empty transcript, if there is memory.
     pub(crate) fn new(alloc: Global) -> Option<Story> {
         let text = Vec::with_capacity(alloc, ROOM).ok()?;
         let line = String::with_capacity(alloc, LINE).ok()?;
@@ -84,22 +84,22 @@ impl Story {
         *self.text.allocator()
     }
 
-    /// How many bytes are told.
+    /// Returns the number of bytes recorded.
     pub(crate) fn len(&self) -> usize {
         self.text.len()
     }
 
-    /// Notes that a call is made again.
+    /// Counts a call that is repeated.
     pub(crate) fn call_again(&mut self) {
         self.again = self.again.saturating_add(1);
     }
 
-    /// Notes that a call wanted memory, for which the case is to be played again.
+    /// Notes that memory ran out for a call, so that the case is run again.
     pub(crate) fn no_memory(&mut self) {
         self.is_wanting = true;
     }
 
-    /// Adds one to a list. Where memory is wanted for it the case is to be played again.
+    /// Appends an element to a list. If memory runs out, the case is run again.
     pub(crate) fn add<T: Drop>(&mut self, list: &mut Vec<T>, one: T) {
         match list.push(one) {
             Ok(()) => {}
@@ -107,7 +107,8 @@ impl Story {
         }
     }
 
-    /// Whether a call wanted memory. Then what was told from a place on is taken back.
+    /// Returns whether memory ran out for a call. If so, discards what was recorded from this
+    /// offset on.
     pub(crate) fn takes_back(&mut self, from: usize) -> bool {
         if !self.is_wanting {
             return false;
@@ -118,27 +119,27 @@ impl Story {
         true
     }
 
-    /// Tells bytes.
+    /// Records bytes.
     pub(crate) fn bytes(&mut self, bytes: &[u8]) {
         if self.text.extend_from_slice(bytes).is_err() {
             self.is_lost = true;
         }
     }
 
-    /// Tells a line.
+    /// Records a line.
     pub(crate) fn say(&mut self, words: &str) {
         self.bytes(words.as_bytes());
         self.bytes(b"\n");
     }
 
-    /// Tells that a line is no right one, unless it is empty.
+    /// Records that a line is bad, unless it is empty.
     pub(crate) fn bad_line(&mut self, line: &[u8]) {
         if !line.is_empty() {
             self.say("bad line");
         }
     }
 
-    /// Tells the line that was written, if it was.
+    /// Records the line that was written, if writing it succeeded.
     fn end_line(&mut self, is_written: bool) {
         if !is_written || self.text.extend_from_slice(self.line.as_bytes()).is_err() {
             self.is_lost = true;
@@ -146,39 +147,39 @@ impl Story {
         self.line.clear();
     }
 
-    /// Tells a word with a number, without ending the line.
+    /// Records a word with a number, without ending the line.
     pub(crate) fn pair(&mut self, word: &str, number: u64) {
         let is_written = write!(self.line, "{word} {number}").is_ok();
         self.end_line(is_written);
     }
 
-    /// Tells a line of a word and a number.
+    /// Records a line of a word and a number.
     pub(crate) fn count(&mut self, word: &str, number: u64) {
         self.pair(word, number);
         self.bytes(b"\n");
     }
 
-    /// Tells a line of a word and a difference.
+    /// Records a line of a word and a difference.
     pub(crate) fn difference(&mut self, word: &str, number: i64) {
         let is_written = writeln!(self.line, "{word} {number}").is_ok();
         self.end_line(is_written);
     }
 
-    /// Tells how many bytes were told from a place on, in their place.
+    /// Replaces what was recorded from this offset on by its length.
     pub(crate) fn measure(&mut self, from: usize) {
         let told = self.text.len().saturating_sub(from);
         self.text.truncate(from);
         self.count("bytes", told as u64);
     }
 
-    /// Tells at which lecture an opening is refused.
+    /// Records the lecture at which an opening is refused, and why.
     pub(crate) fn unlawful(&mut self, instance: &Instance, at: u64, fault: EditFault) {
         self.pair("opening", at);
         self.bytes(b" ");
         self.refused(instance, fault);
     }
 
-    /// Tells an answer, unless that is want of memory, and answers whether it was told.
+    /// Records an answer other than `NoMemory`, and returns whether it was recorded.
     pub(crate) fn tells(&mut self, instance: &Instance, answer: Answer) -> bool {
         if matches!(answer, Answer::NoMemory) {
             return false;
@@ -189,21 +190,21 @@ impl Story {
         true
     }
 
-    /// Tells an answer. Want of memory is none: then the case is to be played again.
+    /// Records an answer. If it is `NoMemory`, the case is run again instead.
     pub(crate) fn answer(&mut self, instance: &Instance, answer: Answer) {
         if !self.tells(instance, answer) {
             self.no_memory();
         }
     }
 
-    /// Tells answers.
+    /// Records answers.
     pub(crate) fn answers(&mut self, instance: &Instance, answers: Vec<Answer>) {
         for answer in answers {
             self.answer(instance, answer);
         }
     }
 
-    /// Tells an entry of a journal.
+    /// Records an entry of a journal.
     pub(crate) fn entry(&mut self, instance: &Instance, entry: &JournalEntry) {
         let is_written = entry.asked.fits(instance)
             && write_entry(
@@ -216,17 +217,17 @@ impl Story {
         self.end_line(is_written);
     }
 
-    /// Tells a reply.
+    /// Records a reply.
     fn replied(&mut self, instance: &Instance, reply: Reply) {
         self.answer(instance, Answer::Replied(reply));
     }
 
-    /// Tells a fault.
+    /// Records a fault.
     pub(crate) fn refused(&mut self, instance: &Instance, fault: EditFault) {
         self.replied(instance, Reply::Refused(fault));
     }
 
-    /// Tells what a call answers that gives a reply.
+    /// Records the reply of a call, or notes that memory ran out.
     pub(crate) fn reply(&mut self, instance: &Instance, told: Result<Reply, NoMemory>) {
         match told {
             Ok(reply) => self.replied(instance, reply),
@@ -234,7 +235,7 @@ impl Story {
         }
     }
 
-    /// Tells what a call answers that gives lectures.
+    /// Records the lectures of a call, or notes that memory ran out.
     pub(crate) fn lectures(&mut self, instance: &Instance, told: Result<Vec<Placed>, NoMemory>) {
         match told {
             Ok(list) => self.replied(instance, Reply::Lectures(Lectures::new(list))),
@@ -242,7 +243,7 @@ impl Story {
         }
     }
 
-    /// Tells the lectures of a timetable, and what it costs.
+    /// Records the lectures of a timetable and its cost.
     pub(crate) fn timetable(
         &mut self,
         instance: &Instance,
@@ -253,7 +254,7 @@ impl Story {
         self.replied(instance, Reply::Costs(cost));
     }
 
-    /// Tells what a call answers that gives a text.
+    /// Records the text of a call, or notes that memory ran out.
     pub(crate) fn text(&mut self, told: Result<Vec<u8>, NoMemory>) {
         match told {
             Ok(text) => self.bytes(&text),
@@ -261,8 +262,8 @@ impl Story {
         }
     }
 
-    /// Compares what was told from the third place on with what was told from the first to the second: where it is the
-    /// same, that is told in its place.
+    /// Compares what was recorded from `here` on with what was recorded from `from` to `to`. If it
+    /// is the same, replaces it by a line that says so.
     pub(crate) fn compare(&mut self, from: usize, to: usize, here: usize, way: &str) {
         let is_same = match self.text.get(from..to) {
             Some(before) => self.text.get(here..) == Some(before),
@@ -275,7 +276,8 @@ impl Story {
         }
     }
 
-    /// Writes all that was told, and how many calls were made again, and answers whether nothing was lost.
+    /// Writes the transcript and the number of repeated calls, and returns whether nothing was
+    /// lost.
     pub(crate) fn write<W: Sink>(&mut self, writer: &mut W) -> bool {
         self.count("again", self.again);
         !self.is_lost && put_all(writer, &self.text).is_ok() && writer.flush().is_ok()

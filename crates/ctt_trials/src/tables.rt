@@ -4,7 +4,7 @@ use crate::cases::{Case, On, Plain, Play, Told, Way};
 use crate::texts::{CLASH, JOURNAL, NOTHING, SOLUTION, TOP, WITHOUT_TOP};
 use crate::worked::*;
 
-/// Ways in which a case is played, and how each is called.
+/// Builds a list of ways in which a case is run, each with its name.
 macro_rules! plays {
     ($($way:expr => $called:literal),+ $(,)?) => {
         &[$(Play {
@@ -14,7 +14,7 @@ macro_rules! plays {
     };
 }
 
-/// A case: its name, what stands at first, its lines, and its ways.
+/// Builds a case from its name, its opening, its lines and its ways.
 macro_rules! case {
     ($name:literal, $opening:ident, $lines:expr, $plays:expr) => {
         Case {
@@ -26,7 +26,7 @@ macro_rules! case {
     };
 }
 
-/// The reports, and the opening written and read again.
+/// The reports, and the opening written and parsed again.
 const REPORTS: &[Play] = plays![
     Way::Plain(Plain::Reports) => "",
     Way::Plain(Plain::Written) => "",
@@ -47,7 +47,7 @@ const PLACEMENT: &[Play] = plays![
     Way::Grid(On::Placement) => "on the grid sheet",
 ];
 
-/// Which changes are accepted, on both kinds of sheets.
+/// Accepted changes on both kinds of sheets.
 const ACCEPTED: &[Play] = plays![
     Way::List(On::Accepted) => "",
     Way::Grid(On::Accepted) => "on the grid sheet",
@@ -56,7 +56,7 @@ const ACCEPTED: &[Play] = plays![
 /// An input that is read whole.
 const INPUT: &[Play] = plays![Way::Plain(Plain::Input) => ""];
 
-/// At a desk that planners share.
+/// A script at a shared desk.
 const SHARED: &[Play] = plays![Way::Shared => ""];
 
 /// The rows that a line reads.
@@ -74,7 +74,8 @@ const LONG_DRAFT: &[Play] = plays![
     Way::Grid(On::LongDraft) => "on the grid sheet",
 ];
 
-/// A script by step and at once on desks of both kinds of sheets, and as a text; and its journal.
+/// A script on desks of both kinds of sheets, event by event and all at once, and as a text, with
+/// its journal.
 const DESK: &[Play] = plays![
     Way::List(On::Step) => "",
     Way::Grid(On::Step) => "on the grid sheet",
@@ -84,13 +85,13 @@ const DESK: &[Play] = plays![
     Way::Script(Told::Journal) => "",
 ];
 
-/// Lines that are no events, by step and as a text.
+/// Lines that are not events, event by event and as a text.
 const BAD: &[Play] = plays![
     Way::Grid(On::Step) => "",
     Way::Script(Told::Answers) => "as a script",
 ];
 
-/// A journal is audited.
+/// The audit of a journal.
 const AUDIT: &[Play] = plays![Way::Grid(On::Audit) => ""];
 
 /// What a journal leaves on both kinds of sheets.
@@ -106,13 +107,13 @@ const UNLAWFUL: &[Play] = plays![
     Way::Script(Told::Answers) => "",
 ];
 
-/// A script whose answers are not passed on.
+/// A script whose answers cannot be flushed.
 const UNFLUSHED: &[Play] = plays![Way::Script(Told::Unflushed) => ""];
 
 /// A script of whose answers three bytes are taken.
 const CUT: &[Play] = plays![Way::Script(Told::Cut) => ""];
 
-/// Reports, lines on one sheet, and drafts by themselves.
+/// Reports, lines on one sheet, and drafts without a desk.
 const ON_SHEETS: &[Case] = &[
     case!("reports", SOLUTION, "", REPORTS),
     case!("on the empty sheet", NOTHING, EMPTY_SHEET, LINES),
@@ -150,7 +151,7 @@ const ON_DESKS: &[Case] = &[
     case!("the cheapest and the missing", NOTHING, CHEAPEST, DESK),
 ];
 
-/// Desks whose drafts are brought up to date, or left open.
+/// Desks whose drafts are refreshed or left open.
 const REFRESHED_DESKS: &[Case] = &[
     case!("refreshed", NOTHING, REFRESHED, DESK),
     case!("not refreshed", NOTHING, NOT_REFRESHED, DESK),
@@ -166,7 +167,7 @@ const REFRESHED_DESKS: &[Case] = &[
     ),
 ];
 
-/// Lines that are no events, and desks that meet what stands in a slot.
+/// Lines that are not events, and desks that find a slot in use.
 const REFUSING_DESKS: &[Case] = &[
     case!("bad lines", NOTHING, BAD_LINES, BAD),
     case!(
@@ -179,7 +180,7 @@ const REFUSING_DESKS: &[Case] = &[
     case!("a refused edit", WITHOUT_TOP, REFUSED, DESK),
 ];
 
-/// Desks that planners share on one thread.
+/// Shared desks, run on one thread.
 const ON_SHARED_DESKS: &[Case] = &[
     case!("a receipt is learnt", NOTHING, LEARNT, SHARED),
     case!("all see a commit", NOTHING, ALL_SEE, SHARED),
@@ -194,7 +195,7 @@ const ON_SHARED_DESKS: &[Case] = &[
     case!("an unlawful opening of a shared desk", CLASH, "", SHARED),
 ];
 
-/// Journals, and answers that are not passed on.
+/// Journals, and answers that cannot be flushed.
 const TEXTS: &[Case] = &[
     case!("another reply", WITHOUT_TOP, OTHER_JOURNAL, AUDIT),
     case!("what a journal leaves", WITHOUT_TOP, TOP_JOURNAL, LEFT),
@@ -223,44 +224,46 @@ const TEXTS: &[Case] = &[
     case!("a journal that agrees", NOTHING, OTHER_JOURNAL, AUDIT),
 ];
 
-/// What is played where room A is barred for top: an old journal, and a swap and a script that meet that room.
+/// Cases while room A is barred for top: an old journal, and a swap and a script that need that
+/// room.
 pub(crate) const BARRED: &[Case] = &[
     case!("an old journal", NOTHING, OTHER_JOURNAL, AUDIT),
     case!("a swap into a barred room", SOLUTION, SWAP, LINES),
     case!("a barred room", WITHOUT_TOP, BARRED_ROOM, DESK),
 ];
 
-/// What is played where room A is barred for alg.
+/// Cases while room A is barred for alg.
 pub(crate) const OTHER_BARRED: &[Case] = &[case!("", SOLUTION, "", REPORTS_ALONE)];
 
-// A constant is costly where it is named, and the more so the longer it is: so each table has a function that names it alone.
+// A use of a constant costs more the longer the constant is, so each table has a function that
+// names it only once.
 
-/// Reports, lines on one sheet, and drafts by themselves.
+/// Returns the cases with reports, lines on one sheet, and drafts without a desk.
 pub(crate) fn on_sheets() -> &'static [Case] {
     ON_SHEETS
 }
 
-/// Desks on which drafts are accepted, stale and abandoned.
+/// Returns the cases of desks on which drafts are accepted, stale and abandoned.
 pub(crate) fn on_desks() -> &'static [Case] {
     ON_DESKS
 }
 
-/// Desks whose drafts are brought up to date, or left open.
+/// Returns the cases of desks whose drafts are refreshed or left open.
 pub(crate) fn refreshed_desks() -> &'static [Case] {
     REFRESHED_DESKS
 }
 
-/// Lines that are no events, and desks that meet what stands in a slot.
+/// Returns the cases with lines that are not events, and of desks that find a slot in use.
 pub(crate) fn refusing_desks() -> &'static [Case] {
     REFUSING_DESKS
 }
 
-/// Desks that planners share on one thread.
+/// Returns the cases of shared desks.
 pub(crate) fn on_shared_desks() -> &'static [Case] {
     ON_SHARED_DESKS
 }
 
-/// Journals, and answers that are not passed on.
+/// Returns the cases with journals, and with answers that cannot be flushed.
 pub(crate) fn of_texts() -> &'static [Case] {
     TEXTS
 }

@@ -1,4 +1,4 @@
-//! The planners of a shared desk in their seats, and what they do there by turns.
+//! The planners of a shared desk at their seats, and their turns.
 
 ghost use Rattle.std.specs.Prelude.{◌≡◌, IfSome};
 ghost use Rattle.ctt_core.specs.Runs.{EventFits};
@@ -20,15 +20,15 @@ pub(crate) struct Here<'i, 'x, S: Timetable, J: Naming, R: Wait> {
     pub(crate) small: &'i Instance,
 }
 
-/// The planners of a desk, each in the place with his number unless he has left it, and the receipt
-/// of the last commit.
+/// The planners of a desk, each at the index of its number until it has left, and the receipt of
+/// the last commit.
 #[derive(Drop)]
 pub(crate) struct Seats<'i, S: Timetable, J: Naming> {
     places: Vec<Option<Seat<'i, S, J>>>,
     receipt: Option<Receipt<J>>,
 }
 
-/// The planners take their seats.
+/// Seats the planners.
 pub(crate) fn sit<'i, S: Timetable, J: Naming>(
     story: &mut Story,
     planners: Vec<Planner<S, J>>,
@@ -43,7 +43,7 @@ pub(crate) fn sit<'i, S: Timetable, J: Naming>(
     }
 }
 
-/// The planners leave their seats. A draft of theirs is given up.
+/// Ends the seats of the planners. Open drafts are abandoned.
 pub(crate) fn leave<'i, S: Sheet<'i>, J: Naming>(
     seats: Seats<'i, S, J>,
     story: &mut Story,
@@ -58,18 +58,18 @@ pub(crate) fn leave<'i, S: Sheet<'i>, J: Naming>(
     planners
 }
 
-/// Tells how many drafts a planner has seen, and committed.
+/// Records how many drafts a planner has seen and committed.
 pub(crate) fn tell_planner<S: Timetable, J: Naming>(story: &mut Story, planner: &Planner<S, J>) {
     story.pair("seen", planner.seen());
     story.count(" committed", planner.committed());
 }
 
-/// Takes the seat in a place, if there is one.
+/// Takes the seat at an index, if there is one.
 fn take_at<T: Drop>(places: &mut [Option<T>], place: usize) -> Option<T> {
     places.get_mut(place)?.take()
 }
 
-/// Puts a seat into a place. Where no draft is open there, it is told what the planner has seen and
+/// Puts a seat at an index. If no draft is open there, records what the planner has seen and
 /// committed.
 fn put_at<'i, S: Timetable, J: Naming>(
     places: &mut [Option<Seat<'i, S, J>>],
@@ -88,7 +88,7 @@ fn put_at<'i, S: Timetable, J: Naming>(
     }
 }
 
-/// A planner does what an event says, and has a receipt, or is told something else.
+/// Performs the step of an event for a planner, and returns a receipt or another report.
 fn take<'i, S: Sheet<'i>, J: Naming, R: Wait>(
     here: &Here<'i, '_, S, J, R>,
     seat: Seat<'i, S, J>,
@@ -104,9 +104,8 @@ fn take<'i, S: Sheet<'i>, J: Naming, R: Wait>(
     (seat, Err(told))
 }
 
-/// Tells what a planner is answered, and keeps the receipt where he has one. Answers whether it was
-/// told: want of memory is not, and no more a place that was refused, since this comes of nothing
-/// else here.
+/// Records the report to a planner, and stores the receipt if there is one. Returns whether it was
+/// recorded: it is not if memory ran out, or if a place was refused, which has no other cause here.
 fn tells<J: Naming>(
     story: &mut Story,
     small: &Instance,
@@ -132,8 +131,8 @@ fn tells<J: Naming>(
     }
 }
 
-/// The planner of a place does what an event says, and it is told what he is answered, if memory is
-/// not wanted. Answers whether it was told.
+/// Performs the step of an event for the planner at an index, and records the answer unless memory
+/// ran out. Returns whether it was recorded.
 fn answers<'i, S: Sheet<'i>, J: Naming, R: Wait>(
     here: &Here<'i, '_, S, J, R>,
     seats: &mut Seats<'i, S, J>,
@@ -154,7 +153,7 @@ fn answers<'i, S: Sheet<'i>, J: Naming, R: Wait>(
     is_told
 }
 
-/// The planner of a place learns the receipt of the last commit.
+/// Lets the planner at an index learn the receipt of the last commit.
 fn learn<'i, S: Timetable, J: Naming>(
     places: &mut [Option<Seat<'i, S, J>>],
     story: &mut Story,
@@ -170,15 +169,15 @@ fn learn<'i, S: Timetable, J: Naming>(
     }
 }
 
-/// What a planner's line asks for.
+/// Parses a planner's line.
 fn event_of(small: &Instance, words: &[u8]) -> Option<Event>
     ensures { IfSome result (EventFits small.now 64) }
 {
     read_own_line(small, PlannerNo::new(0), words)
 }
 
-/// The planner of a place does what his line says, once more where memory is wanted: besides the
-/// lines of a crew, `learn` and `leave`, which drops him with the draft that he has open.
+/// Takes the turn of the planner at an index, once more if memory runs out. Besides the lines of a
+/// crew there are `learn`, and `leave`, which drops the planner with any open draft.
 fn take_turn<'i, S: Sheet<'i>, J: Naming, R: Wait>(
     here: &Here<'i, '_, S, J, R>,
     seats: &mut Seats<'i, S, J>,
@@ -205,14 +204,14 @@ fn take_turn<'i, S: Sheet<'i>, J: Naming, R: Wait>(
     }
 }
 
-/// The place of the planner with whose digit a line begins, and what it says behind a blank.
+/// Returns the index of the planner whose digit begins a line, and what follows the blank.
 fn parts(line: &[u8]) -> Option<(usize, &[u8])> {
     let (digit, rest) = line.split_first()?;
     let place = digit.checked_sub(b'0')?;
     Some((usize::from(place), rest.get(1..)?))
 }
 
-/// The planners do what lines say.
+/// Takes the turns of all lines.
 pub(crate) fn take_turns<'i, S: Sheet<'i>, J: Naming, R: Wait>(
     here: &Here<'i, '_, S, J, R>,
     seats: &mut Seats<'i, S, J>,

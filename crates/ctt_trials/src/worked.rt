@@ -1,6 +1,6 @@
 //! The scripts of the worked desks, and the lines that are played on one sheet.
 
-/// A planner has seen that a slot is empty, which another one fills.
+/// A planner has seen that a slot is empty, and another one fills it.
 pub(crate) const PHANTOM: &str = "0 open
 0 slot 0 2
 0 place geo A 0 1
@@ -11,7 +11,7 @@ pub(crate) const PHANTOM: &str = "0 open
 show cost
 ";
 
-/// The same, but what the other one placed is taken away again before the first one commits.
+/// The same, but the other planner's lecture is removed again before the first one commits.
 pub(crate) const CHANGED_BACK: &str = "0 open
 0 slot 0 2
 0 place geo A 0 1
@@ -25,7 +25,7 @@ pub(crate) const CHANGED_BACK: &str = "0 open
 show cost
 ";
 
-/// A planner peeks at a slot that is empty, which another one fills. He relies on nothing of it.
+/// A planner peeks at an empty slot, which another one fills. The draft does not depend on a peek.
 pub(crate) const PEEKED: &str = "0 open
 0 peek slot 0 2
 0 place geo A 0 1
@@ -70,7 +70,7 @@ pub(crate) const STALE_PRICE: &str = "0 open
 0 commit
 ";
 
-/// The same, but the price is peeked at.
+/// The same with a peek at a price.
 pub(crate) const PEEKED_PRICE: &str = "0 open
 0 peek price place alg B 0 0
 1 open
@@ -81,7 +81,8 @@ pub(crate) const PEEKED_PRICE: &str = "0 open
 0 commit
 ";
 
-/// What is missing and cheapest, asked on an empty timetable on which another planner places.
+/// The missing lectures and the cheapest edits on an empty timetable, on which another planner
+/// places a lecture.
 pub(crate) const CHEAPEST: &str = "0 open
 0 missing
 0 peek cheapest 2 place top B * *
@@ -106,7 +107,7 @@ pub(crate) const ABANDONED: &str = "0 open
 show cost
 ";
 
-/// A planner brings his draft up to date, and sees what another one placed.
+/// A planner refreshes a draft, and sees what another one placed.
 pub(crate) const REFRESHED: &str = "0 open
 0 place geo A 0 1
 1 open
@@ -139,7 +140,7 @@ pub(crate) const STALE_REFRESH: &str = "0 open
 show cost
 ";
 
-/// A planner brings drafts up to date behind which nothing was accepted, or his own draft alone.
+/// Planners refresh drafts after which nothing was accepted, or only their own draft.
 pub(crate) const NOTHING_NEW: &str = "0 open
 0 place geo A 0 1
 0 refresh
@@ -154,7 +155,7 @@ pub(crate) const NOTHING_NEW: &str = "0 open
 show cost
 ";
 
-/// What a planner sees behind a refresh is changed before he commits.
+/// What a planner sees after a refresh is changed before the commit.
 pub(crate) const STALE_AGAIN: &str = "0 open
 0 place geo A 0 1
 1 open
@@ -169,7 +170,7 @@ pub(crate) const STALE_AGAIN: &str = "0 open
 show cost
 ";
 
-/// What a planner has seen is changed, and changed back, before he brings his draft up to date.
+/// What a planner has seen is changed, and changed back, before the draft is refreshed.
 pub(crate) const BACK_REFRESHED: &str = "0 open
 0 slot 0 2
 0 place geo A 0 1
@@ -210,7 +211,7 @@ pub(crate) const BARRED_ROOM: &str = "0 open
 0 commit
 ";
 
-/// Lines on the empty sheet: what it costs, and one placement.
+/// The cost of the empty sheet, and one placement there.
 pub(crate) const EMPTY_SHEET: &str = "cost
 coursecost alg
 place geo A 0 0
@@ -232,7 +233,7 @@ coursecost top
 cost
 ";
 
-/// What is missing, and the cheapest edits of patterns, on the solution.
+/// The missing lectures, and the cheapest edits of patterns, on the solution.
 pub(crate) const PATTERNS: &str = "missing
 cheapest 3 move geo 1 2 * * *
 cheapest 9 move geo 1 2 A * *
@@ -259,7 +260,7 @@ swap geo 0 0 top 0 2
 
 pub(crate) const SWAP: &str = "swap geo 0 1 top 0 2";
 
-/// A drop, and what can no more be done behind it.
+/// A drop, and edits that are impossible after it.
 pub(crate) const DROP: &str = "drop geo 1 2
 place geo A 1 0
 drop geo 1 2
@@ -274,15 +275,15 @@ place top B 0 1
 swap geo 0 1 top 0 1
 ";
 
-/// Lectures of a curriculum beside the border of two days, on the empty sheet.
+/// Lectures of a curriculum on both sides of the border between two days, on the empty sheet.
 pub(crate) const BORDER: &str = "place alg A 0 2
 place geo A 1 0
 ";
 
-/// What reads two courses and a slot.
+/// A call that reads two courses and a slot.
 pub(crate) const PRICE: &str = "price place alg B 0 0";
 
-/// What reads a course with its curriculum mates, and all slots.
+/// A call that reads a course with those in its curricula, and all slots.
 pub(crate) const PATTERN: &str = "cheapest 1 move geo 0 1 * * *";
 
 /// A journal of a draft in which top was placed in room A.
@@ -291,7 +292,8 @@ pub(crate) const OTHER_JOURNAL: &str = "journal 1 entry 0 1 place top A 0 1 done
 /// A journal of a draft in which top was placed in room B.
 pub(crate) const TOP_JOURNAL: &str = "journal 1 entry 0 1 place top B 0 2 done END.";
 
-/// At a shared desk a planner commits, and another one learns his receipt, looks and opens a draft.
+/// At a shared desk, a planner commits, and another one learns the receipt, looks and opens a
+/// draft.
 pub(crate) const LEARNT: &str = "0 open
 0 place geo A 0 1
 0 commit
@@ -303,8 +305,8 @@ pub(crate) const LEARNT: &str = "0 open
 1 slot 0 1
 ";
 
-/// A planner has seen that a slot is empty, which another one fills. Two more planners, who learnt
-/// nothing, see that.
+/// A planner has seen that a slot is empty, and another one fills it. Two more planners, who have
+/// learnt nothing, see that.
 pub(crate) const ALL_SEE: &str = "0 open
 1 open
 0 slot 0 2
@@ -317,7 +319,7 @@ pub(crate) const ALL_SEE: &str = "0 open
 3 abandon
 ";
 
-/// A planner goes, with a draft open, before another one opens his.
+/// A planner with an open draft leaves before another one opens a draft.
 pub(crate) const DROPPED: &str = "0 open
 0 place geo A 0 1
 0 leave
@@ -326,7 +328,7 @@ pub(crate) const DROPPED: &str = "0 open
 1 commit
 ";
 
-/// A planner brings his draft up to date, and sees what another one placed.
+/// A planner refreshes a draft, and sees what another one placed.
 pub(crate) const REFRESHED_BETWEEN: &str = "0 open
 1 open
 0 place geo A 0 1
@@ -337,7 +339,7 @@ pub(crate) const REFRESHED_BETWEEN: &str = "0 open
 0 commit
 ";
 
-/// The same, but he has seen that the slot was empty.
+/// The same, but the planner has seen that the slot was empty.
 pub(crate) const STALE_BETWEEN: &str = "0 open
 1 open
 0 place geo A 0 1

@@ -2,6 +2,6 @@ use Rattle.std.proofs.Common.{◌≡◌, length}
 use Rattle.ctt_office.specs.Recovery.{AreEntries}
 use Rattle.ctt_office.proofs.blocks.read_whole.Given as goal
 
--- the entries that were read so far, one behind another
+-- the entries parsed so far, one after another
 abbrev pub invariant-loop : goal.invariant-loop
 invariant-loop l = AreEntries l.instance l.fn.reader l.entries.items l.reader × (length l.entries.items ≡ l.counter)

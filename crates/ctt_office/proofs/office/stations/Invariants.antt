@@ -3,7 +3,8 @@ use Rattle.std.specs.Slice.Iter.{iter_rest}
 use Rattle.std.specs.Vec.Iter.{into_iter_items}
 use Rattle.ctt_office.proofs.office.stations.Given as goal
 
--- each planner has a seat, in their order, by the next name and with the book, and as many are left of both
+-- each planner so far has a seat, in order, with the next name and the book, and as many planners
+-- as names are left
 abbrev pub invariant-loop-planner : goal.invariant-loop-planner
 invariant-loop-planner g l = (length l.seats.items + length (iter_rest l.planner-iterator.b) ≡ length l.names) × (length (into_iter_items l.planner-iterator.a) ≡ length (iter_rest l.planner-iterator.b))
     × (map (λ s. s.0) l.seats.items ++ map (λ p. p) (into_iter_items l.planner-iterator.a) ≡ l.fn.planners.items)

@@ -5,7 +5,7 @@ use Rattle.ctt_draft.specs.Undoing.{edits_done}
 use Rattle.ctt_office.proofs.RedoLemmas.{IsRemaking}
 use Rattle.ctt_office.proofs.redoing.make_all_again.Given as goal
 
--- the edits before these were made again, or left out
+-- the edits before these were redone or left out
 abbrev pub invariant-loop-one : goal.invariant-loop-one
 invariant-loop-one g l =
     IsRemaking l.instance l.fn.drafting l.drafting (string_bytes l.fn.omitted) (string_bytes l.omitted) l.made l.edits (edits_done l.asked) (edits_done (drop l.one-index l.asked))

@@ -6,7 +6,8 @@ use Rattle.ctt_office.specs.SeatText.{asked_by}
 use Rattle.ctt_office.specs.Sittings.{IsSitting}
 use Rattle.ctt_office.proofs.sitting.sit.Given as goal
 
--- the lines that were read so far are answered, and he has not left; the calls of an ended draft fit
+-- the lines read so far are answered, and the planner has not left; the calls that can be redone
+-- fit
 abbrev pub invariant-loop : goal.invariant-loop
 invariant-loop g l =
     IsSitting (asked_by l.instance l.number) (IsAnswer l.book (IsInMinutes g.W.Sink.taken g.W.Durable.kept g.J.Naming.problem) (HasFailed g.W.Sink.taken g.W.Sink.has_failed g.J.Naming.problem) l.instance g.J.Naming.opening)
