@@ -88,7 +88,7 @@ fn last_holder(
 }
 
 /// Returns how many lectures of a course these cells add.
-fn added(cells: &[Cell], course: CourseNo) -> u32
+fn count_added(cells: &[Cell], course: CourseNo) -> u32
     requires { length cells.now ≤ 4 }
     ensures value { result ≡ count_by (is_added course) cells.now }
     ensures bound { result ≤ 4 }
@@ -103,7 +103,7 @@ fn added(cells: &[Cell], course: CourseNo) -> u32
 }
 
 /// Returns how many lectures of a course these cells remove.
-fn removed(cells: &[Cell], course: CourseNo) -> u32
+fn count_removed(cells: &[Cell], course: CourseNo) -> u32
     requires { length cells.now ≤ 4 }
     ensures value { result ≡ count_by (is_removed course) cells.now }
     ensures bound { result ≤ 4 }
@@ -224,7 +224,7 @@ impl<'a, R: Rooms> Rooms for After<'a, R> {
     fn count(&self, course: CourseNo) -> u32 {
         self.rooms.lawful();
         self.instance.limits_hold();
-        let count = self.rooms.count(course) + added(self.cells, course);
-        count - removed(self.cells, course)
+        let count = self.rooms.count(course) + count_added(self.cells, course);
+        count - count_removed(self.cells, course)
     }
 }

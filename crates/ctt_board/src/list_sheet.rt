@@ -104,7 +104,7 @@ fn make(lectures: &mut Vec<Placed>, cells: &[Cell])
 }
 
 /// Returns an empty vector with capacity for as many lectures as a lawful timetable can have.
-fn reserved(alloc: Global, instance: &Instance) -> Result<Vec<Placed>, AllocError>
+fn reserve(alloc: Global, instance: &Instance) -> Result<Vec<Placed>, AllocError>
     ensures items { IfOk result (λ v. v.items ≡ []) }
     ensures room { IfOk result
         (λ v. course_count instance.now * slot_count instance.now ≤ vec_capacity v) }
@@ -216,7 +216,7 @@ impl<'i> Timetable for ListSheet<'i> {
     }
 
     fn copy(&self) -> Result<Self, NoMemory> {
-        let mut lectures = reserved(*self.lectures.allocator(), self.instance)?;
+        let mut lectures = reserve(*self.lectures.allocator(), self.instance)?;
         lectures.extend_from_slice(&self.lectures)?;
         Ok(ListSheet {
             instance: self.instance,
@@ -227,7 +227,7 @@ impl<'i> Timetable for ListSheet<'i> {
 
 impl<'i> Sheet<'i> for ListSheet<'i> {
     fn empty(alloc: Global, instance: &'i Instance) -> Result<Self, NoMemory> {
-        let lectures = reserved(alloc, instance)?;
+        let lectures = reserve(alloc, instance)?;
         Ok(ListSheet { instance, lectures })
     }
 

@@ -17,7 +17,7 @@ ghost use Rattle.ctt_core.specs.declared.auditing.Verdict.TheVariants.{Agrees};
 
 use crate::desk_fault::DeskFault;
 use crate::journal::JournalEntry;
-use crate::opening::placed;
+use crate::opening::place_all;
 use ctt_board::{Rooms, Sheet, Timetable};
 use ctt_draft::Asked;
 use ctt_edits::{Call, Edit, EditFault, Reply, check};
@@ -139,7 +139,7 @@ fn found_on<'i, S: Sheet<'i>>(
     requires entries { Each (EntryFits instance.now) entries.now }
     ensures { IfOk result (IsVerdict instance.now lectures.now entries.now) }
 {
-    match placed::<S>(alloc, instance, lectures) {
+    match place_all::<S>(alloc, instance, lectures) {
         Ok(mut sheet) => run_entries(alloc, &mut sheet, entries),
         Err(DeskFault::Unlawful(at, fault)) => Ok(Verdict::BadOpening(at, fault)),
         Err(DeskFault::NoMemory) => Err(NoMemory),
@@ -180,7 +180,7 @@ pub fn list_after<'i, S: Sheet<'i>>(
         LeavesList instance.now lectures.now entries.now list.items) }
     ensures none { IfErr result (IsNoList instance.now lectures.now entries.now) }
 {
-    match placed::<S>(alloc, instance, lectures) {
+    match place_all::<S>(alloc, instance, lectures) {
         Ok(mut sheet) => {
             let found = run_entries(alloc, &mut sheet, entries)?;
             sheet.lawful();

@@ -18,7 +18,7 @@ use crate::event::Event;
 use crate::journal::JournalEntry;
 use crate::laws;
 use crate::open_draft::OpenDraft;
-use crate::opening::placed;
+use crate::opening::place_all;
 use ctt_board::{Rooms, Sheet, Timetable};
 use ctt_rules::Cost;
 use ctt_text::{Instance, NoMemory, Placed};
@@ -98,7 +98,7 @@ impl<'i, S: Sheet<'i>> Desk<'i, S> {
         ensures stands { IfOk result (λ desk. Stands desk []) }
         ensures fault { IfErr result (IsOpeningFault instance.now lectures.now) }
     {
-        let sheet: S = placed(alloc, instance, lectures)?;
+        let sheet: S = place_all(alloc, instance, lectures)?;
         sheet.lawful();
         let opening = sheet.list()?;
         let drafts = no_drafts(alloc, planners)?;

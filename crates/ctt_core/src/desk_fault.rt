@@ -3,13 +3,16 @@
 use ctt_edits::EditFault;
 use ctt_text::NoMemory;
 use std::alloc::AllocError;
+use thiserror::Error;
 
 /// Why a desk cannot be created from an opening timetable.
-#[derive(Clone, Copy)]
+#[derive(Clone, Copy, Debug, Error)]
 pub enum DeskFault {
     /// The first lecture that cannot be placed, counted from 1, and the reason.
+    #[error("lecture {0} of the opening: {1}")]
     Unlawful(u64, EditFault),
     /// Memory ran out.
+    #[error("no memory")]
     NoMemory,
 }
 

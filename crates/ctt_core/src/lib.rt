@@ -19,6 +19,6 @@ pub use desk::Desk;
 pub use desk_fault::DeskFault;
 pub use event::Event;
 pub use journal::JournalEntry;
-pub use opening::placed;
+pub use opening::place_all;
 pub use planner::PlannerNo;
 pub use standing::Standing;

@@ -35,7 +35,7 @@ fn place<'i, S: Sheet<'i>>(sheet: &mut S, lecture: &Placed) -> Option<EditFault>
 
 /// Returns a sheet on which the lectures are placed in the given order. Fails at the first lecture
 /// that cannot be placed.
-pub fn placed<'i, S: Sheet<'i>>(
+pub fn place_all<'i, S: Sheet<'i>>(
     alloc: Global,
     instance: &'i Instance,
     lectures: &[Placed],

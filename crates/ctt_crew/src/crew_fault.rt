@@ -8,17 +8,22 @@ use ctt_core::PlannerNo;
 use ctt_desk::SharedFault;
 use ctt_text::NoMemory;
 use std::alloc::{AllocError, AllocFailed};
+use thiserror::Error;
 
 /// Why a crew could not finish its scripts.
-#[derive(Clone, Copy, PartialEq, Eq)]
+#[derive(Clone, Copy, Debug, PartialEq, Eq, Error)]
 pub enum CrewFault {
     /// `left_right` refused a place for a planner.
+    #[error("no place")]
     NoPlace,
     /// The thread of this planner could not be started.
+    #[error("no thread")]
     NoThread(PlannerNo),
     /// A planner had seen more drafts than the desk has.
+    #[error("not yours")]
     NotYours,
     /// There is not enough memory.
+    #[error("no memory")]
     NoMemory,
 }
 

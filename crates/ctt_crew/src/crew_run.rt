@@ -22,7 +22,7 @@ use std::thread;
 use std::thread::{PromisedHandle, Threads};
 
 /// Joins the threads, and returns the planners as they left and their answers, both in order.
-fn joined<'i, 'x, J: Naming, R: Threads>(
+fn join_all<'i, 'x, J: Naming, R: Threads>(
     rt: &R,
     alloc: Global,
     threads: Vec<
@@ -44,7 +44,7 @@ fn joined<'i, 'x, J: Naming, R: Threads>(
 }
 
 /// Adds a planner's thread if it was started.
-fn added<T: Drop, E: Drop>(
+fn push_started<T: Drop, E: Drop>(
     threads: &mut Vec<T>,
     started: Result<T, E>,
     planner: PlannerNo,
@@ -97,12 +97,12 @@ fn work_at_once<'i, 'x, J: Naming + Send + Sync, R: Threads + Wait + Sync, G: Ga
                         (string_bytes done.1)) }
                 { attend_on_grid(work, rt) };
                 let started = scope.spawn_with(promise, attending);
-                if let Err(fault) = added(&mut threads, started, number) {
+                if let Err(fault) = push_started(&mut threads, started, number) {
                     let_go(threads);
                     return Err(fault);
                 }
             }
-            joined(rt, alloc, threads)
+            join_all(rt, alloc, threads)
         },
     )
 }

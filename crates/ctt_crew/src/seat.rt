@@ -44,7 +44,7 @@ pub enum Told {
 }
 
 /// Returns the answer to a planner who could not read the published timetable.
-fn unread<J: Naming>(fault: SharedFault) -> Told
+fn say_unread<J: Naming>(fault: SharedFault) -> Told
     ensures fits { ToldFits J.problem result }
     ensures told { result ≡ told_unread fault }
 {
@@ -89,7 +89,7 @@ impl<'i, S: Sheet<'i>, J: Naming> Seat<'i, S, J> {
         match self {
             Seat::Free(planner) => match planner.open() {
                 Ok(drafting) => (Seat::Drafting(drafting), Told::Answer(Answer::Opened)),
-                Err((planner, fault)) => (Seat::Free(planner), unread::<J>(fault)),
+                Err((planner, fault)) => (Seat::Free(planner), say_unread::<J>(fault)),
             },
             Seat::Drafting(drafting) => {
                 (Seat::Drafting(drafting), Told::Answer(Answer::AlreadyOpen))
@@ -137,7 +137,7 @@ impl<'i, S: Sheet<'i>, J: Naming> Seat<'i, S, J> {
             Seat::Free(_) => Told::Answer(Answer::NoDraft),
             Seat::Drafting(drafting) => match drafting.status() {
                 Ok(standing) => Told::Answer(Answer::Draft(standing)),
-                Err(fault) => unread::<J>(fault),
+                Err(fault) => say_unread::<J>(fault),
             },
         }
     }
@@ -220,7 +220,7 @@ impl<'i, S: Sheet<'i>, J: Naming> Seat<'i, S, J> {
                         let answer = Answer::Replied(reply);
                         (Seat::Free(planner), Told::Answer(answer))
                     }
-                    Err(fault) => (Seat::Free(planner), unread::<J>(fault)),
+                    Err(fault) => (Seat::Free(planner), say_unread::<J>(fault)),
                 }
             }
             Seat::Drafting(drafting) => {
@@ -241,7 +241,7 @@ impl<'i, S: Sheet<'i>, J: Naming> Seat<'i, S, J> {
         };
         match seen {
             Ok(reply) => Told::Answer(Answer::Replied(reply)),
-            Err(fault) => unread::<J>(fault),
+            Err(fault) => say_unread::<J>(fault),
         }
     }
 

@@ -37,7 +37,7 @@ impl<'i, S: Sheet<'i>, J: Naming> Drafting<'i, S, J> {
         let outcome = locked.commit(rt, number, committed, &mut front, draft);
         MutexGuard::unlock(locked);
         match outcome {
-            Ok(()) => Ok(planner.accepted(front)),
+            Ok(()) => Ok(planner.with_receipt(front)),
             Err((draft, cause)) => match cause {
                 Cause::NotYours(count) => {
                     let_go(draft);

@@ -144,7 +144,7 @@ impl<'a, 'i, S: Timetable> Plain<Proposal<'a, 'i, S>, JournalEntry, u64> for Add
 /// Appends the entry of a draft to the desk's history, and returns the longer front. Returns
 /// `None`, and appends nothing, if the desk's history is longer than `front`, which the lock rules
 /// out.
-pub(crate) fn extended<'i, S: Timetable, J: Naming>(
+pub(crate) fn extend<'i, S: Timetable, J: Naming>(
     front: &Front<J>,
     head: &Head<J>,
     planner: PlannerNo,

@@ -9,7 +9,7 @@ ghost use Rattle.ctt_desk.specs.Histories.{entry_of, Counted, IsFreshAt, IsCause
 ghost use Rattle.ctt_desk.specs.declared.locked.Cause.TheVariants.{NoMemory as OutOfMemory};
 
 use crate::closed::Closed;
-use crate::front::{Front, Head, extended};
+use crate::front::{Front, Head, extend};
 use crate::naming::Naming;
 use crate::publisher::Publisher;
 use crate::shown::Shown;
@@ -227,7 +227,7 @@ impl<'i, S: Sheet<'i>, J: Naming> Locked<S, J> {
             return Err((draft, Cause::NoMemory));
         }
         draft.lawful();
-        let Some(front) = extended(&self.front, &self.head, number, &draft) else {
+        let Some(front) = extend(&self.front, &self.head, number, &draft) else {
             return Err((draft, Cause::NoMemory));
         };
         let work = draft.finish();

@@ -9,7 +9,7 @@ ghost use Rattle.ctt_desk.specs.Faults.{IsUnlawful};
 use crate::book::BookRule;
 use crate::shared_fault::SharedFault;
 use ctt_board::{Sheet, Timetable};
-use ctt_core::{JournalEntry, placed};
+use ctt_core::{JournalEntry, place_all};
 use ctt_text::{Instance, Placed};
 use logbook::{Seen, Start, Word};
 use std::alloc::Global;
@@ -57,7 +57,7 @@ impl<'i, S: Sheet<'i>> Opened<S> {
         ensures list { IfOk result (λ opened. opening instance.now lectures.now ≡ Ok opened.list) }
         ensures fault { IfErr result (IsUnlawful instance.now lectures.now) }
     {
-        let sheet: S = placed(alloc, instance, lectures)?;
+        let sheet: S = place_all(alloc, instance, lectures)?;
         let opening = sheet.list()?;
         let (seen, mut first, _second) = Seen::open(Start::alone(), 0, 0);
         Ok(Opened {

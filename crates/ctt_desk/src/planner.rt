@@ -131,7 +131,7 @@ impl<S: Timetable, J: Naming> Planner<S, J> {
 
     /// Counts a commit, the last entry of `front`, and returns the planner with its receipt.
     #[inline(always)]
-    pub(crate) fn accepted(self, front: Front<J>) -> (Self, Receipt<J>)
+    pub(crate) fn with_receipt(self, front: Front<J>) -> (Self, Receipt<J>)
         requires { length (own self.number front) ≡ self.committed + 1 }
         ensures planner { result.0 ≡ committed_more (seen_up_to self front) }
         ensures receipt { result.1 ≡ front }

@@ -4,15 +4,19 @@ use ctt_core::DeskFault;
 use ctt_edits::EditFault;
 use ctt_text::NoMemory;
 use std::alloc::AllocError;
+use thiserror::Error;
 
 /// Why a desk was not made, a draft not opened or a look not answered.
-#[derive(Clone, Copy, PartialEq, Eq)]
+#[derive(Clone, Copy, Debug, PartialEq, Eq, Error)]
 pub enum SharedFault {
     /// The first lecture of the opening that cannot be placed, counted from 1, and why it cannot.
+    #[error("lecture {0} of the opening: {1}")]
     Unlawful(u64, EditFault),
     /// `left_right` refused a place, or refused to enter.
+    #[error("no place")]
     NoPlace,
     /// There is not enough memory.
+    #[error("no memory")]
     NoMemory,
 }
 

@@ -4,18 +4,22 @@ ghost use Rattle.std.specs.Prelude.{◌≡◌, ◌↔◌, ◌+◌, ◌<◌, ◌�
 
 use crate::source::Source;
 use std::alloc::{AllocError, Global};
+use thiserror::Error;
 
 /// The maximum size of an input of the program in bytes: 64 MiB.
 pub const INPUT_LIMIT: usize = 67_108_864;
 
 /// Why an input could not be read.
-#[derive(Clone, Copy, PartialEq, Eq)]
+#[derive(Clone, Copy, Debug, PartialEq, Eq, Error)]
 pub enum InputFault {
     /// A read failed.
+    #[error("a read failed")]
     Read,
     /// The input is longer than the limit.
+    #[error("too long")]
     TooLong,
     /// Memory ran out.
+    #[error("no memory")]
     NoMemory,
 }
 
@@ -32,7 +36,7 @@ impl From<AllocError> for InputFault {
 
 /// The buffer size of a read, in bytes: large enough to read a large file in few reads, and small
 /// enough to be cheap for a short one.
-const PIECE: usize = 16_384;
+const BUFFER_SIZE: usize = 16_384;
 
 /// Reads up to the end, and returns all the bytes, at most `limit` of them.
 ///
@@ -62,7 +66,7 @@ pub fn read_all<R: Source>(
         R.pulls reader.new + length new ≤ R.pulls reader.old + length old + 1)) }
 {
     let mut bytes = Vec::new(alloc);
-    let mut buffer = [0u8; PIECE];
+    let mut buffer = [0u8; BUFFER_SIZE];
     loop {
         let Ok(n) = reader.pull(&mut buffer) else {
             return Err(InputFault::Read);

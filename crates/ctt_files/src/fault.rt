@@ -82,7 +82,7 @@ pub enum Fault {
 pub const NO_MEMORY: &str = "timedesk: no memory\n";
 
 /// Returns the text with a line feed appended.
-fn ended(mut text: String) -> Result<String, AllocError>
+fn end_line(mut text: String) -> Result<String, AllocError>
     ensures { IfOk result (λ line. string_bytes line ≡ string_bytes text ++ codes "\n") }
 {
     text.push_str("\n")?;
@@ -123,7 +123,7 @@ impl Fault {
         match self {
             Fault::Words(text) | Fault::Opening(text) => text.clone(),
             Fault::NoMemory => String::from_str(alloc, NO_MEMORY),
-            _ => ended(self.to_string(alloc)?),
+            _ => end_line(self.to_string(alloc)?),
         }
     }
 }

@@ -2,13 +2,16 @@
 
 use ctt_text::NoMemory;
 use std::alloc::AllocError;
+use thiserror::Error;
 
 /// Why a finding was not reported.
-#[derive(Clone, Copy, PartialEq, Eq)]
+#[derive(Clone, Copy, Debug, PartialEq, Eq, Error)]
 pub enum Untold {
     /// Memory ran out.
+    #[error("no memory")]
     NoMemory,
     /// The listener failed.
+    #[error("the listener failed")]
     Failed,
 }
 

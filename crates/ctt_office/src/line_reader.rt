@@ -17,10 +17,10 @@ use std::sync::Wait;
 pub const LINE_LIMIT: usize = 65_536;
 
 /// The most bytes that one read asks for.
-const PIECE: usize = 4096;
+const BUFFER_SIZE: usize = 4096;
 
 /// The capacity of the buffer: a line of the greatest length, and one more read.
-const ROOM: usize = LINE_LIMIT + PIECE;
+const CAPACITY: usize = LINE_LIMIT + BUFFER_SIZE;
 
 /// The outcome of a request for the next line.
 #[derive(Clone, Copy, PartialEq, Eq)]
@@ -107,7 +107,7 @@ impl<R: Source> LineReader<R> {
         ensures failed { IfOk result (λ lines. lines.has_failed ≡ R.has_failed source) }
         ensures open { IfOk result (λ lines. lines.is_shut ≡ false) }
     {
-        let Ok(held) = Vec::with_capacity(alloc, ROOM) else {
+        let Ok(held) = Vec::with_capacity(alloc, CAPACITY) else {
             let_go(source);
             return Err(NoMemory);
         };
@@ -150,8 +150,8 @@ impl<R: Source> LineReader<R> {
         self.start = 0;
         self.end = 0;
         self.given = 0;
-        let mut piece = [0u8; PIECE];
-        let Ok(n) = self.source.pull(&mut piece) else {
+        let mut buffer = [0u8; BUFFER_SIZE];
+        let Ok(n) = self.source.pull(&mut buffer) else {
             self.is_shut = true;
             return Err(Failed);
         };
@@ -159,7 +159,7 @@ impl<R: Source> LineReader<R> {
             self.is_at_end = true;
             return Ok(false);
         }
-        self.held.extend_from_slice(&piece[..n]).unwrap();
+        self.held.extend_from_slice(&buffer[..n]).unwrap();
         Ok(true)
     }
 

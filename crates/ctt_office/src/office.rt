@@ -41,7 +41,7 @@ fn ended_also(
 }
 
 /// Waits until all seats have ended, and returns the fault of the first one that has one.
-fn joined<R: Threads>(
+fn join_all<R: Threads>(
     rt: &R,
     threads: Vec<JoinHandle<Result<(), SeatFault>>>,
 ) -> Result<(), OfficeFault>
@@ -55,7 +55,7 @@ fn joined<R: Threads>(
 }
 
 /// Adds the thread of a planner, if it was started.
-fn added<T: Drop, E: Drop>(threads: &mut Vec<T>, started: Result<T, E>) -> Result<(), OfficeFault>
+fn push_started<T: Drop, E: Drop>(threads: &mut Vec<T>, started: Result<T, E>) -> Result<(), OfficeFault>
     ensures added { OnOk result (length threads.new.items ≡ length threads.old.items + 1) }
     ensures fault { (seats : ℕ) → IfErr result (IsOfficeFault seats) }
 {
@@ -95,12 +95,12 @@ fn sit_at_once<
                     station,
                 };
                 let sitting = move || sit_on_grid(work, rt);
-                if let Err(fault) = added(&mut threads, scope.spawn(sitting)) {
+                if let Err(fault) = push_started(&mut threads, scope.spawn(sitting)) {
                     let_go(threads);
                     return Err(fault);
                 }
             }
-            joined(rt, threads)
+            join_all(rt, threads)
         },
     )
 }
@@ -144,7 +144,7 @@ fn stations<'i, 'x, P: Drop, J: Naming, D: Doors, W: Durable>(
 }
 
 /// Runs the seats with these names until all have ended.
-fn seated<'i, J: Naming + Send + Sync, D: Doors, W: Durable + Send, R: Threads + Wait + Sync>(
+fn seat_all<'i, J: Naming + Send + Sync, D: Doors, W: Durable + Send, R: Threads + Wait + Sync>(
     rt: &R,
     alloc: Global,
     desk: &SharedDesk<GridSheet<'i>, J>,
@@ -207,7 +207,7 @@ fn close<S: Timetable, J: Naming, R: Wait>(
 }
 
 /// Returns the fault of the seats, if any, or `NotWritten` if an entry could not be written.
-fn checked<J: Naming, W: Durable, R: Wait>(
+fn check_end<J: Naming, W: Durable, R: Wait>(
     rt: &R,
     book: Option<&Book<W, J>>,
     ended: Result<(), OfficeFault>,
@@ -268,8 +268,8 @@ fn keep_named<'i, J: Naming + Send + Sync, D: Doors, W: Durable + Send, R: Threa
     let (desk, planners) = desk_named::<GridSheet<'i>, J, R>(rt, named)?;
     let kept = book_on(minutes);
     let book = kept.as_ref();
-    let sat = seated(rt, alloc, &desk, instance, planners, names, doors, book);
-    let ended = checked(rt, book, sat);
+    let sat = seat_all(rt, alloc, &desk, instance, planners, names, doors, book);
+    let ended = check_end(rt, book, sat);
     close::<GridSheet<'i>, J, R>(rt, alloc, desk, ended)
 }
 

@@ -7,9 +7,10 @@ ghost use Rattle.ctt_office.specs.declared.office_fault.OfficeFault.TheVariants.
 use ctt_desk::SharedFault;
 use ctt_text::NoMemory;
 use std::alloc::{AllocError, AllocFailed};
+use thiserror::Error;
 
 /// Why a seat could not be served.
-#[derive(Clone, Copy, PartialEq, Eq)]
+#[derive(Clone, Copy, Debug, PartialEq, Eq)]
 pub(crate) enum SeatFault {
     /// The input device of the seat could not be opened.
     CannotRead,
@@ -20,19 +21,25 @@ pub(crate) enum SeatFault {
 }
 
 /// Why a desk could not be run, or not to its end.
-#[derive(Clone, Copy, PartialEq, Eq)]
+#[derive(Clone, Copy, Debug, PartialEq, Eq, Error)]
 pub enum OfficeFault {
     /// `left_right` refused a place to a planner.
+    #[error("no place")]
     NoPlace,
     /// The thread of a planner could not be started.
+    #[error("no thread")]
     NoThread,
     /// The input device of the seat with this index could not be opened.
+    #[error("cannot read seat {0}")]
     CannotRead(usize),
     /// The output device of a seat could not be opened.
+    #[error("cannot write")]
     CannotWrite,
     /// The minutes could not be written completely.
+    #[error("the minutes cannot be written")]
     NotWritten,
     /// Out of memory.
+    #[error("no memory")]
     NoMemory,
 }
 

@@ -9,24 +9,33 @@ use Rattle.ctt_findings.specs.Hearing.{Fails, Hears, HearsFront}
 use Rattle.ctt_findings.specs.declared.finding.Finding.{Finding}
 use Rattle.ctt_findings.specs.declared.untold.Untold.{Untold}
 use Rattle.ctt_findings.specs.declared.untold.Untold.TheVariants.{Failed, NoMemory}
-use Rattle.ctt_devices.specs.Output.{AppendsFront}
+use Rattle.ctt_devices.specs.Output.{AppendsFront, WritesOut}
 use Rattle.ctt_files.specs.Faults.{MayHaveWritten}
 use Rattle.ctt_files.specs.declared.fault.Fault.{Fault}
 use Rattle.ctt_files.specs.declared.fault.Fault.TheVariants.{CannotWrite}
 use Rattle.ctt_reports.specs.Checks.{found_text, found_texts}
-use Rattle.ctt_reports.specs.Writing.{Grows, Marks}
+use Rattle.ctt_reports.specs.Writing.{Marks}
 use Rattle.ctt_reports.specs.declared.told.Told.{Told}
 
--- nothing more, and one after another
-grows_nil : (x : Option (List ℕ)) (kept : List ℕ) → Grows x kept x kept []
-grows_nil x kept = ([], Appends-nil x, sym (append-nil kept))
+-- a text that grows behind what is left of it
+pub written_more : (x y : Option (List ℕ)) (text left more : List ℕ) → WritesOut x y text left → WritesOut x y (text ++ more) (left ++ more)
+written_more x y text left more one = record {
+  prefix = one.prefix;
+  taken = one.taken;
+  all = ap (λ t. t ++ more) one.all ∙ append_assoc one.prefix left more;
+}
 
-grows_trans : (x y z : Option (List ℕ)) (kept left last more most : List ℕ) → Grows x kept y left more → Grows y left z last most → Grows x kept z last (more ++ most)
-grows_trans x y z kept left last more most one two = (
-  one.0 ++ two.0,
-  Appends-trans x y z one.0 two.0 one.1 two.1,
-  append_assoc one.0 two.0 last ∙ ap (λ t. one.0 ++ t) two.2 ∙ sym (append_assoc one.0 left most) ∙ ap (λ t. t ++ most) one.2 ∙ append_assoc kept more most,
-)
+-- nothing more, and one text after another
+written_none : (x : Option (List ℕ)) (left : List ℕ) → WritesOut x x (left ++ []) left
+written_none x left = record { prefix = []; taken = Appends-nil x; all = append-nil left }
+
+written_trans : (x y z : Option (List ℕ)) (kept left last more most : List ℕ) → WritesOut x y (kept ++ more) left → WritesOut y z (left ++ most) last → WritesOut x z (kept ++ (more ++ most)) last
+written_trans x y z kept left last more most one two = record {
+  prefix = one.prefix ++ two.prefix;
+  taken = Appends-trans x y z one.prefix two.prefix one.taken two.taken;
+  all = sym (append_assoc kept more most) ∙ ap (λ t. t ++ most) one.all ∙ append_assoc one.prefix left most
+      ∙ ap (λ t. one.prefix ++ t) two.all ∙ sym (append_assoc one.prefix two.prefix last);
+}
 
 -- a front of what is kept is a front of it all
 pub front_more : (x y : Option (List ℕ)) (front rest all : List ℕ) → all ≡ front ++ rest → AppendsFront x y front → AppendsFront x y all
@@ -43,14 +52,14 @@ front_none x all = (0, Appends-nil x)
 pub front_behind : (x y z : Option (List ℕ)) (front rest : List ℕ) → Appends x y front → AppendsFront y z rest → AppendsFront x z (front ++ rest)
 front_behind x y z front rest one (k, two) = (length front + k, subst (Appends x z) (sym (take-append-add front rest k)) (Appends-trans x y z front (take k rest) one two))
 
--- nothing was kept at first: what is kept at last is written, or a front of it
-pub all_written : (x y z : Option (List ℕ)) (start kept bytes all : List ℕ) → start ≡ [] → bytes ≡ kept → Grows x start y kept all → Appends y z bytes → Appends x z all
-all_written x y z start kept bytes all none same grown last =
-    subst (Appends x z) (ap (λ t. grown.0 ++ t) same ∙ grown.2 ∙ ap (λ t. t ++ all) none) (Appends-trans x y z grown.0 bytes grown.1 last)
+-- nothing was left at first: what is left at last is written, or a front of it
+pub all_written : (x y z : Option (List ℕ)) (start left bytes all : List ℕ) → start ≡ [] → bytes ≡ left → WritesOut x y (start ++ all) left → Appends y z bytes → Appends x z all
+all_written x y z start left bytes all none same written last =
+    subst (Appends x z) (ap (λ t. written.prefix ++ t) same ∙ sym written.all ∙ ap (λ t. t ++ all) none) (Appends-trans x y z written.prefix bytes written.taken last)
 
-pub front_written : (x y z : Option (List ℕ)) (start kept bytes all : List ℕ) → start ≡ [] → bytes ≡ kept → Grows x start y kept all → AppendsFront y z bytes → AppendsFront x z all
-front_written x y z start kept bytes all none same grown last =
-    subst (AppendsFront x z) (ap (λ t. grown.0 ++ t) same ∙ grown.2 ∙ ap (λ t. t ++ all) none) (front_behind x y z grown.0 bytes grown.1 last)
+pub front_written : (x y z : Option (List ℕ)) (start left bytes all : List ℕ) → start ≡ [] → bytes ≡ left → WritesOut x y (start ++ all) left → AppendsFront y z bytes → AppendsFront x z all
+front_written x y z start left bytes all none same written last =
+    subst (AppendsFront x z) (ap (λ t. written.prefix ++ t) same ∙ sym written.all ∙ ap (λ t. t ++ all) none) (front_behind x y z written.prefix bytes written.taken last)
 
 -- the texts of findings, and of others behind them
 found_append : (json : Bool) (i : Problem) (later : Bool) (fs gs : List Finding) → (rest : List ℕ) × (found_texts json i later (fs ++ gs) ≡ found_texts json i later fs ++ rest)
@@ -63,22 +72,22 @@ found_append json i later (f ∷ fs) gs =
 module _ {W : Type 0} (failed : W → Bool) (taken : W → Option (List ℕ)) where
   abbrev pub HearsOne : Problem → Told W → Finding → Told W → Type 0
   HearsOne i a f b = (b.out.ghost_name ≡ a.out.ghost_name) × (b.json ≡ a.json) × (b.later ≡ true) × (failed b.out.now ≡ failed a.out.now)
-      × Grows (taken a.out.now) (string_bytes a.text) (taken b.out.now) (string_bytes b.text) (found_text a.json i a.later f)
+      × WritesOut (taken a.out.now) (taken b.out.now) (string_bytes a.text ++ found_text a.json i a.later f) (string_bytes b.text)
 
   abbrev pub FailsBy : Untold → Told W → Told W → Type 0
   FailsBy fault a b = (b.out.ghost_name ≡ a.out.ghost_name) × Marks fault (failed a.out.now) (failed b.out.now) × AppendsFront (taken a.out.now) (taken b.out.now) (string_bytes a.text)
 
   -- all findings
   pub heard : (i : Problem) (a : Told W) (fs : List Finding) (b : Told W) → Hears (HearsOne i) a fs b
-      → (b.out.ghost_name ≡ a.out.ghost_name) × (failed b.out.now ≡ failed a.out.now) × Grows (taken a.out.now) (string_bytes a.text) (taken b.out.now) (string_bytes b.text) (found_texts a.json i a.later fs)
+      → (b.out.ghost_name ≡ a.out.ghost_name) × (failed b.out.now ≡ failed a.out.now) × WritesOut (taken a.out.now) (taken b.out.now) (string_bytes a.text ++ found_texts a.json i a.later fs) (string_bytes b.text)
   heard i a [] b h =
-      (ap (λ m. m.out.ghost_name) h, ap (λ m. failed m.out.now) h, subst (λ m. Grows (taken a.out.now) (string_bytes a.text) (taken m.out.now) (string_bytes m.text) []) (sym h) (grows_nil (taken a.out.now) (string_bytes a.text)))
+      (ap (λ m. m.out.ghost_name) h, ap (λ m. failed m.out.now) h, subst (λ m. WritesOut (taken a.out.now) (taken m.out.now) (string_bytes a.text ++ []) (string_bytes m.text)) (sym h) (written_none (taken a.out.now) (string_bytes a.text)))
   heard i a (f ∷ fs) b (m, one, others) =
       let rest = heard i m fs b others in
       let same : found_texts m.json i m.later fs ≡ found_texts a.json i true fs = ap (λ j. found_texts j i m.later fs) one.1 ∙ ap (λ l. found_texts a.json i l fs) one.2 in (
         rest.0 ∙ one.0,
         rest.1 ∙ one.3,
-        grows_trans _ _ _ _ _ _ _ _ one.4 (subst (Grows (taken m.out.now) (string_bytes m.text) (taken b.out.now) (string_bytes b.text)) same rest.2),
+        written_trans _ _ _ _ _ _ _ _ one.4 (subst (λ t. WritesOut (taken m.out.now) (taken b.out.now) (string_bytes m.text ++ t) (string_bytes b.text)) same rest.2),
       )
 
   marks_same : (fault : Untold) (old older new : Bool) → old ≡ older → Marks fault old new → Marks fault older new

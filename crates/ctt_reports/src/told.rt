@@ -1,25 +1,20 @@
 //! Findings, written out as they are told.
 
-ghost use Rattle.std.specs.Prelude.{◌≡◌, ◌++◌, [], true, false, OnOk, OnErr, IfErr, string_bytes};
+ghost use Rattle.std.specs.Prelude.{◌≡◌, ◌++◌, true, false, OnOk, OnErr, IfErr, string_bytes};
 ghost use Rattle.std.specs.Io.KnownBytes.{Appends};
 ghost use Rattle.ctt_text.specs.Timetable.{IsTimetable};
 ghost use Rattle.ctt_findings.specs.Findings.{findings};
 ghost use Rattle.ctt_findings.specs.Fitting.{FindingFits};
-ghost use Rattle.ctt_findings.specs.declared.untold.Untold.TheVariants.{Failed};
 ghost use Rattle.ctt_devices.specs.Output.{AppendsFront};
 ghost use Rattle.ctt_files.specs.Faults.{IfUnwritten, MayHaveWritten};
 ghost use Rattle.ctt_files.specs.declared.fault.Fault.TheVariants.{NoMemory};
 ghost use Rattle.ctt_reports.specs.Checks.{found_text, found_texts};
-ghost use Rattle.ctt_reports.specs.Writing.{Grows};
 
-use ctt_devices::{Sink, put_all};
+use ctt_devices::{Sink, put_long};
 use ctt_files::{Fault, print};
 use ctt_findings::{Finding, Listener, Untold, push_item, push_line, tell_findings};
 use ctt_text::{Instance, Placed};
 use std::alloc::{AllocError, Global};
-
-/// From how many bytes on texts are written out: few writes, and little room.
-const PIECE: usize = 32_768;
 
 /// Adds the text of a finding.
 fn push_found(
@@ -41,27 +36,6 @@ fn push_found(
     }
 }
 
-/// Writes a text out where it is long.
-fn write_long<W: Sink>(out: &mut W, text: &mut String) -> Result<(), Untold>
-    ensures grows { OnOk result (Grows (W.taken out.old) (string_bytes text.old)
-        (W.taken out.new) (string_bytes text.new) []) }
-    ensures unmarked { OnOk result (W.has_failed out.new ≡ W.has_failed out.old) }
-    ensures marked { OnErr result (W.has_failed out.new ≡ true) }
-    ensures failed { IfErr result (λ fault. fault ≡ Failed) }
-    ensures front { AppendsFront (W.taken out.old) (W.taken out.new) (string_bytes text.old) }
-{
-    if text.len() < PIECE {
-        return Ok(());
-    }
-    match put_all(out, text.as_bytes()) {
-        Ok(()) => {
-            text.clear();
-            Ok(())
-        }
-        Err(_) => Err(Untold::Failed),
-    }
-}
-
 /// Findings that are written out as they are told.
 #[derive(Drop)]
 struct Told<'w, W> {
@@ -75,23 +49,25 @@ struct Told<'w, W> {
 }
 
 impl<'w, W: Sink> Listener for Told<'w, W> {
-    ghost use Rattle.std.specs.Prelude.{◌≡◌, true, string_bytes};
-    ghost use Rattle.ctt_devices.specs.Output.{AppendsFront};
+    ghost use Rattle.std.specs.Prelude.{◌≡◌, ◌++◌, true, string_bytes};
+    ghost use Rattle.ctt_devices.specs.Output.{AppendsFront, WritesOut};
     ghost use Rattle.ctt_reports.specs.Checks.{found_text};
-    ghost use Rattle.ctt_reports.specs.Writing.{Grows, Marks};
+    ghost use Rattle.ctt_reports.specs.Writing.{Marks};
 
     ghost hears = { λ i a finding b. (b.out.ghost_name ≡ a.out.ghost_name)
         × (b.json ≡ a.json) × (b.later ≡ true)
         × (W.has_failed b.out.now ≡ W.has_failed a.out.now)
-        × Grows (W.taken a.out.now) (string_bytes a.text) (W.taken b.out.now) (string_bytes b.text)
-        (found_text a.json i a.later finding) };
+        × WritesOut (W.taken a.out.now) (W.taken b.out.now)
+        (string_bytes a.text ++ found_text a.json i a.later finding) (string_bytes b.text) };
 
     ghost fails = { λ fault a b. (b.out.ghost_name ≡ a.out.ghost_name)
         × Marks fault (W.has_failed a.out.now) (W.has_failed b.out.now)
         × AppendsFront (W.taken a.out.now) (W.taken b.out.now) (string_bytes a.text) };
 
     fn hear(&mut self, instance: &Instance, finding: &Finding) -> Result<(), Untold> {
-        write_long(self.out, &mut self.text)?;
+        if put_long(self.out, &mut self.text).is_err() {
+            return Err(Untold::Failed);
+        }
         push_found(
             self.alloc,
             &mut self.text,

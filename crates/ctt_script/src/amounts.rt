@@ -29,7 +29,7 @@ pub(crate) fn amount(word: &[u8]) -> Option<u64>
     Some(value as u64)
 }
 
-fn negated(amount: u64) -> i64
+fn negate(amount: u64) -> i64
     requires { amount ≤ 9223372036854775807 }
     ensures { result ≡ negated amount }
 {
@@ -42,7 +42,7 @@ pub(crate) fn price(word: &[u8]) -> Option<i64>
 {
     let (first, rest) = word.split_first()?;
     if *first == b'-' {
-        Some(negated(amount(rest)?))
+        Some(negate(amount(rest)?))
     } else {
         Some(amount(word)? as i64)
     }

@@ -5,17 +5,22 @@ ghost use Rattle.ctt_script.specs.declared.journal_fault.JournalFault.TheVariant
 
 use ctt_text::{FixedFault, NoMemory, PlaceFault, RoomFault, SlotFault};
 use std::alloc::{AllocError, AllocFailed};
+use thiserror::Error;
 
 /// Why a journal could not be parsed. Words are counted from 1.
-#[derive(Clone, Copy, PartialEq, Eq)]
+#[derive(Clone, Copy, Debug, PartialEq, Eq, Error)]
 pub enum JournalFault {
     /// The text is not UTF-8; this is the length in bytes of its longest valid prefix.
+    #[error("journal J1 {0}")]
     NotText(u64),
     /// The text ends before this word, which is missing.
+    #[error("journal J2 {0}")]
     Missing(u64),
     /// This word is not allowed in its place.
+    #[error("journal J3 {0}")]
     BadWord(u64),
     /// There is not enough memory.
+    #[error("no memory")]
     NoMemory,
 }
 

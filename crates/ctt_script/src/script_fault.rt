@@ -10,19 +10,25 @@ use ctt_devices::{Failed, InputFault};
 use ctt_edits::EditFault;
 use ctt_text::NoMemory;
 use std::alloc::AllocError;
+use thiserror::Error;
 
 /// Why a script could not be run to its end.
-#[derive(Clone, Copy, PartialEq, Eq)]
+#[derive(Clone, Copy, Debug, PartialEq, Eq, Error)]
 pub enum ScriptFault {
     /// The first lecture of the opening timetable that cannot be placed, counted from 1, and why.
+    #[error("lecture {0} of the opening: {1}")]
     Unlawful(u64, EditFault),
     /// A read failed.
+    #[error("a read failed")]
     Read,
     /// The script has more than 67,108,864 bytes.
+    #[error("too long")]
     TooLong,
     /// A write or a flush failed, or a write accepted no bytes.
+    #[error("a write failed")]
     Write,
     /// There is not enough memory.
+    #[error("no memory")]
     NoMemory,
 }
 

@@ -4,7 +4,7 @@
 
 ghost use Rattle.ctt_desk.specs.Names.{IsNamed};
 
-use crate::desks::{accepted, costs, drafted, empty, expect_seen, is_entry, is_left, place};
+use crate::desks::{accept, costs, draft_of, empty, expect_seen, is_entry, is_left, place};
 use crate::small::{geo_second, small_instance, top_third};
 use crate::stopped::Stopped;
 use ctt_board::{GridSheet, Sheet, Timetable};
@@ -55,8 +55,8 @@ fn commit_edit<'i, S: Sheet<'i>, J: Naming, R: Wait>(
     planner: Planner<S, J>,
     edit: Edit,
 ) -> Option<Committed<S, J>> {
-    let (drafting, _reply) = drafted(planner, Call::Edit(edit))?;
-    let (planner, receipt) = accepted(rt, desk, drafting)?;
+    let (drafting, _reply) = draft_of(planner, Call::Edit(edit))?;
+    let (planner, receipt) = accept(rt, desk, drafting)?;
     Some(Committed { planner, receipt })
 }
 
@@ -279,7 +279,7 @@ fn expect_both<S: Timetable, J: Naming>(
 
 /// Runs two planners at once, and checks that each receipt's number occurs once, that its entry is
 /// there, and that all planners see what was placed.
-fn played<'i, J: Naming + Send + Sync, R: Threads + Wait + Abort + Sync>(
+fn play<'i, J: Naming + Send + Sync, R: Threads + Wait + Abort + Sync>(
     rt: &R,
     alloc: Global,
     opened: Opened<GridSheet<'i>>,
@@ -314,7 +314,7 @@ fn played_on_grid<'i, R: Threads + Wait + Abort + Sync>(
     plan: &Plan,
 ) -> Result<(), Stopped> {
     let opened = empty::<GridSheet>(alloc, small).ok_or(Stopped::NoDesk)?;
-    played::<Brand, R>(rt, alloc, opened, plan.planners, plan)
+    play::<Brand, R>(rt, alloc, opened, plan.planners, plan)
 }
 
 /// Runs a test on the small instance.

@@ -38,7 +38,7 @@ fn ask<'i, S: Sheet<'i>, J: Naming>(
 }
 
 /// Opens a draft, and makes one call in it.
-pub(crate) fn drafted<'i, S: Sheet<'i>, J: Naming>(
+pub(crate) fn draft_of<'i, S: Sheet<'i>, J: Naming>(
     planner: Planner<S, J>,
     call: Call,
 ) -> Option<(Drafting<'i, S, J>, Reply)> {
@@ -48,7 +48,7 @@ pub(crate) fn drafted<'i, S: Sheet<'i>, J: Naming>(
 }
 
 /// Commits a draft, which must be accepted.
-pub(crate) fn accepted<'i, S: Sheet<'i>, J: Naming, R: Wait>(
+pub(crate) fn accept<'i, S: Sheet<'i>, J: Naming, R: Wait>(
     rt: &R,
     desk: &SharedDesk<S, J>,
     drafting: Drafting<'i, S, J>,
@@ -134,7 +134,7 @@ pub(crate) fn expect_seen<'i, S: Sheet<'i>, J: Naming, R: Abort>(
     planner: Planner<S, J>,
     lecture: &Placed,
 ) -> Option<Planner<S, J>> {
-    let (drafting, asked) = drafted(planner, Call::Look(Look::Slot(lecture.slot)))?;
+    let (drafting, asked) = draft_of(planner, Call::Look(Look::Slot(lecture.slot)))?;
     assert!(rt; shows(&asked, lecture));
     let small = drafting.instance();
     let mut planner = drafting.abandon();

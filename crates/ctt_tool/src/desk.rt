@@ -61,7 +61,7 @@ fn input_name(alloc: Global, seat: &str) -> Result<String, AllocError>
 }
 
 /// Returns the fault that the lines of a seat cannot be read.
-fn unread(alloc: Global, seat: &str) -> Fault
+fn fault_of_seat(alloc: Global, seat: &str) -> Fault
     ensures { IsUnreadAt seat.now result ⊎ (result ≡ NoMemory) }
 {
     match input_name(alloc, seat) {
@@ -79,7 +79,7 @@ fn fault_of_office(alloc: Global, seats: &[String], fault: OfficeFault) -> Fault
     match fault {
         OfficeFault::NoPlace => Fault::NoPlace,
         OfficeFault::NoThread => Fault::NoThread,
-        OfficeFault::CannotRead(place) => unread(alloc, seats[place].as_str()),
+        OfficeFault::CannotRead(place) => fault_of_seat(alloc, seats[place].as_str()),
         OfficeFault::CannotWrite | OfficeFault::NotWritten => Fault::CannotWrite,
         OfficeFault::NoMemory => Fault::NoMemory,
     }
@@ -113,7 +113,7 @@ fn open_on<'i, S: Sheet<'i>, F: Files>(
 /// Returns the file for minutes, if one is given.
 ///
 /// `MinutesExist` if it has bytes.
-fn unused<O: Office>(office: &O, minutes: Option<String>) -> Result<Option<String>, Fault>
+fn require_unused<O: Office>(office: &O, minutes: Option<String>) -> Result<Option<String>, Fault>
     ensures same { IfOk result (λ given. given ≡ minutes) }
     ensures cause { IfErr result (IsOfOldMinutes minutes) }
 {
@@ -296,7 +296,7 @@ pub fn desk<R: Threads + Wait + Sync, F: Files, O: Office, W: Sink, V: Sink>(
     if seats.len() > SEAT_LIMIT || has_twice(&seats) {
         return Err(Fault::BadSeats);
     }
-    let minutes = unused(office, minutes)?;
+    let minutes = require_unused(office, minutes)?;
     let report = report(
         rt, alloc, files, office, err, instance, barred, &seats, start, minutes,
     )?;

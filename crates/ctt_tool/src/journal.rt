@@ -30,7 +30,7 @@ fn torn_line(alloc: Global, torn: Option<usize>) -> Result<String, Fault>
 
 /// Returns the journal of the whole entries at the beginning of minutes, and the byte at which an
 /// incomplete entry begins, if one does.
-fn recovered(
+fn recover(
     alloc: Global,
     instance: &Instance,
     minutes: &[u8],
@@ -73,7 +73,7 @@ fn print_journal<F: Files, W: Sink, V: Sink>(
     ensures unsaid { OnErr result (err.new ≡ err.old) }
 {
     let text = read_file(alloc, files, minutes)?;
-    let (journal, torn) = recovered(alloc, instance, &text)?;
+    let (journal, torn) = recover(alloc, instance, &text)?;
     let line = torn_line(alloc, torn)?;
     print(out, &journal)?;
     complain(err, line.as_bytes());

@@ -6,7 +6,7 @@ use crate::cases::{On, Script};
 use crate::sheets::{call_of, tell_cells, tell_sheet};
 use crate::story::Story;
 use ctt_board::Sheet;
-use ctt_core::{Answer, placed};
+use ctt_core::{Answer, place_all};
 use ctt_draft::{Draft, replay};
 use ctt_edits::Reply;
 use ctt_text::{NoMemory, let_go};
@@ -149,10 +149,10 @@ fn one_draft<'i, S: Sheet<'i>>(story: &mut Story, on: &On, sheet: &mut S, other:
 /// Runs a draft on an empty sheet, with another sheet that has the lectures of a script.
 pub(crate) fn play<'i, S: Sheet<'i>>(script: &Script<'i>, story: &mut Story, on: &On) {
     let alloc = story.alloc();
-    let Ok(mut sheet) = placed::<S>(alloc, script.small, &[]) else {
+    let Ok(mut sheet) = place_all::<S>(alloc, script.small, &[]) else {
         return story.no_memory();
     };
-    let Ok(other) = placed::<S>(alloc, script.small, script.opening) else {
+    let Ok(other) = place_all::<S>(alloc, script.small, script.opening) else {
         return story.no_memory();
     };
     one_draft(story, on, &mut sheet, &other);

@@ -17,7 +17,7 @@ use std::sync::Wait;
 const PLANNERS: u16 = 4;
 
 /// Opens the timetable of a script.
-fn opened<'i, S: Sheet<'i>>(script: &Script<'i>, alloc: Global) -> Result<Opened<S>, SharedFault>
+fn open_desk<'i, S: Sheet<'i>>(script: &Script<'i>, alloc: Global) -> Result<Opened<S>, SharedFault>
     ensures { IfOk result (λ opened. opened.problem ≡ script.now.small.now) }
 {
     Opened::<S>::new(alloc, script.small, script.opening)
@@ -121,7 +121,7 @@ fn play_opened<'i, J: Naming, R: Wait>(
 
 /// Runs a script on a desk of grid sheets.
 pub(crate) fn play<R: Wait>(script: &Script, story: &mut Story, rt: &R) {
-    match opened::<GridSheet>(script, story.alloc()) {
+    match open_desk::<GridSheet>(script, story.alloc()) {
         Ok(opened) => play_opened::<Brand, R>(script, story, rt, opened, PLANNERS),
         Err(SharedFault::Unlawful(at, fault)) => story.unlawful(script.small, at, fault),
         Err(SharedFault::NoPlace | SharedFault::NoMemory) => story.no_memory(),

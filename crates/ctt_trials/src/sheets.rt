@@ -7,7 +7,7 @@ ghost use Rattle.ctt_edits.specs.Calls.{CallFits};
 use crate::cases::{On, Script};
 use crate::story::Story;
 use ctt_board::{Cell, Change, Sheet};
-use ctt_core::{Event, PlannerNo, placed};
+use ctt_core::{Event, PlannerNo, place_all};
 use ctt_edits::{Call, Edit, Look, Row, check, look, reads};
 use ctt_script::{Lines, read_own_line};
 use ctt_text::{CourseNo, Instance, NoMemory, Placed, RoomNo, SlotNo};
@@ -57,7 +57,7 @@ fn make<'i, S: Sheet<'i>>(story: &mut Story, sheet: &mut S, edit: &Edit, in_full
             }
             sheet.apply(&change);
         }
-        Err(fault) => story.refused(sheet.instance(), fault),
+        Err(fault) => story.add_refusal(sheet.instance(), fault),
     }
 }
 
@@ -147,7 +147,7 @@ fn tell_all_accepted<'i, S: Sheet<'i>>(story: &mut Story, sheet: &S) {
 
 /// Runs lines or a placement on a sheet with the lectures of a script.
 pub(crate) fn play<'i, S: Sheet<'i>>(script: &Script<'i>, story: &mut Story, on: &On) {
-    match placed::<S>(story.alloc(), script.small, script.opening) {
+    match place_all::<S>(story.alloc(), script.small, script.opening) {
         Ok(mut sheet) => match on {
             On::Placement => place_geo(story, &mut sheet),
             On::Accepted => tell_all_accepted(story, &sheet),

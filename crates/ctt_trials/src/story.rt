@@ -176,7 +176,7 @@ impl Story {
     pub(crate) fn unlawful(&mut self, instance: &Instance, at: u64, fault: EditFault) {
         self.pair("opening", at);
         self.bytes(b" ");
-        self.refused(instance, fault);
+        self.add_refusal(instance, fault);
     }
 
     /// Records an answer other than `NoMemory`, and returns whether it was recorded.
@@ -218,19 +218,19 @@ impl Story {
     }
 
     /// Records a reply.
-    fn replied(&mut self, instance: &Instance, reply: Reply) {
+    fn add_reply(&mut self, instance: &Instance, reply: Reply) {
         self.answer(instance, Answer::Replied(reply));
     }
 
     /// Records a fault.
-    pub(crate) fn refused(&mut self, instance: &Instance, fault: EditFault) {
-        self.replied(instance, Reply::Refused(fault));
+    pub(crate) fn add_refusal(&mut self, instance: &Instance, fault: EditFault) {
+        self.add_reply(instance, Reply::Refused(fault));
     }
 
     /// Records the reply of a call, or notes that memory ran out.
     pub(crate) fn reply(&mut self, instance: &Instance, told: Result<Reply, NoMemory>) {
         match told {
-            Ok(reply) => self.replied(instance, reply),
+            Ok(reply) => self.add_reply(instance, reply),
             Err(NoMemory) => self.no_memory(),
         }
     }
@@ -238,7 +238,7 @@ impl Story {
     /// Records the lectures of a call, or notes that memory ran out.
     pub(crate) fn lectures(&mut self, instance: &Instance, told: Result<Vec<Placed>, NoMemory>) {
         match told {
-            Ok(list) => self.replied(instance, Reply::Lectures(Lectures::new(list))),
+            Ok(list) => self.add_reply(instance, Reply::Lectures(Lectures::new(list))),
             Err(NoMemory) => self.no_memory(),
         }
     }
@@ -251,7 +251,7 @@ impl Story {
         cost: Cost,
     ) {
         self.lectures(instance, told);
-        self.replied(instance, Reply::Costs(cost));
+        self.add_reply(instance, Reply::Costs(cost));
     }
 
     /// Records the text of a call, or notes that memory ran out.

@@ -51,7 +51,7 @@ pub(crate) fn is_closed(instance: &Instance, selection: &Selection, slot: SlotNo
 }
 
 /// Returns the lectures of a timetable that are in a selection.
-pub(crate) fn selected(
+pub(crate) fn select(
     alloc: Global,
     instance: &Instance,
     selection: &Selection,

@@ -6,7 +6,7 @@ ghost use Rattle.ctt_week.specs.Week.{SelectionFits, for_each, gap, line, table,
 
 use crate::column::Column;
 use crate::columns::columns;
-use crate::selection::{Selection, selected};
+use crate::selection::{Selection, select};
 use ctt_text::{Instance, NoMemory, Placed, RoomNo};
 use std::alloc::{AllocError, Global};
 use std::fmt::Write;
@@ -77,7 +77,7 @@ fn push_table(
     ensures { OnOk result (string_bytes text.new
         ≡ string_bytes text.old ++ table instance.now selection.now timetable.now) }
 {
-    let lectures = selected(alloc, instance, selection, timetable)?;
+    let lectures = select(alloc, instance, selection, timetable)?;
     let columns = columns(alloc, instance, selection, &lectures)?;
     push_title(text, instance, selection)?;
     push_lines(text, &columns, instance.periods() as usize + 1)

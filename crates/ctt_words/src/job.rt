@@ -1,6 +1,7 @@
 //! The job that a command line asks for, and why it may ask for none.
 
 use std::alloc::AllocError;
+use thiserror::Error;
 
 /// Whose week is asked for, by the name in the instance.
 #[derive(Drop)]
@@ -89,14 +90,17 @@ pub enum Task {
 }
 
 /// Why the words of a command line ask for no job.
-#[derive(Drop)]
+#[derive(Debug, Drop, Error)]
 pub enum WordsFault {
     /// The words are not a command of the program, or more than one option says whose week to
     /// print. The text is the message.
+    #[error("{0}")]
     Refused(String),
     /// The words ask for help or for the version, which is the text.
+    #[error("{0}")]
     Help(String),
     /// There is not enough memory.
+    #[error("no memory")]
     NoMemory,
 }
 

@@ -4,5 +4,5 @@ use denote.Param.Send.{sendable}
 use Rattle.ctt_text.proofs.SharingLemmas.{instance_shared}
 use Rattle.ctt_trials.proofs.shared.play.Goals as goal
 
-pub opened-requires : goal.opened-requires
-opened-requires g c κs = (search (instance_shared, sendable, crosses) depth 60 fits 20000, (search (instance_shared, sendable, crosses) depth 60 fits 20000, search rules))
+pub open_desk-requires : goal.open_desk-requires
+open_desk-requires g c κs = (search (instance_shared, sendable, crosses) depth 60 fits 20000, (search (instance_shared, sendable, crosses) depth 60 fits 20000, search rules))

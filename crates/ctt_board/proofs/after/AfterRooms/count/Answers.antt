@@ -10,17 +10,17 @@ pub overflow_add-count : goal.overflow_add-count
 overflow_add-count g c =
     let t = g.R.Rooms.list c.self.inside.rooms.now in
     let lawful : Lawful c.self.inside.instance.now t = subst (λ p. Lawful p t) c.self.invariant.same c.lawful.ensures in
-    omega (arith, few_in_row c.self.inside.instance.now t c.args.course c.limits_hold.ensures lawful, c.count.ensures, c.added.ensures.bound)
+    omega (arith, few_in_row c.self.inside.instance.now t c.args.course c.limits_hold.ensures lawful, c.count.ensures, c.count_added.ensures.bound)
 
-module _ (g : _) (c : goal.After-removed g) where
-  balance : length (course_row c.args.course (apply c.self.inside.cells.now (g.R.Rooms.list c.self.inside.rooms.now))) + c.removed.result ≡ c.count.result + c.added.result
+module _ (g : _) (c : goal.After-count_removed g) where
+  balance : length (course_row c.args.course (apply c.self.inside.cells.now (g.R.Rooms.list c.self.inside.rooms.now))) + c.count_removed.result ≡ c.count.result + c.count_added.result
   balance =
       let cells = c.self.inside.cells.now in
       let t = g.R.Rooms.list c.self.inside.rooms.now in
       let i = c.self.inside.instance.now in
       let lawful : Lawful i t = subst (λ p. Lawful p t) c.self.invariant.same c.lawful.ensures in
       let turn = (and_parts (leb (length cells) 4) (in_turn false cells) c.self.invariant.change).1 in
-      omega (arith, rows_after i cells t c.args.course lawful turn c.self.invariant.fit c.self.invariant.lawful, c.count.ensures, c.added.ensures.value, c.removed.ensures.value)
+      omega (arith, rows_after i cells t c.args.course lawful turn c.self.invariant.fit c.self.invariant.lawful, c.count.ensures, c.count_added.ensures.value, c.count_removed.ensures.value)
 
 pub overflow_sub-result : goal.overflow_sub-result
 overflow_sub-result g c = omega (arith, balance g c)

@@ -46,9 +46,9 @@ returns-in-Ok-clause-ok g c =
     let d = c.self.inside.draft in
     let since = c.self.inside.since in
     let v = draft_of (planner_of n k c.front-front.result) since d in
-    let f : c.accepted.result.1 ≡ c.commit-outcome.new.front = c.accepted.ensures.receipt in
+    let f : c.with_receipt.result.1 ≡ c.commit-outcome.new.front = c.with_receipt.ensures.receipt in
     let least : k ≤ length (own n c.front-front.result) = had n k p c.front-front.result number committed front c.committed-committed.ensures.seen in
-    accepted g.J.Naming.problem g.J.Naming.opening v c.args.self c.accepted.result.0 c.deref_mut.result.now c.accepted.result.1
+    accepted g.J.Naming.problem g.J.Naming.opening v c.args.self c.with_receipt.result.0 c.deref_mut.result.now c.with_receipt.result.1
     (same_draft n k c.front-front.result p since d number committed front ∙ c.self.view_is)
     (f ∙ h.front ∙ h.journal)
     h.begins
@@ -56,7 +56,7 @@ returns-in-Ok-clause-ok g c =
     least
     (subst (Legal g.J.Naming.problem g.J.Naming.opening) (sym f) h.seen)
     h.fresh.fresh
-    (c.accepted.ensures.planner ∙ ap₂ (λ x y. planner_of x (y + 1) c.commit-outcome.new.front) (sym number) (sym committed) ∙ ap (planner_of n (k + 1)) (sym f))
+    (c.with_receipt.ensures.planner ∙ ap₂ (λ x y. planner_of x (y + 1) c.commit-outcome.new.front) (sym number) (sym committed) ∙ ap (planner_of n (k + 1)) (sym f))
 
 pub seeing-requires-after_bounds : goal.seeing-requires-after_bounds
 seeing-requires-after_bounds g c κs within =

@@ -18,8 +18,8 @@ pub loop-planner-preserved : goal.loop-planner-preserved
 loop-planner-preserved g c =
     let who : PlannerValue × List ℕ = (c.in-Some.planner, c.in-Some.attendance.script.now) in
     let step : into_iter_items c.loop-planner.planner-iterator ≡ (c.in-Some.planner, c.in-Some.attendance) ∷ into_iter_items c.next.new.self = search rules in
-    let grown : map (λ h. h.promise) c.added.new.threads.items ≡ map (λ h. h.promise) c.loop-planner.threads.items ++ who ∷ [] =
-    promised_also (λ h. h.promise) c.spawn_with-started.result c.loop-planner.threads.items c.added.new.threads.items who c.in_default.ensures.added (subst (λ w. IfOk c.spawn_with-started.result (λ h. h.promise ≡ w)) c.of-promise.ensures c.spawn_with-started.ensures.ok) in
+    let grown : map (λ h. h.promise) c.push_started.new.threads.items ≡ map (λ h. h.promise) c.loop-planner.threads.items ++ who ∷ [] =
+    promised_also (λ h. h.promise) c.spawn_with-started.result c.loop-planner.threads.items c.push_started.new.threads.items who c.in_default.ensures.added (subst (λ w. IfOk c.spawn_with-started.result (λ h. h.promise ≡ w)) c.of-promise.ensures c.spawn_with-started.ensures.ok) in
     let rest : List (PlannerValue × List ℕ) = map (λ w. (w.0, w.1.script.now)) (into_iter_items c.next.new.self) in
     ap (λ l. l ++ rest) grown ∙ append_assoc (map (λ h. h.promise) c.loop-planner.threads.items) (who ∷ []) rest
     ∙ ap (λ l. map (λ h. h.promise) c.loop-planner.threads.items ++ map (λ w. (w.0, w.1.script.now)) l) (sym step) ∙ c.loop-planner.invariant
@@ -36,6 +36,6 @@ returns g c =
     ∙ ap (map (λ w. (w.0, w.1.script.now))) all
     in
     record {
-      attended = IfOk-weaker c.joined.result _ _ (λ done are. subst (λ ws. AreAttended i t0 ws done.0.items (map string_bytes done.1.items)) same are) c.joined.ensures.attended;
-      fault = IfErr-weaker c.joined.result _ _ (λ fault is. subst (IsCrewFault g.J.Naming.planners) (sym is) tt) c.joined.ensures.fault;
+      attended = IfOk-weaker c.join_all.result _ _ (λ done are. subst (λ ws. AreAttended i t0 ws done.0.items (map string_bytes done.1.items)) same are) c.join_all.ensures.attended;
+      fault = IfErr-weaker c.join_all.result _ _ (λ fault is. subst (IsCrewFault g.J.Naming.planners) (sym is) tt) c.join_all.ensures.fault;
     }

@@ -5,7 +5,7 @@ use Rattle.ctt_text.specs.Timetable.{Fits}
 use Rattle.ctt_rules.proofs.ListLemmas.{Each-filter}
 use Rattle.ctt_week.specs.Week.{is_selected}
 use Rattle.ctt_week.proofs.WeekLemmas.{more_pass}
-use Rattle.ctt_week.proofs.selection.selected.Goals as goal
+use Rattle.ctt_week.proofs.selection.select.Goals as goal
 
 pub loop-lecture-preserved : goal.loop-lecture-preserved
 loop-lecture-preserved c =

@@ -1,7 +1,7 @@
 use Rattle.std.proofs.Common.{◌≡◌, ap, arith}
 use Rattle.ctt_desk.specs.Planners.{PlannerValue}
 use Rattle.ctt_desk.proofs.CountLemmas.{own-fewer}
-use Rattle.ctt_desk.proofs.planner.Planner.accepted.Goals as goal
+use Rattle.ctt_desk.proofs.planner.Planner.with_receipt.Goals as goal
 
 pub prove-unreachable-requires : goal.prove-unreachable-requires
 prove-unreachable-requires g c =

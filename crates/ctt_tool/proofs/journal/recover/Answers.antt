@@ -1,5 +1,5 @@
 use Rattle.std.proofs.Common.{inl}
-use Rattle.ctt_tool.proofs.journal.recovered.Goals as goal
+use Rattle.ctt_tool.proofs.journal.recover.Goals as goal
 
 pub returns-in-Err-clause-cause : goal.returns-in-Err-clause-cause
 returns-in-Err-clause-cause c =

@@ -7,7 +7,7 @@ use Rattle.ctt_text.specs.declared.placed.Placed.{Placed}
 use Rattle.ctt_desk.specs.Planners.{PlannerValue}
 use Rattle.ctt_crew.specs.Attended.{AreAttending}
 use Rattle.ctt_crew.proofs.AttendLemmas.{all_attended, one_attended}
-use Rattle.ctt_crew.proofs.crew_run.joined.Goals as goal
+use Rattle.ctt_crew.proofs.crew_run.join_all.Goals as goal
 
 pub loop-thread-init : goal.loop-thread-init
 loop-thread-init g c =

@@ -3,7 +3,7 @@ use Rattle.ctt_draft.specs.Drafts.{calls_of, replies_in, replies}
 use Rattle.ctt_core.specs.Runs.{after}
 use Rattle.ctt_desk.specs.Histories.{entry_of}
 use Rattle.ctt_desk.proofs.AddingLemmas.{added, one_longer, adds_moves}
-use Rattle.ctt_desk.proofs.front.extended.Goals as goal
+use Rattle.ctt_desk.proofs.front.extend.Goals as goal
 
 pub compare_exchange-found-requires : goal.compare_exchange-found-requires
 compare_exchange-found-requires g c =
