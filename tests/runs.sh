@@ -88,12 +88,12 @@ Commands:
   week     Print the week as a table, with a column for each day and a line for each period
   page     Print a page for a browser with the report, all that is found, and the weeks
   run      Run a script of planners' steps and print the answers
-  audit    Say whether a journal was told what its drafts are told, run one after another
+  audit    Report whether a journal has the replies that its drafts get, run one after another
   crew     Run scripts at once, each by a planner on a thread, and print the answers
   desk     Keep a desk for planners at their terminals
   journal  Print the journal of the minutes of a desk
   list     Print the timetable after a journal as a solution
-  mend     Print a solution without the lectures that cannot be placed, each of which is said
+  mend     Print a solution without the lectures that cannot be placed, and report each of these
   help     Print this message or the help of the given subcommand(s)
 
 Options:
@@ -112,10 +112,10 @@ Examples:
   timedesk list comp07.ctt monday.journal --start comp07.sol >tuesday.sol
   timedesk mend comp07.ctt comp07.sol >mended.sol
 
-Status: 0 where it is done, also where a report says that a solution is unlawful;
-1 where the content of a file is refused, a name is not in it, or an audit does not agree; 2 where the
-words are refused; 3 where a file cannot be read, is too long, minutes exist, or output or memory fails;
-with --strict 4 where the solution is not lawful, and 5 where it is lawful and not complete.
+Status: 0 if it is done, also if a report says that a solution is unlawful;
+1 if the content of a file is refused, a name is not in it, or an audit does not agree; 2 if the
+words are refused; 3 if a file cannot be read, is too long, minutes exist, or output or memory fails;
+with --strict 4 if the solution is not lawful, and 5 if it is lawful but not complete.
 A refused file is one line, as in 'timedesk: instance I2 14': docs/FORMATS.md has
 each fault by its number, and how to see the word that it names.
 "
@@ -128,10 +128,10 @@ Arguments:
   <SOLUTION>  The file of the solution
 
 Options:
-      --barred <FILE>  The file of the rooms that are barred for courses; without it none is
+      --barred <FILE>  The file of the rooms that are barred for courses; without it none are
       --json           Print the report as JSON
-      --explain        Print behind the report each thing that breaks a rule or costs points
-      --strict         End with status 4 where the solution is not lawful, 5 where it is lawful and not complete
+      --explain        Print after the report each thing that breaks a rule or costs points
+      --strict         End with status 4 if the solution is not lawful, 5 if it is lawful but not complete
   -h, --help           Print help
 
 The lines of --explain, with days and periods counted from 0:
@@ -156,7 +156,7 @@ Arguments:
   <SOLUTION>  The file of the solution
 
 Options:
-      --barred <FILE>      The file of the rooms that are barred for courses; without it none is
+      --barred <FILE>      The file of the rooms that are barred for courses; without it none are
       --curriculum <NAME>  The week of this curriculum alone
       --teacher <NAME>     The week of this teacher alone
       --course <NAME>      The week of this course alone; - marks a slot in which it is unavailable, ! a lecture there
@@ -174,7 +174,7 @@ Arguments:
   <SOLUTION>  The file of the solution
 
 Options:
-      --barred <FILE>  The file of the rooms that are barred for courses; without it none is
+      --barred <FILE>  The file of the rooms that are barred for courses; without it none are
   -h, --help           Print help
 
 Example: timedesk page comp07.ctt comp07.sol >comp07.html
@@ -188,14 +188,14 @@ Arguments:
   <SCRIPT>    The file of the planners' steps
 
 Options:
-      --barred <FILE>     The file of the rooms that are barred for courses; without it none is
+      --barred <FILE>     The file of the rooms that are barred for courses; without it none are
       --start <SOLUTION>  The file of the opening timetable; without it the desk opens empty
-      --journal <FILE>    The file to write with the drafts that were accepted
+      --journal <FILE>    The file to write the accepted drafts to
   -h, --help              Print help
 
 Example: timedesk run comp07.ctt planners.txt --start comp07.sol --journal monday.journal
 "
-audit_help='Say whether a journal was told what its drafts are told, run one after another
+audit_help='Report whether a journal has the replies that its drafts get, run one after another
 
 Usage: timedesk audit [OPTIONS] <INSTANCE> <JOURNAL>
 
@@ -204,7 +204,7 @@ Arguments:
   <JOURNAL>   The file of the accepted drafts
 
 Options:
-      --barred <FILE>     The file of the rooms that are barred for courses; without it none is
+      --barred <FILE>     The file of the rooms that are barred for courses; without it none are
       --start <SOLUTION>  The file of the opening timetable; without it the desk opens empty
   -h, --help              Print help
 
@@ -219,7 +219,7 @@ Arguments:
   <SCRIPT>...  The files of the planners' steps, one for each planner, at most 64
 
 Options:
-      --barred <FILE>  The file of the rooms that are barred for courses; without it none is
+      --barred <FILE>  The file of the rooms that are barred for courses; without it none are
   -h, --help           Print help
 
 Example: timedesk crew comp07.ctt anna.txt ben.txt
@@ -233,9 +233,9 @@ Arguments:
   <SEAT>...   The seats of the planners, at most 64: lines come from SEAT.in, and answers go to SEAT.out
 
 Options:
-      --barred <FILE>     The file of the rooms that are barred for courses; without it none is
+      --barred <FILE>     The file of the rooms that are barred for courses; without it none are
       --start <SOLUTION>  The file of the opening timetable; without it the desk opens empty
-      --minutes <FILE>    The file to write with each accepted draft before its planner is told
+      --minutes <FILE>    The file to write each accepted draft to before its planner is answered
   -h, --help              Print help
 
 Example: timedesk desk comp07.ctt - --start comp07.sol
@@ -249,7 +249,7 @@ Arguments:
   <MINUTES>   The file of the minutes
 
 Options:
-      --barred <FILE>  The file of the rooms that are barred for courses; without it none is
+      --barred <FILE>  The file of the rooms that are barred for courses; without it none are
   -h, --help           Print help
 
 Example: timedesk journal comp07.ctt monday.minutes >monday.journal
@@ -263,13 +263,13 @@ Arguments:
   <JOURNAL>   The file of the accepted drafts
 
 Options:
-      --barred <FILE>     The file of the rooms that are barred for courses; without it none is
+      --barred <FILE>     The file of the rooms that are barred for courses; without it none are
       --start <SOLUTION>  The file of the opening timetable; without it the desk opens empty
   -h, --help              Print help
 
 Example: timedesk list comp07.ctt monday.journal --start comp07.sol >tuesday.sol
 '
-mend_help='Print a solution without the lectures that cannot be placed, each of which is said
+mend_help='Print a solution without the lectures that cannot be placed, and report each of these
 
 Usage: timedesk mend [OPTIONS] <INSTANCE> <SOLUTION>
 
@@ -278,7 +278,7 @@ Arguments:
   <SOLUTION>  The file of the solution
 
 Options:
-      --barred <FILE>  The file of the rooms that are barred for courses; without it none is
+      --barred <FILE>  The file of the rooms that are barred for courses; without it none are
   -h, --help           Print help
 
 Example: timedesk mend comp07.ctt comp07.sol >mended.sol

@@ -13,7 +13,7 @@ const INSTANCE: Argument = Argument::Word("instance", "INSTANCE", "The file of t
 const BARRED: Argument = Argument::Valued(
     "barred",
     "FILE",
-    "The file of the rooms that are barred for courses; without it none is",
+    "The file of the rooms that are barred for courses; without it none are",
 );
 
 const SOLUTION: Argument = Argument::Word("solution", "SOLUTION", "The file of the solution");
@@ -51,11 +51,11 @@ Example: timedesk check comp07.ctt comp07.sol --explain",
             Argument::Flag("json", "Print the report as JSON"),
             Argument::Flag(
                 "explain",
-                "Print behind the report each thing that breaks a rule or costs points",
+                "Print after the report each thing that breaks a rule or costs points",
             ),
             Argument::Flag(
                 "strict",
-                "End with status 4 where the solution is not lawful, 5 where it is lawful and not complete",
+                "End with status 4 if the solution is not lawful, 5 if it is lawful but not complete",
             ),
         ],
     },
@@ -98,14 +98,14 @@ Example: timedesk check comp07.ctt comp07.sol --explain",
             Argument::Valued(
                 "journal",
                 "FILE",
-                "The file to write with the drafts that were accepted",
+                "The file to write the accepted drafts to",
             ),
         ],
     },
     Outline {
         command: Name::Audit,
         name: "audit",
-        about: "Say whether a journal was told what its drafts are told, run one after another",
+        about: "Report whether a journal has the replies that its drafts get, run one after another",
         example: "Example: timedesk audit comp07.ctt monday.journal --start comp07.sol",
         arguments: &[INSTANCE, JOURNAL, BARRED, START],
     },
@@ -141,7 +141,7 @@ Example: timedesk check comp07.ctt comp07.sol --explain",
             Argument::Valued(
                 "minutes",
                 "FILE",
-                "The file to write with each accepted draft before its planner is told",
+                "The file to write each accepted draft to before its planner is answered",
             ),
         ],
     },
@@ -166,7 +166,7 @@ Example: timedesk check comp07.ctt comp07.sol --explain",
     Outline {
         command: Name::Mend,
         name: "mend",
-        about: "Print a solution without the lectures that cannot be placed, each of which is said",
+        about: "Print a solution without the lectures that cannot be placed, and report each of these",
         example: "Example: timedesk mend comp07.ctt comp07.sol >mended.sol",
         arguments: &[INSTANCE, SOLUTION, BARRED],
     },
@@ -186,10 +186,10 @@ Examples:
   timedesk list comp07.ctt monday.journal --start comp07.sol >tuesday.sol
   timedesk mend comp07.ctt comp07.sol >mended.sol
 
-Status: 0 where it is done, also where a report says that a solution is unlawful;
-1 where the content of a file is refused, a name is not in it, or an audit does not agree; 2 where the
-words are refused; 3 where a file cannot be read, is too long, minutes exist, or output or memory fails;
-with --strict 4 where the solution is not lawful, and 5 where it is lawful and not complete.
+Status: 0 if it is done, also if a report says that a solution is unlawful;
+1 if the content of a file is refused, a name is not in it, or an audit does not agree; 2 if the
+words are refused; 3 if a file cannot be read, is too long, minutes exist, or output or memory fails;
+with --strict 4 if the solution is not lawful, and 5 if it is lawful but not complete.
 A refused file is one line, as in 'timedesk: instance I2 14': docs/FORMATS.md has
 each fault by its number, and how to see the word that it names.";
 
