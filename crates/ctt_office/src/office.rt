@@ -55,7 +55,10 @@ fn join_all<R: Threads>(
 }
 
 /// Adds the thread of a planner, if it was started.
-fn push_started<T: Drop, E: Drop>(threads: &mut Vec<T>, started: Result<T, E>) -> Result<(), OfficeFault>
+fn push_started<T: Drop, E: Drop>(
+    threads: &mut Vec<T>,
+    started: Result<T, E>,
+) -> Result<(), OfficeFault>
     ensures added { OnOk result (length threads.new.items ≡ length threads.old.items + 1) }
     ensures fault { (seats : ℕ) → IfErr result (IsOfficeFault seats) }
 {

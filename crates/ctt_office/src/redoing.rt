@@ -153,7 +153,11 @@ fn redone_text(alloc: Global, redone: &Tally, omitted: &str) -> Result<String, N
 {
     let mut text = String::new(alloc);
     text.push_str("redone")?;
-    let counts = [Word::number(redone.made), Word::text("of"), Word::number(redone.edits)];
+    let counts = [
+        Word::number(redone.made),
+        Word::text("of"),
+        Word::number(redone.edits),
+    ];
     push_words(&mut text, &counts)?;
     text.push_str(omitted)?;
     text.push('\n')?;
