@@ -11,10 +11,12 @@
 # order and by size: each of these, and no other, has to end as with memory if it is refused alone.
 # - `collect` asks for room for all elements that may come, and, if that is refused, for one: so the
 #   first of the two may be refused. `owned_words` collects the words of the command line, `serve`
-#   slices of them, and `clap` the letters of a word that it does not know and of the name of each
-#   command, to find one that is like it (`chars_of` of `strsim`).
+#   slices of them, `Lectures::into_list` the lectures of a solution, and `clap` the letters of a
+#   word that it does not know and of the name of each command, to find one that is like it
+#   (`chars_of` of `strsim`).
 # - A desk that accepts a draft cuts the list of its calls to its length (`shrink_to_fit`): if that
-#   is refused, the list stays as it is. In the trials no other request may be done without.
+#   is refused, the list stays as it is. In the trials no other request may be done without but
+#   those of the solutions that they read.
 #
 # Each line of a crew's planner stands twice in his script. One of them may be answered 'no memory': if it is the first of the two, the
 # second has its answer, and all others are as with memory. The crew may also end with status 3 and 'timedesk: no thread', where the
@@ -40,7 +42,10 @@ cd -- "$room" || exit 1
 word_size=24
 slice_size=16
 letter_size=4
+lecture_size=6
 call_size=64
+# the solutions that the trials read to their end
+solutions=0
 head -n 4 s.sol >s0.sol
 printf '%s\n' 'journal 1' 'entry 0 2' 'place top A 0 1' 'refused roomtaken geo' 'slot 0 0' 'lectures 1 alg A 0 0' END. >told
 echo 'Barred: 2 alg A top A END.' >barred
@@ -68,6 +73,8 @@ lane() {
             echo again
         elif [[ $met =~ ^less\ ([0-9]+)$ ]] && ((BASH_REMATCH[1] % call_size == 0)); then
             echo cut
+        elif [[ $met =~ ^more\ ([0-9]+)$ ]] && ((BASH_REMATCH[1] % lecture_size == 0)); then
+            echo collected
         else
             echo "FAILED: the trials, request $number ($met), which could be done without"
         fi
@@ -93,6 +100,12 @@ dispensable() {
     local name
     collected $(($# + 1)) "$word_size"
     collected $(($# + 1)) "$slice_size"
+    # of a solution that is read, its lectures
+    case "$*" in
+        *s0.sol*) collected $(($(wc -w <s0.sol) / 4)) "$lecture_size" ;;
+        *s.sol*) collected $(($(wc -w <s.sol) / 4)) "$lecture_size" ;;
+        *mixed*) collected $(($(wc -w <mixed) / 4)) "$lecture_size" ;;
+    esac
     if [ "$1" = frobnicate ]; then
         for name in $names; do
             letters "$1"
@@ -120,8 +133,12 @@ wait
 cat lane.* | grep FAILED | head -n 20
 passed=$(noted -v FAILED)
 failed=$(noted FAILED)
+if [ "$(noted collected)" != "$solutions" ]; then
+    failed=$((failed + 1))
+    echo "FAILED: the trials read $solutions solutions, and $(noted collected) lists of lectures were made in another way"
+fi
 echo "the trials met $((passed + failed)) refusals: \
-$(noted again) calls were made again, $(noted cut) lists of calls were not cut"
+$(noted again) calls were made again, $(noted cut) lists of calls were not cut, $(noted collected) were made in another way"
 
 of_trials=$((passed + failed))
 done_without=0

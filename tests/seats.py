@@ -13,8 +13,9 @@ or 'no place', is typed again. The answers and the minutes have to be those with
 open: then what was answered, and the minutes, are a front of that, and what was told as committed is in the minutes.
 
 Two calls alone can do without what they ask for, and each request is known by its size. `collect`
-asks for room for all words of the command line, and, if that is refused, for one: `owned_words` and
-`serve` call it, and the first of the two requests of each, and no other, has to end as with memory.
+asks for room for all elements, and, if that is refused, for one: `owned_words` and `serve` call it
+for the words of the command line, and `Lectures::into_list` for the lectures of the opening. The
+first of the two requests of each, and no other, has to end as with memory.
 A desk that accepts a draft cuts the list of its calls to its length (`shrink_to_fit`): if that is
 refused, the list stays as it is.
 
@@ -198,9 +199,9 @@ WANTS = (b"no memory\n", b"no place\n")
 # what a seat answers to `help`
 HELP = b"words abandon cheapest commit cost course coursecost curriculum drop help leave missing move open \
 peek place price redo refresh reroom show slot status swap teacher undo\n"
-# the sizes in bytes of a word of the command line as `owned_words` and as `serve` collect it, and
-# of a draft's call; a list has room for 4 at least
-WORD_SIZES, CALL_SIZE, LEAST = (24, 16), 64, 4
+# the sizes in bytes of a word of the command line as `owned_words` and as `serve` collect it, of a
+# lecture of a solution, and of a draft's call; a list has room for 4 at least
+WORD_SIZES, LECTURE_SIZE, CALL_SIZE, LEAST = (24, 16), 6, 64, 4
 # what a desk says that ends for want of memory; a seat whose file could not be opened for it says that
 SAID = rb"timedesk: no (memory|thread)\n"
 SAID_BEFORE = SAID + rb"|timedesk: cannot (read .*/[0-9]\.in|write)\n"
@@ -302,7 +303,10 @@ class Played:
         minutes = os.path.join(folder, "minutes")
         paths = [seat.path for seat in seats.values()]
         command = [PROGRAM, "desk", words[0], *paths, *words[1:], "--minutes", minutes]
-        self.words = len(command)
+        self.lists = [(size, len(command)) for size in WORD_SIZES]
+        if "--start" in command:
+            solution = held(command[command.index("--start") + 1])
+            self.lists.append((LECTURE_SIZE, len(solution.split()) // 4))
         env = {**os.environ, "MET": os.path.join(folder, "met"), **marks}
         desk = subprocess.Popen(command, env=env, stdout=subprocess.PIPE, stderr=subprocess.PIPE)
         self.answers, self.again = [], 0
@@ -323,8 +327,8 @@ class Played:
         self.met = held(env["MET"]).decode()
 
     def collected(self):
-        """The requests of `collect` for room for all words of the command line."""
-        return [f"more {size * max(LEAST, self.words)}\n" for size in WORD_SIZES]
+        """The requests of `collect` for room for all words of the command line, and for all lectures of the opening."""
+        return [f"more {size * max(LEAST, count)}\n" for size, count in self.lists]
 
     def cut(self):
         """The requests that cut the list of an accepted draft."""
