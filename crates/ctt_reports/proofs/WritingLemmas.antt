@@ -2,7 +2,7 @@
 use Rattle.std.proofs.Common.{◌≡◌, ◌⊎◌, ℕ, ◌+◌, ◌≤◌, min, Bool, true, List, [], ◌∷◌, ◌++◌, length, take, Option, Result, Ok, Err, IfErr, OnErr, refl, string_bytes, ◌∙◌, sym, ap, subst, append-nil, append_assoc, inl, inr, arith}
 use Rattle.std.specs.Io.KnownBytes.{Appends}
 use Rattle.std.proofs.KnownBytes.{Appends-nil, Appends-trans}
-use Rattle.std.proofs.Math.Seq.{take-append-add}
+use Rattle.std.proofs.Math.Seq.{take-append-add, take-append_seam}
 use Rattle.std.proofs.lemmas.List.{take-append-le, take_min}
 use Rattle.ctt_text.specs.Problem.{Problem}
 use Rattle.ctt_findings.specs.Hearing.{Fails, Hears, HearsFront}
@@ -24,6 +24,10 @@ written_more x y text left more one = record {
   taken = one.taken;
   all = ap (λ t. t ++ more) one.all ∙ append_assoc one.prefix left more;
 }
+
+-- what is written is a prefix of the text
+pub written_front : (x y : Option (List ℕ)) (text left : List ℕ) → WritesOut x y text left → AppendsFront x y text
+written_front x y text left one = (length one.prefix, subst (Appends x y) (sym (ap (take (length one.prefix)) one.all ∙ take-append_seam one.prefix left)) one.taken)
 
 -- nothing more, and one text after another
 written_none : (x : Option (List ℕ)) (left : List ℕ) → WritesOut x x (left ++ []) left
