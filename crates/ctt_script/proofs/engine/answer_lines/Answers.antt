@@ -47,7 +47,7 @@ loop-line-preserved g c =
     let more : Answered c.loop-line.desk c.answer_line.new.desk (string_bytes c.loop-line.answers) (string_bytes c.answer_line.new.answers) (items_of v.problem (c.in-Some.line.now ∷ [])) = rw c.requires.same c.in_ok-answer_line.ensures in
     let next : Answering v c.answer_line.new.desk all c.next.new.self before taken (string_bytes c.answer_line.new.answers) = one_more_line v all before c.loop-line.desk c.answer_line.new.desk taken c.in-Some.line.now c.loop-line.line-iterator c.next.new.self (string_bytes c.loop-line.answers) (string_bytes c.answer_line.new.answers) step c.loop-line.invariant.answering more in
     record {
-      answering = more_written v all before c.answer_line.new.desk c.next.new.self taken (g.W.Sink.taken c.put_long.new.writer) (string_bytes c.answer_line.new.answers) next (string_bytes c.put_long.new.answers) c.in_ok-put_long.ensures.written;
+      answering = more_written v all before c.answer_line.new.desk c.next.new.self taken (g.W.Sink.taken c.put_long.new.writer) (string_bytes c.answer_line.new.answers) next (string_bytes c.put_long.new.text) c.in_ok-put_long.ensures.written;
       unmarked = c.in_ok-put_long.ensures.unmarked ∙ c.loop-line.invariant.unmarked;
     }
 
