@@ -2,9 +2,9 @@
 use Rattle.std.proofs.Common.{◌≡◌, ◌∙◌, ℕ, ◌+◌, true, List, [], ◌∷◌, ◌++◌, drop, Option, Some, None, Result, Ok, Err, append-nil, append_assoc, refl, sym, ap, subst}
 use Rattle.std.specs.List.{AllByRecursion as Each}
 use Rattle.ctt_text.specs.Problem.{Problem}
-use Rattle.ctt_text.specs.Timetable.{Ascending, Fits, IsTimetable, before}
+use Rattle.ctt_text.specs.Timetable.{Ascending, Fits, IsTimetable, before, with}
 use Rattle.ctt_text.specs.declared.placed.Placed.{Placed}
-use Rattle.ctt_text.proofs.InOrderLemmas.{with_last}
+use Rattle.ctt_text.proofs.LectureLaws.{before_once}
 use Rattle.ctt_text.proofs.TimetableLemmas.{Each-append}
 use Rattle.ctt_board.specs.declared.cell.Cell.{Cell}
 use Rattle.ctt_edits.specs.Edits.{checked_by, edited}
@@ -15,6 +15,11 @@ use Rattle.ctt_edits.specs.declared.fault.EditFault.{EditFault}
 use Rattle.ctt_edits.proofs.ReplyLemmas.{MayFit}
 use Rattle.ctt_mend.specs.Laws.{MendedOpens, NoneIsSetAside}
 use Rattle.ctt_mend.specs.Mended.{Aside, after_try, aside_line, aside_text, fault_on, mended, mended_on, or_with, or_without, set_aside, set_aside_on}
+
+-- a lecture that comes after all goes last
+with_last : (t : List Placed) (l : Placed) → Each (λ m. before m l ≡ true) t → with l t ≡ t ++ l ∷ []
+with_last [] l each = refl
+with_last (m ∷ t) l each = rw (before_once m l each.0) (ap (λ u. m ∷ u) (with_last t l each.1))
 
 -- the fault of a lecture names a course of the instance, if it names one
 pub refused_fits : (i : Problem) (o : Option EditFault) (cells : List Cell) (f : EditFault) → MayFit i o → Err f ≡ checked_by o cells → FaultFits i f
