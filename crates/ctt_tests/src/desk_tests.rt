@@ -1,5 +1,6 @@
-//! Two planners of one desk, on threads of their own, commit drafts. Each entry must be where its
-//! receipt says. A third planner may learn their last receipts; all must see what was placed.
+//! Planners of one desk of grid sheets, two of whom commit drafts in alternation, on threads of
+//! their own. Each entry must be where its receipt says. A third planner may then learn their last
+//! receipts, and all must see what was placed.
 
 ghost use Rattle.ctt_desk.specs.Names.{IsNamed};
 
@@ -38,7 +39,8 @@ struct Committed<S: Timetable, J: Naming> {
     receipt: Receipt<J>,
 }
 
-/// The numbers of a planner's receipts, in order, and the lecture that the drafts place and drop.
+/// The numbers of a planner's receipts, in the order of the drafts, with the lecture that these
+/// place and drop.
 #[derive(Drop)]
 struct Numbers {
     planner: PlannerNo,
@@ -239,7 +241,8 @@ fn come_once(one: &Numbers, two: &Numbers, last: u64) -> bool {
     true
 }
 
-/// Returns whether a closed desk has both planners' entries, each once, and what lectures are left.
+/// Returns whether a closed desk has the entries of both planners where their receipts say, each
+/// number once, and the lectures that are left.
 fn is_of_both<S: Timetable, J: Naming>(
     closed: &Closed<S, J>,
     numbers: &(Numbers, Numbers),
