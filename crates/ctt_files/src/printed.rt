@@ -1,11 +1,11 @@
 //! What a command prints, reports and stores, and how that is delivered.
 
-ghost use Rattle.std.specs.Prelude.{◌≡◌, ◌≢◌, ◌⊎◌, [], true, None, OnOk, OnErr, IfOk, IfErr};
+ghost use Rattle.std.specs.Prelude.{◌≡◌, ◌≢◌, ◌⊎◌, [], true, OnOk, OnErr, IfOk, IfErr};
 ghost use Rattle.std.specs.Io.KnownBytes.{Appends};
 ghost use Rattle.std.specs.String.{string_bytes};
+ghost use Rattle.ctt_files.specs.Answers.{IsTextAlone};
 ghost use Rattle.ctt_files.specs.Storing.{IsGiven, KeepOthers, StoresFile, name_of};
 ghost use Rattle.ctt_files.specs.declared.fault.Fault.TheVariants.{CannotWrite};
-ghost use Rattle.ctt_files.specs.declared.outcome.Outcome.TheVariants.{Done};
 
 use crate::fault::Fault;
 use crate::files::Files;
@@ -35,18 +35,17 @@ pub struct Printed {
 }
 
 impl Printed {
-    /// Returns a text alone, of a command that is done.
-    pub fn of(alloc: Global, text: Vec<u8>) -> Self
+    /// Returns a text alone.
+    pub fn new(alloc: Global, text: Vec<u8>, outcome: Outcome) -> Self
         ensures text { result.text ≡ text }
-        ensures aside { string_bytes result.aside ≡ [] }
-        ensures store { name_of result.store ≡ None }
-        ensures outcome { result.outcome ≡ Done }
+        ensures alone { IsTextAlone result }
+        ensures outcome { result.outcome ≡ outcome }
     {
         Printed {
             text,
             aside: String::new(alloc),
             store: None,
-            outcome: Outcome::Done,
+            outcome,
         }
     }
 }
