@@ -13,9 +13,9 @@ ghost use Rattle.ctt_files.specs.Faults.{IfUnwritten, MayHaveWritten};
 ghost use Rattle.ctt_files.specs.declared.fault.Fault.TheVariants.{NoMemory as OutOfMemory};
 ghost use Rattle.ctt_files.specs.declared.outcome.Outcome.TheVariants.{Done};
 ghost use Rattle.ctt_tool.specs.Faults.{IsRunFault, KeptUnless, RunFaultFits};
-ghost use Rattle.ctt_tool.specs.Jobs.{IsGiven};
+ghost use Rattle.ctt_files.specs.Storing.{IsGiven, KeepOthers, Stores};
 ghost use Rattle.ctt_tool.specs.Refusals.{IsAnswerFault, IsOfRun, IsOfScript};
-ghost use Rattle.ctt_tool.specs.Runs.{KeepOthers, RunsOn, RunsScript, Stores};
+ghost use Rattle.ctt_tool.specs.Runs.{RunsOn, RunsScript};
 
 use crate::refused::refused_opening;
 use ctt_board::GridSheet;

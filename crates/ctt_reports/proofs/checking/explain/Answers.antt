@@ -1,9 +1,9 @@
 use Rattle.std.proofs.Common.{None, inl, inr, ⊎_elim, refl, subst}
 use Rattle.ctt_files.proofs.Plain.{passed_on, passed_plain, unwritten_more}
-use Rattle.ctt_reports.specs.Checks.{IsChecked, IsJudged}
+use Rattle.ctt_reports.specs.Checks.{IsExplained, IsJudged}
 use Rattle.ctt_reports.specs.Refusals.{IsOfCheck}
 use Rattle.ctt_reports.proofs.LookLemmas.{look_plain, of_memory}
-use Rattle.ctt_reports.proofs.checking.check.Goals as goal
+use Rattle.ctt_reports.proofs.checking.explain.Goals as goal
 
 pub returns-in_err-subject-clause-cause : goal.returns-in_err-subject-clause-cause
 returns-in_err-subject-clause-cause g c =
@@ -32,14 +32,12 @@ returns-in_err-printed-clause-part g c =
         is_selection = c.in_ok-subject.ensures.found;
         timetable = subject.timetable.items;
         is_solution = c.in_ok-subject.ensures.spelled;
-        bytes = part.1.0;
-        is_text = subst (λ t. IsChecked c.args.json c.args.explain subject.instance t part.1.0) c.deref.ensures.value part.1.1;
-        taken = part.1.2;
+        shown = (part.1.0, subst (λ t. IsExplained c.args.json subject.instance t part.1.0) c.deref.ensures.value part.1.1, part.1.2);
       },
     )) c.in_err-printed.ensures.part)
 
-pub returns-clause-reports : goal.returns-clause-reports
-returns-clause-reports g c =
+pub returns-clause-explains : goal.returns-clause-explains
+returns-clause-explains g c =
     let subject = c.in_ok-subject.subject in
     let printed = c.in_ok-printed.ensures.prints in
     record {
@@ -49,10 +47,8 @@ returns-clause-reports g c =
       is_selection = c.in_ok-subject.ensures.found;
       timetable = subject.timetable.items;
       is_solution = c.in_ok-subject.ensures.spelled;
-      bytes = printed.0;
-      is_text = (
-        subst (λ t. IsChecked c.args.json c.args.explain subject.instance t printed.0) c.deref.ensures.value printed.1,
+      shown = (
+        (printed.0, subst (λ t. IsExplained c.args.json subject.instance t printed.0) c.deref.ensures.value printed.1, printed.2),
         subst (λ t. IsJudged c.args.strict subject.instance t c.judge-outcome.result) c.deref-2.ensures.value c.judge-outcome.ensures,
       );
-      taken = printed.2;
     }
