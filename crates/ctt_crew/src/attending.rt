@@ -10,10 +10,11 @@ ghost use Rattle.ctt_line.specs.Lines.{line};
 
 use crate::gate::Gate;
 use crate::seat::{Seat, Told};
-use ctt_board::{GridSheet, Sheet};
+use ctt_board::Sheet;
 use ctt_core::{Answer, Event, PlannerNo};
 use ctt_desk::{Naming, Planner, SharedDesk};
 use ctt_edits::Call;
+use ctt_grid::GridSheet;
 use ctt_script::{Lines, has_words, read_own_line, write_answer, write_bad_line};
 use ctt_text::{Instance, NoMemory, let_go};
 use std::alloc::{AllocError, Global};

@@ -22,9 +22,10 @@ use crate::answers::{write_answer, write_bad_line};
 use crate::lines::Lines;
 use crate::script::{PLANNERS, has_words, read_line};
 use crate::script_fault::ScriptFault;
-use ctt_board::{GridSheet, Sheet};
+use ctt_board::Sheet;
 use ctt_core::{Answer, Desk, Event};
 use ctt_devices::{INPUT_LIMIT, Sink, Source, put_long, put_whole, read_all};
+use ctt_grid::GridSheet;
 use ctt_text::{Instance, NoMemory, Placed, let_go};
 use std::alloc::Global;
 

@@ -10,9 +10,10 @@ ghost use Rattle.ctt_tool.specs.Refusals.{IsOfAudit, IsOfAudited, IsOfJournal};
 ghost use Rattle.ctt_tool.specs.Texts.{IsJournalText};
 
 use crate::refused::{refused_journal, refused_opening};
-use ctt_board::{GridSheet, Sheet};
+use ctt_board::Sheet;
 use ctt_core::{JournalEntry, Verdict, audit as audit_entries};
 use ctt_files::{Fault, Files, Outcome, Printed, fetch_instance, fetch_start, read_file};
+use ctt_grid::GridSheet;
 use ctt_script::read_journal;
 use ctt_text::{Instance, let_go};
 use std::alloc::Global;

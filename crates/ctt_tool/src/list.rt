@@ -9,9 +9,10 @@ ghost use Rattle.ctt_tool.specs.Lists.{ListsJournal, ListsOn, ShowsLeft};
 ghost use Rattle.ctt_tool.specs.Refusals.{IsLeftFault, IsOfAudit, IsOfAudited};
 
 use crate::audit::{fetch_entries, show_verdict};
-use ctt_board::{GridSheet, Sheet};
+use ctt_board::Sheet;
 use ctt_core::{JournalEntry, NoList, list_after};
 use ctt_files::{Fault, Files, Outcome, Printed, fetch_instance, fetch_start};
+use ctt_grid::GridSheet;
 use ctt_text::{Instance, Placed, let_go, write_solution};
 use std::alloc::Global;
 

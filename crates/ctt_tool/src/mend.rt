@@ -6,8 +6,9 @@ ghost use Rattle.ctt_files.specs.declared.outcome.Outcome.TheVariants.{Done};
 ghost use Rattle.ctt_tool.specs.Mends.{MendsOn, MendsSolution};
 ghost use Rattle.ctt_tool.specs.Refusals.{IsOfMending};
 
-use ctt_board::{GridSheet, Sheet};
+use ctt_board::Sheet;
 use ctt_files::{Fault, Files, Outcome, Printed, fetch_instance, fetch_solution};
+use ctt_grid::GridSheet;
 use ctt_mend::mend as mend_lectures;
 use ctt_text::{Instance, let_go};
 use std::alloc::Global;
