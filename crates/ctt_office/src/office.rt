@@ -3,7 +3,7 @@
 ghost use Rattle.std.specs.Prelude.{◌≡◌, ◌≤◌, ◌<◌, ◌+◌, ℕ, [], Err, Ok, is_some, length, map, IfErr, IfOk, IfSome, OnOk, string_bytes};
 ghost use Rattle.ctt_desk.specs.Names.{IsNamed};
 ghost use Rattle.ctt_desk.specs.Planners.{new_planners};
-ghost use Rattle.ctt_crew.specs.Attended.{IsCrewText};
+ghost use Rattle.ctt_seat.specs.Attended.{IsCrewText};
 ghost use Rattle.ctt_office.specs.OfficeFaults.{IsOfficeFault, first_fault};
 ghost use Rattle.ctt_office.specs.Pages.{HasFailed, IsSound};
 ghost use Rattle.ctt_office.specs.declared.office_fault.OfficeFault.TheVariants.{NoMemory as OutOfMemory, NotWritten};
@@ -14,8 +14,8 @@ use crate::durable::Durable;
 use crate::office_fault::{OfficeFault, SeatFault};
 use crate::sitting::{GridStation, Station, sit_on_grid};
 use ctt_board::{GridSheet, Timetable};
-use ctt_crew::{closing_report, end_desk};
 use ctt_desk::{Closed, Named, Naming, Opened, Planner, SharedDesk};
+use ctt_seat::{closing_report, end_desk};
 use ctt_text::{Instance, let_go};
 use std::alloc::Global;
 use std::marker::{Brand, PhantomData, Send, Sync};

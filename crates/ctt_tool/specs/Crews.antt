@@ -4,7 +4,7 @@ use Rattle.std.specs.Global.{Global}
 use Rattle.std.specs.Io.KnownBytes.{Appends}
 use Rattle.std.specs.declared.string.String.{String}
 use Rattle.ctt_text.specs.Problem.{Problem}
-use Rattle.ctt_crew.specs.Attended.{IsCrewText}
+use Rattle.ctt_seat.specs.Attended.{IsCrewText}
 use Rattle.ctt_files.specs.Texts.{Held, HoldInTurn, IsInstanceIn}
 
 -- the bytes are what a crew writes on the instance in a file, with a desk that opens empty and one

@@ -4,9 +4,9 @@ ghost use Rattle.std.specs.Prelude.{ℕ, ◌≡◌, ◌++◌, IfErr, OnOk, strin
 ghost use Rattle.ctt_edits.specs.Calls.{CallFits};
 ghost use Rattle.ctt_edits.specs.Looks.{LookFits};
 ghost use Rattle.ctt_core.specs.Runs.{EventFits};
-ghost use Rattle.ctt_crew.specs.CrewText.{ToldFits, told_unread};
-ghost use Rattle.ctt_crew.specs.Attended.{leaver};
-ghost use Rattle.ctt_crew.specs.Seats.{Abandons, Asks, Commits, Opens, Peeks, Refreshes, Shows, States, Takes, Views, draft_text, open_entry, told_of};
+ghost use Rattle.ctt_seat.specs.CrewText.{ToldFits, told_unread};
+ghost use Rattle.ctt_seat.specs.Attended.{leaver};
+ghost use Rattle.ctt_seat.specs.Seats.{Abandons, Asks, Commits, Opens, Peeks, Refreshes, Shows, States, Takes, Views, draft_text, open_entry, told_of};
 
 use ctt_board::{Sheet, Timetable};
 use ctt_core::{Answer, Event};
