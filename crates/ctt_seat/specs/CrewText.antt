@@ -1,4 +1,4 @@
--- The answers to the planners of a crew, and the crew's report.
+-- The answers to planners, and the report of a crew.
 use Rattle.std.specs.Prelude.{ℕ, ◌+◌, List, [], ◌∷◌, ◌++◌, codes, length}
 use Rattle.std.specs.Fmt.{decimal}
 use Rattle.ctt_text.specs.Problem.{Problem}

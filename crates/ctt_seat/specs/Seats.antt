@@ -1,4 +1,4 @@
--- A planner of a crew: how each event is answered, and the seat that it leaves.
+-- A planner at a seat: how each event is answered, and the seat that it leaves.
 use Rattle.std.specs.Prelude.{◌≡◌, ◌⊎◌, ◌++◌, ℕ, List, [], length, Option, Some, None, Result, Ok, Err}
 use Rattle.ctt_text.specs.Problem.{Problem}
 use Rattle.ctt_text.specs.declared.placed.Placed.{Placed}

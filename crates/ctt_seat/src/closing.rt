@@ -1,4 +1,4 @@
-//! The end of a crew's desk, and the crew's report.
+//! The end of a desk, and the report of its planners' answers.
 
 ghost use Rattle.std.specs.Prelude.{◌≡◌, IfOk, map, string_bytes};
 ghost use Rattle.ctt_rules.specs.declared.cost.Cost.{Cost};

@@ -1,4 +1,4 @@
-//! A planner of a crew, with or without an open draft, and the answers that he gets.
+//! A planner at his seat, with or without an open draft, and the answers that he gets.
 
 ghost use Rattle.std.specs.Prelude.{ℕ, ◌≡◌, ◌++◌, IfErr, OnOk, string_bytes};
 ghost use Rattle.ctt_edits.specs.Calls.{CallFits};
@@ -28,7 +28,7 @@ pub enum Seat<'i, S: Timetable, J: Naming> {
     Drafting(Drafting<'i, S, J>),
 }
 
-/// The answer to a planner of a crew.
+/// The answer to a planner.
 #[derive(Drop)]
 pub enum Told {
     /// An answer that a single-threaded desk gives as well.

@@ -11,7 +11,7 @@ use ctt_text::Instance;
 use std::alloc::AllocError;
 use std::fmt::Write;
 
-/// Appends the line that answers a planner of a crew.
+/// Appends the line that answers a planner.
 #[inline(always)]
 pub fn write_told(text: &mut String, instance: &Instance, told: &Told) -> Result<(), AllocError>
     requires { ToldFits instance.now told.now }
