@@ -3,8 +3,8 @@
 ghost use Rattle.std.specs.Prelude.{◌≡◌, ◌≤◌, ◌++◌, ◌∷◌, [], length, IfErr, IfOk, IsOkAnd, OnOk, map, zip, string_bytes};
 ghost use Rattle.ctt_desk.specs.Names.{IsNamed};
 ghost use Rattle.ctt_desk.specs.Planners.{new_planners};
-ghost use Rattle.ctt_crew.specs.CrewText.{IsCrewFault, added_fault};
-ghost use Rattle.ctt_crew.specs.Attended.{AreAttended, IsAttended, IsCrewText};
+ghost use Rattle.ctt_seat.specs.Attended.{AreAttended, IsAttended, IsCrewText};
+ghost use Rattle.ctt_crew.specs.CrewFaults.{IsCrewFault, added_fault};
 ghost use Rattle.ctt_crew.specs.declared.crew_fault.CrewFault.TheVariants as crew_fault;
 
 use crate::attending::{Attendance, GridAttendance, Promised, attend_on_grid};

@@ -4,7 +4,7 @@ ghost use Rattle.std.specs.Prelude.{◌≡◌, ◌≢◌, ◌⊎◌, ℕ, true, 
 ghost use Rattle.std.specs.Io.KnownBytes.{Appends};
 ghost use Rattle.ctt_devices.specs.Output.{AppendsFront};
 ghost use Rattle.ctt_office.specs.Lines.{Comes, Gives, ReaderValue, coming};
-ghost use Rattle.ctt_crew.specs.Attended.{leaver};
+ghost use Rattle.ctt_seat.specs.Attended.{leaver};
 ghost use Rattle.ctt_office.specs.Pages.{HasFailed, IsInMinutes};
 ghost use Rattle.ctt_office.specs.Ended.{EndedFits};
 ghost use Rattle.ctt_office.specs.SeatAnswers.{IsAnswer, IsUncommitted, Tells};

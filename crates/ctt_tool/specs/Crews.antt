@@ -3,7 +3,7 @@ use Rattle.std.specs.Prelude.{◌≡◌, ◌≤◌, ℕ, List, [], length, Optio
 use Rattle.std.specs.Global.{Global}
 use Rattle.std.specs.declared.string.String.{String}
 use Rattle.ctt_text.specs.Problem.{Problem}
-use Rattle.ctt_crew.specs.Attended.{IsCrewText}
+use Rattle.ctt_seat.specs.Attended.{IsCrewText}
 use Rattle.ctt_files.specs.Answers.{IsTextAlone}
 use Rattle.ctt_files.specs.Texts.{Held, HoldInTurn, IsInstanceIn}
 use Rattle.ctt_files.specs.declared.outcome.Outcome.TheVariants.{Done}

@@ -1,7 +1,7 @@
 //! The command `crew`.
 
 ghost use Rattle.std.specs.Prelude.{◌≡◌, ◌≤◌, ◌<◌, ℕ, List, [], Err, length, map, IfOk, IfErr};
-ghost use Rattle.ctt_crew.specs.Attended.{IsCrewText};
+ghost use Rattle.ctt_seat.specs.Attended.{IsCrewText};
 ghost use Rattle.ctt_files.specs.Refusals.{IsOfInstanceOr};
 ghost use Rattle.ctt_files.specs.Texts.{HoldInTurn};
 ghost use Rattle.ctt_files.specs.declared.fault.Fault.TheVariants.{TooManyScripts};

@@ -2,7 +2,7 @@ use Rattle.std.proofs.Common.{rules, subst}
 use Rattle.ctt_edits.specs.Calls.{CallFits}
 use Rattle.ctt_edits.specs.Looks.{LookFits}
 use Rattle.ctt_core.specs.Runs.{EventFits}
-use Rattle.ctt_crew.proofs.seat.Seat.take.Goals as goal
+use Rattle.ctt_seat.proofs.seat.Seat.take.Goals as goal
 
 pub show-requires : goal.show-requires
 show-requires g c κs =

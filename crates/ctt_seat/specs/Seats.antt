@@ -1,4 +1,4 @@
--- A planner of a crew: how each event is answered, and the seat that it leaves.
+-- A planner at a seat: how each event is answered, and the seat that it leaves.
 use Rattle.std.specs.Prelude.{◌≡◌, ◌⊎◌, ◌++◌, ℕ, List, [], length, Option, Some, None, Result, Ok, Err}
 use Rattle.ctt_text.specs.Problem.{Problem}
 use Rattle.ctt_text.specs.declared.placed.Placed.{Placed}
@@ -21,13 +21,13 @@ use Rattle.ctt_desk.specs.declared.refusal.RefreshRefusal.{RefreshRefusal}
 use Rattle.ctt_desk.specs.declared.refusal.RefreshRefusal.TheVariants as unrefreshed
 use Rattle.ctt_desk.specs.declared.shared_fault.SharedFault.{SharedFault}
 use Rattle.ctt_script.specs.AnswerText.{bad_line}
-use Rattle.ctt_crew.specs.CrewText.{told_unread, told_words}
+use Rattle.ctt_seat.specs.CrewText.{told_unread, told_words}
 use Rattle.ctt_line.specs.Lines.{line}
 use Rattle.ctt_script.specs.WrittenText.{entry_text}
-use Rattle.ctt_crew.specs.declared.seat.Seat.{Seat}
-use Rattle.ctt_crew.specs.declared.seat.Seat.TheVariants.{Free, Drafting}
-use Rattle.ctt_crew.specs.declared.seat.Told.{Told}
-use Rattle.ctt_crew.specs.declared.seat.Told.TheVariants.{Answer as Answered, NotYours, NoPlace, Stale}
+use Rattle.ctt_seat.specs.declared.seat.Seat.{Seat}
+use Rattle.ctt_seat.specs.declared.seat.Seat.TheVariants.{Free, Drafting}
+use Rattle.ctt_seat.specs.declared.seat.Told.{Told}
+use Rattle.ctt_seat.specs.declared.seat.Told.TheVariants.{Answer as Answered, NotYours, NoPlace, Stale}
 
 -- he gets this answer, and the seat is unchanged
 abbrev pub IsTold : {X Y : Type 0} → Seat X Y → Seat X Y → Told → Told → Type 0

@@ -1,12 +1,12 @@
-//! A planner of a crew, with or without an open draft, and the answers that he gets.
+//! A planner at his seat, with or without an open draft, and the answers that he gets.
 
 ghost use Rattle.std.specs.Prelude.{ℕ, ◌≡◌, ◌++◌, IfErr, OnOk, string_bytes};
 ghost use Rattle.ctt_edits.specs.Calls.{CallFits};
 ghost use Rattle.ctt_edits.specs.Looks.{LookFits};
 ghost use Rattle.ctt_core.specs.Runs.{EventFits};
-ghost use Rattle.ctt_crew.specs.CrewText.{ToldFits, told_unread};
-ghost use Rattle.ctt_crew.specs.Attended.{leaver};
-ghost use Rattle.ctt_crew.specs.Seats.{Abandons, Asks, Commits, Opens, Peeks, Refreshes, Shows, States, Takes, Views, draft_text, open_entry, told_of};
+ghost use Rattle.ctt_seat.specs.CrewText.{ToldFits, told_unread};
+ghost use Rattle.ctt_seat.specs.Attended.{leaver};
+ghost use Rattle.ctt_seat.specs.Seats.{Abandons, Asks, Commits, Opens, Peeks, Refreshes, Shows, States, Takes, Views, draft_text, open_entry, told_of};
 
 use ctt_board::{Sheet, Timetable};
 use ctt_core::{Answer, Event};
@@ -28,7 +28,7 @@ pub enum Seat<'i, S: Timetable, J: Naming> {
     Drafting(Drafting<'i, S, J>),
 }
 
-/// The answer to a planner of a crew.
+/// The answer to a planner.
 #[derive(Drop)]
 pub enum Told {
     /// An answer that a single-threaded desk gives as well.

@@ -5,7 +5,7 @@ use Rattle.ctt_core.specs.Runs.{after}
 use Rattle.ctt_desk.specs.Planners.{IsStatus}
 use Rattle.ctt_script.specs.Entries.{RowFits}
 use Rattle.ctt_script.proofs.AnswersFit.{stale_fits}
-use Rattle.ctt_crew.proofs.seat.Seat.status.Goals as goal
+use Rattle.ctt_seat.proofs.seat.Seat.status.Goals as goal
 
 pub returns-in-Ok-clause-fits : goal.returns-in-Ok-clause-fits
 returns-in-Ok-clause-fits g c =

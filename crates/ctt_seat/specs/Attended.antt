@@ -1,5 +1,5 @@
 -- How a planner follows his script, and the report of a crew.
-use Rattle.std.specs.Prelude.{◌≡◌, ◌++◌, ◌∷◌, ℕ, All, List, [], filter, length, map, zip, Option}
+use Rattle.std.specs.Prelude.{◌≡◌, ◌∷◌, ℕ, All, List, [], filter, length, map, zip, Option}
 use mathlib.Core.List.{IsPrefix}
 use Rattle.ctt_text.specs.Problem.{Problem}
 use Rattle.ctt_text.specs.declared.placed.Placed.{Placed}
@@ -8,10 +8,10 @@ use Rattle.ctt_core.specs.declared.event.Event.{Event}
 use Rattle.ctt_core.specs.declared.journal.JournalEntry.{JournalEntry}
 use Rattle.ctt_desk.specs.Planners.{PlannerValue, new_planners}
 use Rattle.ctt_script.specs.ScriptText.{has_words, lines_of, own_item}
-use Rattle.ctt_crew.specs.CrewText.{closing_text}
-use Rattle.ctt_crew.specs.Seats.{AnswersLine}
-use Rattle.ctt_crew.specs.declared.seat.Seat.{Seat}
-use Rattle.ctt_crew.specs.declared.seat.Seat.TheVariants.{Free, Drafting}
+use Rattle.ctt_seat.specs.CrewText.{closing_text}
+use Rattle.ctt_seat.specs.Seats.{AnswersLine}
+use Rattle.ctt_seat.specs.declared.seat.Seat.{Seat}
+use Rattle.ctt_seat.specs.declared.seat.Seat.TheVariants.{Free, Drafting}
 
 -- the items of a planner's script: for each line with words, the event that it asks for, if any
 abbrev pub own_items : Problem → ℕ → List (List ℕ) → List (Option Event)
@@ -31,11 +31,6 @@ leaver (Drafting d) = d.planner
 abbrev pub Attends : {X Y : Type 0} → Problem → List Placed → List ℕ → Seat X Y → PlannerValue → List ℕ → Type 0
 Attends {X} {Y} i t0 script before q text = (after : Seat X Y) × AnswersItems i t0 (own_items i (leaver before).number (lines_of script)) before after [] text × (q ≡ leaver after)
 
--- the loop's invariant: what answers the lines in left, from this seat and text, completes the
--- answers to all lines from the first seat
-abbrev pub IsAttending : {X Y : Type 0} → Problem → List Placed → ℕ → List (List ℕ) → List (List ℕ) → Seat X Y → Seat X Y → List ℕ → Type 0
-IsAttending {X} {Y} i t0 p all left before seat text = (after : Seat X Y) (new : List ℕ) → AnswersItems i t0 (own_items i p left) seat after text new → AnswersItems i t0 (own_items i p all) before after [] new
-
 -- the planner, without an open draft, follows his script: text is the answers, and he leaves as q
 abbrev pub IsAttended : Problem → List Placed → PlannerValue × List ℕ → PlannerValue → List ℕ → Type 0
 IsAttended i t0 who q text = Attends {X = Unit {0}} {Y = Unit {0}} i t0 who.1 (Free who.0) q text
@@ -45,11 +40,6 @@ abbrev pub AreAttended : Problem → List Placed → List (PlannerValue × List 
 AreAttended i t0 [] [] [] = Unit {0}
 AreAttended i t0 (who ∷ more) (q ∷ others) (text ∷ texts) = IsAttended i t0 who q text × AreAttended i t0 more others texts
 AreAttended i t0 _ _ _ = ⊥
-
--- the loop's invariant: these planners as they left and these answers, followed by those of the
--- planners in left, are those of all
-abbrev pub AreAttending : Problem → List Placed → List (PlannerValue × List ℕ) → List (PlannerValue × List ℕ) → List PlannerValue → List (List ℕ) → Type 0
-AreAttending i t0 all left planners texts = (others : List PlannerValue) (more : List (List ℕ)) → AreAttended i t0 left others more → AreAttended i t0 all (planners ++ others) (texts ++ more)
 
 -- the report has these answers, the length of a legal history on the opening, and the costs of the
 -- opening after it; the history begins with all that each planner has seen

@@ -1,7 +1,7 @@
 use Rattle.std.proofs.Common.{◌∙◌, ap, length, map, string_bytes}
 use Rattle.std.proofs.lemmas.Result.{IfOk-weaker}
-use Rattle.ctt_crew.specs.CrewText.{crew_text}
-use Rattle.ctt_crew.proofs.closing.closing_report.Goals as goal
+use Rattle.ctt_seat.specs.CrewText.{crew_text}
+use Rattle.ctt_seat.proofs.closing.closing_report.Goals as goal
 
 pub returns-clause-text : goal.returns-clause-text
 returns-clause-text g c = IfOk-weaker c.crew_report.result _ _ (λ text is. is

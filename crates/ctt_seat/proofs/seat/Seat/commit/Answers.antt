@@ -4,7 +4,7 @@ use Rattle.ctt_core.specs.Runs.{after}
 use Rattle.ctt_desk.specs.Histories.{IsHis}
 use Rattle.ctt_desk.specs.Planners.{IsStale}
 use Rattle.ctt_script.proofs.AnswersFit.{stale_row_fits}
-use Rattle.ctt_crew.proofs.seat.Seat.commit.Goals as goal
+use Rattle.ctt_seat.proofs.seat.Seat.commit.Goals as goal
 
 pub returns-in-Err-Stale-clause-fits : goal.returns-in-Err-Stale-clause-fits
 returns-in-Err-Stale-clause-fits g c =
