@@ -8,9 +8,8 @@ ghost use Rattle.ctt_reports.specs.Views.{PrintsPage, PrintsWeek};
 use crate::subject::fetch_subject;
 use ctt_devices::Sink;
 use ctt_files::{Fault, Files, print};
-use ctt_page::page_text;
 use ctt_text::let_go;
-use ctt_week::week_text;
+use ctt_views::{page_text, week_text};
 use ctt_words::Whose;
 use std::alloc::Global;
 
