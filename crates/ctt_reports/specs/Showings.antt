@@ -9,9 +9,9 @@ use Rattle.ctt_files.specs.Texts.{Held}
 use Rattle.ctt_files.specs.declared.fault.Fault.{Fault}
 use Rattle.ctt_files.specs.declared.outcome.Outcome.TheVariants.{Done}
 use Rattle.ctt_files.specs.declared.printed.Printed.{Printed}
-use Rattle.ctt_page.specs.Page.{IsPage}
-use Rattle.ctt_week.specs.Week.{week}
-use Rattle.ctt_week.specs.declared.selection.Selection.{Selection}
+use Rattle.ctt_views.specs.Page.{IsPage}
+use Rattle.ctt_views.specs.Week.{week}
+use Rattle.ctt_views.specs.declared.selection.Selection.{Selection}
 use Rattle.ctt_words.specs.declared.job.Showing.{Showing}
 use Rattle.ctt_words.specs.declared.job.Showing.TheVariants.{Page, Report, Week}
 use Rattle.ctt_words.specs.declared.job.Whose.{Whose}

@@ -3,16 +3,15 @@
 ghost use Rattle.std.specs.Prelude.{◌≡◌, None, IfOk, IfErr};
 ghost use Rattle.ctt_files.specs.Answers.{IsTextAlone};
 ghost use Rattle.ctt_files.specs.declared.outcome.Outcome.TheVariants.{Done};
-ghost use Rattle.ctt_page.specs.Page.{IsPage};
-ghost use Rattle.ctt_week.specs.Week.{week};
+ghost use Rattle.ctt_views.specs.Page.{IsPage};
+ghost use Rattle.ctt_views.specs.Week.{week};
 ghost use Rattle.ctt_reports.specs.Refusals.{IsOfPage, IsOfWeek};
 ghost use Rattle.ctt_reports.specs.Subjects.{Shows};
 
 use crate::subject::fetch_subject;
 use ctt_files::{Fault, Files, Outcome, Printed};
-use ctt_page::page_text;
 use ctt_text::let_go;
-use ctt_week::week_text;
+use ctt_views::{page_text, week_text};
 use ctt_words::Whose;
 use std::alloc::Global;
 

@@ -1,5 +1,5 @@
 use Rattle.std.proofs.Common.{◌≡◌, ◌∙◌, ap, string_bytes, subst, sym}
-use Rattle.ctt_page.specs.Page.{IsPage}
+use Rattle.ctt_views.specs.Page.{IsPage}
 use Rattle.ctt_reports.proofs.looking.answer_page.Goals as goal
 
 pub returns-clause-shows : goal.returns-clause-shows

@@ -1,5 +1,5 @@
 use Rattle.std.proofs.Common.{◌≡◌, ◌∙◌, ap, string_bytes}
-use Rattle.ctt_week.specs.Week.{week}
+use Rattle.ctt_views.specs.Week.{week}
 use Rattle.ctt_reports.proofs.looking.answer_week.Goals as goal
 
 pub returns-clause-shows : goal.returns-clause-shows
