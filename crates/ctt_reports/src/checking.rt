@@ -4,7 +4,7 @@ ghost use Rattle.std.specs.Prelude.{◌≡◌, ◌⊎◌, ◌++◌, ℕ, List, t
 ghost use Rattle.std.specs.Io.KnownBytes.{Appends};
 ghost use Rattle.ctt_text.specs.Timetable.{IsTimetable};
 ghost use Rattle.ctt_findings.specs.Findings.{findings};
-ghost use Rattle.ctt_devices.specs.Output.{AppendsFront};
+ghost use Rattle.ctt_files.specs.Output.{AppendsFront};
 ghost use Rattle.ctt_files.specs.Faults.{IfUnwritten};
 ghost use Rattle.ctt_files.specs.declared.fault.Fault.TheVariants.{NoMemory as OutOfMemory};
 ghost use Rattle.ctt_reports.specs.Checks.{IsChecked, IsExplained, IsJudged, IsReport, PrintsFront, PrintsReport, found_texts};
@@ -13,8 +13,7 @@ ghost use Rattle.ctt_reports.specs.Refusals.{IsOfCheck, MayHaveTold};
 use crate::judging::judge;
 use crate::subject::fetch_subject;
 use crate::told::tell;
-use ctt_devices::Sink;
-use ctt_files::{Fault, Files, Outcome, print};
+use ctt_files::{Fault, Files, Outcome, Sink, print};
 use ctt_findings::{report_around, report_json, report_text};
 use ctt_text::{Instance, NoMemory, Placed, let_go};
 use std::alloc::Global;

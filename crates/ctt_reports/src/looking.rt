@@ -6,8 +6,7 @@ ghost use Rattle.ctt_reports.specs.Refusals.{IsOfPage, IsOfWeek};
 ghost use Rattle.ctt_reports.specs.Views.{PrintsPage, PrintsWeek};
 
 use crate::subject::fetch_subject;
-use ctt_devices::Sink;
-use ctt_files::{Fault, Files, print};
+use ctt_files::{Fault, Files, Sink, print};
 use ctt_page::page_text;
 use ctt_text::let_go;
 use ctt_week::week_text;

@@ -6,8 +6,7 @@ ghost use Rattle.ctt_reports.specs.Showings.{IsOfShowing, ShowsSolution};
 
 use crate::checking::check;
 use crate::looking::{page, week};
-use ctt_devices::Sink;
-use ctt_files::{Fault, Files, Outcome};
+use ctt_files::{Fault, Files, Outcome, Sink};
 use ctt_words::Showing;
 use std::alloc::Global;
 

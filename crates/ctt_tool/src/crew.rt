@@ -13,8 +13,7 @@ ghost use Rattle.ctt_tool.specs.Refusals.{IsOfCrew, IsOfCrewWork, IsOfScripts};
 
 use crate::printed::print_last;
 use ctt_crew::{CrewFault, NoGate};
-use ctt_devices::Sink;
-use ctt_files::{Fault, Files, Outcome, fetch_instance, read_files};
+use ctt_files::{Fault, Files, Outcome, Sink, fetch_instance, read_files};
 use ctt_script::PLANNERS;
 use ctt_text::{Instance, let_go};
 use std::alloc::Global;

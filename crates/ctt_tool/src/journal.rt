@@ -9,8 +9,7 @@ ghost use Rattle.ctt_tool.specs.Lists.{IsRecoveredJournal, PrintsEntries, Prints
 ghost use Rattle.ctt_tool.specs.Refusals.{IsNoMinutes, IsOfMinutes, IsOfRecovery};
 
 use crate::refused::refused_journal;
-use ctt_devices::Sink;
-use ctt_files::{Fault, Files, Outcome, complain, fetch_instance, print, read_file};
+use ctt_files::{Fault, Files, Outcome, Sink, complain, fetch_instance, print, read_file};
 use ctt_office::read_blocks;
 use ctt_script::write_journal;
 use ctt_text::{Instance, let_go};

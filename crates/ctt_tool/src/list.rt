@@ -11,8 +11,7 @@ ghost use Rattle.ctt_tool.specs.Refusals.{IsLeftFault, IsOfAudit, IsOfAudited};
 use crate::audit::{fetch_entries, print_verdict};
 use ctt_board::{GridSheet, Sheet};
 use ctt_core::{JournalEntry, NoList, list_after};
-use ctt_devices::Sink;
-use ctt_files::{Fault, Files, Outcome, fetch_instance, fetch_start, print};
+use ctt_files::{Fault, Files, Outcome, Sink, fetch_instance, fetch_start, print};
 use ctt_text::{Instance, Placed, let_go, write_solution};
 use std::alloc::Global;
 

@@ -8,8 +8,7 @@ ghost use Rattle.ctt_tool.specs.Mends.{PrintsMended, PrintsMendedOf, SaysAside, 
 ghost use Rattle.ctt_tool.specs.Refusals.{IsOfMending};
 
 use ctt_board::{GridSheet, Sheet};
-use ctt_devices::Sink;
-use ctt_files::{Fault, Files, Outcome, complain, fetch_instance, fetch_solution, print};
+use ctt_files::{Fault, Files, Outcome, Sink, complain, fetch_instance, fetch_solution, print};
 use ctt_mend::mend as mend_lectures;
 use ctt_text::{Instance, let_go};
 use std::alloc::Global;

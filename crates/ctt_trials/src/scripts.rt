@@ -10,7 +10,7 @@ use crate::journals::tell_journal;
 use crate::story::Story;
 use ctt_board::GridSheet;
 use ctt_core::Desk;
-use ctt_devices::Device;
+use ctt_files::Device;
 use ctt_script::{ScriptFault, run_script};
 use ctt_text::let_go;
 
