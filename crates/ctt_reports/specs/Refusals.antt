@@ -8,7 +8,7 @@ use Rattle.ctt_files.specs.Refusals.{IsOfInstanceOr, IsOfSolution}
 use Rattle.ctt_files.specs.Texts.{Held}
 use Rattle.ctt_files.specs.declared.fault.Fault.{Fault}
 use Rattle.ctt_files.specs.declared.fault.Fault.TheVariants.{CannotWrite, NoCourse, NoCurriculum, NoRoom, NoTeacher}
-use Rattle.ctt_week.specs.declared.selection.Selection.{Selection}
+use Rattle.ctt_views.specs.declared.selection.Selection.{Selection}
 use Rattle.ctt_words.specs.declared.job.Whose.{Whose}
 use Rattle.ctt_words.specs.declared.job.Whose.TheVariants.{Course, Curriculum, Room, Teacher}
 use Rattle.ctt_reports.specs.Subjects.{IsSelection, numbered}

@@ -5,8 +5,8 @@ use Rattle.std.specs.declared.string.String.{String}
 use Rattle.ctt_text.specs.Problem.{Problem, number_in}
 use Rattle.ctt_text.specs.declared.placed.Placed.{Placed}
 use Rattle.ctt_files.specs.Texts.{Held, Holds, IsInstanceIn, IsSolutionText}
-use Rattle.ctt_week.specs.declared.selection.Selection.{Selection}
-use Rattle.ctt_week.specs.declared.selection.Selection.TheVariants as number
+use Rattle.ctt_views.specs.declared.selection.Selection.{Selection}
+use Rattle.ctt_views.specs.declared.selection.Selection.TheVariants as number
 use Rattle.ctt_words.specs.declared.job.Whose.{Whose}
 use Rattle.ctt_words.specs.declared.job.Whose.TheVariants as name
 

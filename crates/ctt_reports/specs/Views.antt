@@ -4,8 +4,8 @@ use Rattle.std.specs.Global.{Global}
 use Rattle.std.specs.Io.KnownBytes.{Appends}
 use Rattle.std.specs.declared.string.String.{String}
 use Rattle.ctt_files.specs.Texts.{Held}
-use Rattle.ctt_page.specs.Page.{IsPage}
-use Rattle.ctt_week.specs.Week.{week}
+use Rattle.ctt_views.specs.Page.{IsPage}
+use Rattle.ctt_views.specs.Week.{week}
 use Rattle.ctt_words.specs.declared.job.Whose.{Whose}
 use Rattle.ctt_reports.specs.Subjects.{Shows}
 

@@ -7,9 +7,8 @@ ghost use Rattle.ctt_reports.specs.Views.{PrintsPage, PrintsWeek};
 
 use crate::subject::fetch_subject;
 use ctt_files::{Fault, Files, Sink, print};
-use ctt_page::page_text;
 use ctt_text::let_go;
-use ctt_week::week_text;
+use ctt_views::{page_text, week_text};
 use ctt_words::Whose;
 use std::alloc::Global;
 

@@ -1,6 +1,6 @@
 use Rattle.std.proofs.Common.{None, refl, string_bytes, subst, sym}
 use Rattle.ctt_files.proofs.Plain.{on_ok_weaker, passed_plain}
-use Rattle.ctt_page.specs.Page.{IsPage}
+use Rattle.ctt_views.specs.Page.{IsPage}
 use Rattle.ctt_reports.specs.Refusals.{IsOfPage}
 use Rattle.ctt_reports.proofs.LookLemmas.{look_plain}
 use Rattle.ctt_reports.proofs.looking.page.Goals as goal

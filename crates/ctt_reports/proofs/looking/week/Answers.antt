@@ -1,7 +1,7 @@
 use Rattle.std.proofs.Common.{◌≡◌, ◌∙◌, ℕ, List, refl, ap, subst}
 use Rattle.std.specs.Io.KnownBytes.{Appends}
 use Rattle.ctt_files.proofs.Plain.{on_ok_weaker, passed_plain}
-use Rattle.ctt_week.specs.Week.{week}
+use Rattle.ctt_views.specs.Week.{week}
 use Rattle.ctt_reports.specs.Refusals.{IsOfWeek}
 use Rattle.ctt_reports.proofs.LookLemmas.{look_plain}
 use Rattle.ctt_reports.proofs.looking.week.Goals as goal
