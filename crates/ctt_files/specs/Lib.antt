@@ -1,3 +1,5 @@
+pub mod Device
+pub mod Output
 pub mod Faults
 pub mod Files
 pub mod Outcomes

@@ -11,7 +11,7 @@ use crate::fault::Fault;
 use crate::files::Files;
 use crate::outcome::Outcome;
 use crate::output::{complain, print};
-use ctt_devices::Sink;
+use crate::sink::Sink;
 use std::alloc::Global;
 
 /// A file to store: its name and its contents.

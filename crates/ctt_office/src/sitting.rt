@@ -2,7 +2,7 @@
 
 ghost use Rattle.std.specs.Prelude.{◌≡◌, ◌≢◌, ◌⊎◌, ℕ, true, false, Err, IfErr, IfOk, OnErr, OnOk};
 ghost use Rattle.std.specs.Io.KnownBytes.{Appends};
-ghost use Rattle.ctt_devices.specs.Output.{AppendsFront};
+ghost use Rattle.ctt_files.specs.Output.{AppendsFront};
 ghost use Rattle.ctt_office.specs.Lines.{Comes, Gives, ReaderValue, coming};
 ghost use Rattle.ctt_seat.specs.Attended.{leaver};
 ghost use Rattle.ctt_office.specs.Pages.{HasFailed, IsInMinutes};
@@ -24,7 +24,7 @@ use crate::workplace::Workplace;
 use ctt_board::{Sheet, Timetable};
 use ctt_core::PlannerNo;
 use ctt_desk::{Naming, Planner, SharedDesk};
-use ctt_devices::{Failed, Sink, Source, put_whole};
+use ctt_files::{Failed, Sink, Source, put_whole};
 use ctt_grid::GridSheet;
 use ctt_text::{Instance, let_go};
 use std::alloc::Global;

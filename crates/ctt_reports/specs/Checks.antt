@@ -10,7 +10,7 @@ use Rattle.ctt_findings.specs.Lines.{line}
 use Rattle.ctt_findings.specs.Objects.{item_text}
 use Rattle.ctt_findings.specs.ReportText.{IsExplainedJson, IsExplainedText, IsJsonReport, IsTextReport}
 use Rattle.ctt_findings.specs.declared.finding.Finding.{Finding}
-use Rattle.ctt_devices.specs.Output.{AppendsFront}
+use Rattle.ctt_files.specs.Output.{AppendsFront}
 use Rattle.ctt_files.specs.Texts.{Held}
 use Rattle.ctt_files.specs.declared.outcome.Outcome.{Outcome}
 use Rattle.ctt_files.specs.declared.outcome.Outcome.TheVariants.{Differs, Done, Incomplete, Unlawful}

@@ -13,7 +13,7 @@ ghost use Rattle.ctt_core.specs.declared.desk_fault.DeskFault.TheVariants as des
 ghost use Rattle.ctt_script.specs.AnswerText.{answer_text, script_run};
 ghost use Rattle.ctt_script.specs.Answering.{Answered, IsAtRun, Wrote, WroteFront};
 ghost use Rattle.ctt_script.specs.Entries.{IsWritable};
-ghost use Rattle.ctt_devices.specs.Output.{AppendsFront};
+ghost use Rattle.ctt_files.specs.Output.{AppendsFront};
 ghost use Rattle.ctt_script.specs.RunFaults.{IsCauseOf, MayHaveWritten};
 ghost use Rattle.ctt_script.specs.ScriptText.{items_of, script};
 ghost use Rattle.ctt_script.specs.declared.script_fault.ScriptFault.TheVariants as script_fault;

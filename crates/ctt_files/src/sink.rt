@@ -2,7 +2,7 @@
 
 ghost use Rattle.std.specs.Prelude.{◌≡◌, ◌<◌, ◌≤◌, [], true, length, take, IfOk, OnOk, OnErr, string_bytes};
 ghost use Rattle.std.specs.Io.KnownBytes.{Appends, Keeps};
-ghost use Rattle.ctt_devices.specs.Output.{AppendsFront, AppendsPart, WritesOut};
+ghost use Rattle.ctt_files.specs.Output.{AppendsFront, AppendsPart, WritesOut};
 
 use crate::source::Failed;
 

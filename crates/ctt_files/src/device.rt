@@ -14,7 +14,7 @@ pub struct Device<T> {
 
 impl<T> Device<T> {
     ghost use Rattle.std.specs.Prelude.{◌≡◌, false, true};
-    ghost use Rattle.ctt_devices.specs.Device.{inner_of, is_marked, pulls_of};
+    ghost use Rattle.ctt_files.specs.Device.{inner_of, is_marked, pulls_of};
 
     /// Wraps a reader or writer, unmarked and with no reads counted.
     pub fn new(inner: T) -> Self
@@ -47,7 +47,7 @@ impl<T> Device<T> {
 }
 
 impl<T: Read> Source for Device<T> {
-    ghost use Rattle.ctt_devices.specs.Device.{inner_of, is_marked, pulls_of};
+    ghost use Rattle.ctt_files.specs.Device.{inner_of, is_marked, pulls_of};
 
     ghost has_failed = { is_marked };
 
@@ -68,7 +68,7 @@ impl<T: Read> Source for Device<T> {
 }
 
 impl<T: Write> Sink for Device<T> {
-    ghost use Rattle.ctt_devices.specs.Device.{inner_of, is_marked};
+    ghost use Rattle.ctt_files.specs.Device.{inner_of, is_marked};
 
     ghost has_failed = { is_marked };
 

@@ -1,6 +1,6 @@
 -- What can be seen of a reader or a writer of std.
 use Rattle.std.specs.Prelude.{ℕ, Bool}
-use Rattle.ctt_devices.specs.declared.device.Device.{Device}
+use Rattle.ctt_files.specs.declared.device.Device.{Device}
 
 -- the reader or the writer itself
 abbrev pub inner_of : {T : Type 0} → Device T → T

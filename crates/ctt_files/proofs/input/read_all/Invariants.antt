@@ -1,6 +1,6 @@
 use Rattle.std.proofs.Common.{◌≡◌, ◌+◌, ◌-◌, ◌<◌, ◌≤◌, false, length}
 use Rattle.std.specs.Io.KnownBytes.{Consumes}
-use Rattle.ctt_devices.proofs.input.read_all.Given as goal
+use Rattle.ctt_files.proofs.input.read_all.Given as goal
 
 abbrev pub invariant-loop-n : goal.invariant-loop-n
 invariant-loop-n g l = record {

@@ -25,7 +25,7 @@ pub enum InputFault {
 
 impl From<AllocError> for InputFault {
     ghost use Rattle.std.specs.Prelude.{◌≡◌};
-    ghost use Rattle.ctt_devices.specs.declared.input.InputFault.TheVariants.{NoMemory};
+    ghost use Rattle.ctt_files.specs.declared.input.InputFault.TheVariants.{NoMemory};
 
     ghost from_gives = { λ _ fault. fault ≡ NoMemory };
 

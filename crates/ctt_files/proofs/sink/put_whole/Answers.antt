@@ -1,6 +1,6 @@
 use Rattle.std.proofs.KnownBytes.{Appends-kept}
-use Rattle.ctt_devices.proofs.OutputLemmas.{on_err, whole_front}
-use Rattle.ctt_devices.proofs.sink.put_whole.Goals as goal
+use Rattle.ctt_files.proofs.OutputLemmas.{on_err, whole_front}
+use Rattle.ctt_files.proofs.sink.put_whole.Goals as goal
 
 pub returns-clause-front : goal.returns-clause-front
 returns-clause-front g c =
