@@ -4,7 +4,7 @@ ghost use Rattle.std.specs.Prelude.{◌≡◌, ◌⊎◌, ◌++◌, ℕ, List, N
 ghost use Rattle.std.specs.Io.KnownBytes.{Appends};
 ghost use Rattle.ctt_text.specs.Timetable.{IsTimetable};
 ghost use Rattle.ctt_findings.specs.Findings.{findings};
-ghost use Rattle.ctt_devices.specs.Output.{AppendsFront};
+ghost use Rattle.ctt_files.specs.Output.{AppendsFront};
 ghost use Rattle.ctt_files.specs.Answers.{IsTextAlone};
 ghost use Rattle.ctt_files.specs.Faults.{IfUnwritten, MayHaveWritten};
 ghost use Rattle.ctt_files.specs.declared.fault.Fault.TheVariants.{NoMemory as OutOfMemory};
@@ -15,8 +15,7 @@ ghost use Rattle.ctt_reports.specs.Subjects.{Shows};
 use crate::judging::judge;
 use crate::subject::fetch_subject;
 use crate::told::tell;
-use ctt_devices::Sink;
-use ctt_files::{Fault, Files, Outcome, Printed, print};
+use ctt_files::{Fault, Files, Outcome, Printed, Sink, print};
 use ctt_findings::{report_around, report_json, report_text};
 use ctt_text::{Instance, NoMemory, Placed, let_go};
 use std::alloc::Global;

@@ -24,7 +24,7 @@ use crate::script::{PLANNERS, has_words, read_line};
 use crate::script_fault::ScriptFault;
 use ctt_board::Sheet;
 use ctt_core::{Answer, Desk, Event};
-use ctt_devices::{INPUT_LIMIT, Sink, Source, put_long, put_whole, read_all};
+use ctt_files::{INPUT_LIMIT, Sink, Source, put_long, put_whole, read_all};
 use ctt_grid::GridSheet;
 use ctt_text::{Instance, NoMemory, Placed, let_go};
 use std::alloc::Global;

@@ -19,8 +19,7 @@ ghost use Rattle.ctt_tool.specs.Runs.{RunsOn, RunsScript};
 
 use crate::refused::refused_opening;
 use ctt_core::{Desk, JournalEntry};
-use ctt_devices::{Sink, Source};
-use ctt_files::{Fault, Files, Outcome, fetch_instance, fetch_start};
+use ctt_files::{Fault, Files, Outcome, Sink, Source, fetch_instance, fetch_start};
 use ctt_grid::GridSheet;
 use ctt_script::{ScriptFault, run_script, write_journal};
 use ctt_text::{Instance, Placed, let_go};
