@@ -101,10 +101,12 @@ fn stream<R: Threads + Wait + Sync, F: Files, O: Office, W: Sink, V: Sink>(
         ⊎ WarnsOfTask task (V.taken err.old) (V.taken err.new))) }
 {
     match task {
-        Task::Show {
-            solution,
-            showing: Showing::Report { json, strict, .. },
-        } => explain(alloc, files, out, instance, barred, solution, json, strict),
+        Task::Show { solution, showing } => match showing {
+            Showing::Report { json, strict, .. } => explain(
+                alloc, files, out, instance, barred, solution, json, strict,
+            ),
+            _ => unreachable!(),
+        },
         Task::Run {
             script,
             start,
