@@ -45,7 +45,7 @@ letter_size=4
 lecture_size=6
 call_size=64
 # the solutions that the trials read to their end
-solutions=23
+solutions=0
 head -n 4 s.sol >s0.sol
 printf '%s\n' 'journal 1' 'entry 0 2' 'place top A 0 1' 'refused roomtaken geo' 'slot 0 0' 'lectures 1 alg A 0 0' END. >told
 echo 'Barred: 2 alg A top A END.' >barred

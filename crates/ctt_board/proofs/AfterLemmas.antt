@@ -13,13 +13,11 @@ use Rattle.std.proofs.lemmas.List.Sums.{length-filter}
 use Rattle.ctt_rules.proofs.SumLemmas.{count_by-cons}
 use Rattle.ctt_rules.proofs.TimetableLemmas.{few_lectures}
 use Rattle.ctt_board.specs.Changes.{course_named, room_at, holder_at, held_here, holder_by, is_added, is_removed, apply_at, apply, in_turn, CellFits, CellsFit}
-use Rattle.ctt_board.specs.Joining.{IsMore}
+use Rattle.ctt_board.proofs.MoreLemmas.{IsMore, counted_more, more_with, more_without}
 use Rattle.ctt_board.specs.declared.cell.Cell.{Cell}
 use Rattle.ctt_board.proofs.BetweenLemmas.{next_lawful, turn_rest, some_room}
 use Rattle.ctt_board.proofs.LawfulLemmas.{length-filter_le}
-use Rattle.ctt_board.proofs.CountedLemmas.{counted_more}
 use Rattle.ctt_board.proofs.HolderLemmas.{Apart, is_in, holder_is, holder_with, holder_without, removed_back}
-use Rattle.ctt_board.proofs.MoreLemmas.{more_with, more_without}
 use Rattle.ctt_board.proofs.RoomLemmas.{is_at, room_is}
 
 -- what is found by its course is somewhere

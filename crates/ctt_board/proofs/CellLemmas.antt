@@ -1,54 +1,56 @@
--- A change, made cell by cell.
-use Rattle.std.proofs.Common.{◌≡◌, ℕ, ◌+◌, ◌<◌, ◌≤◌, Bool, true, false, List, [], ◌∷◌, drop, length, get_or, Option, Some, None, refl, sym, ap, subst, ◌∙◌, arith, is_some}
-use Rattle.std.proofs.lemmas.List.{drop_more}
-use Rattle.ctt_text.specs.Timetable.{before}
+-- A timetable is the list of its cells.
+use Rattle.std.proofs.Common.{◌≡◌, ℕ, zero, suc, ◌<◌, ◌≤◌, true, false, ◌==◌, ltb, List, ◌++◌, ◌+◌, Option, refl, ◌∙◌, sym, ap₂, arith}
+use Rattle.std.specs.List.{filter, AllByRecursion as Each}
+use Rattle.std.proofs.lemmas.Bool.{lt-ltb, le-ltb}
+use Rattle.std.proofs.lemmas.Bool.Decides.{nat_tests}
+use Rattle.ctt_text.specs.Problem.{Problem, course_count, slot_count}
+use Rattle.ctt_text.specs.Timetable.{before, IsTimetable, Fits, course_row, slot_row}
 use Rattle.ctt_text.specs.declared.placed.Placed.{Placed}
-use Rattle.ctt_board.specs.Changes.{apply, apply_at, in_turn}
-use Rattle.ctt_board.specs.declared.cell.Cell.{Cell}
-use Rattle.ctt_board.proofs.PutLemmas.{length-put}
+use Rattle.ctt_text.proofs.TimetableLemmas.{Each-map}
+use Rattle.ctt_rules.proofs.ListLemmas.{Pairwise-map, filter_none, filter_every, Each-filter, Pairwise-filter, Each-filter_passes}
+use Rattle.ctt_rules.proofs.TimetableLemmas.{row_by_slot}
+use Rattle.ctt_board.specs.Changes.{room_at}
+use Rattle.ctt_board.specs.Cells.{lecture_at, row_below, rows_below, column_below}
+use Rattle.ctt_board.proofs.PutLemmas.{filter_filter}
+use Rattle.ctt_board.proofs.RowLemmas.{split_at, one_slot, course_row_is}
 
--- additions alone make a timetable no shorter
-additions : (cells : List Cell) (t : List Placed) → in_turn true cells ≡ true → length t ≤ length (apply cells t)
-additions [] t h = omega arith
-additions (x ∷ xs) t h = at x.room h (additions xs)
-  where
-    at : (o : Option ℕ) → in_turn true (record { course = x.course; slot = x.slot; room = o } ∷ xs) ≡ true → ((u : List Placed) → in_turn true xs ≡ true → length u ≤ length (apply xs u)) → length t ≤ length (apply xs (apply_at x.course x.slot o t))
-    at None h more = cc
-    at (Some r) h more = omega (arith, more (apply_at x.course x.slot (Some r) t) h, length-put before (record { course = x.course; slot = x.slot; room = r }) t)
+rows_are : (i : Problem) (t : List Placed) (n : ℕ) → IsTimetable i t → filter (λ l. ltb l.course n) t ≡ rows_below (λ c s. room_at c s t) (slot_count i) n
+rows_are i t zero h = filter_none (λ l. ltb l.course 0) t (Each-map (Fits i) (λ l. ltb l.course 0 ≡ false) (λ l k. le-ltb l.course 0 (omega arith)) t h.fits)
+rows_are i t (suc n) h =
+    split_at (λ (l : Placed). l.course) n t (Pairwise-map (λ a b. before a b ≡ true) (λ (a b : Placed). a.course ≤ b.course) (λ a b k. grind (arith, nat_tests)) t h.ascending)
+    ∙ ap₂ (λ a b. a ++ b) (rows_are i t n h) (course_row_is i t n h)
 
--- so there is capacity for the first of them
-pub room_for : (c s r : ℕ) (rest : List Cell) (t : List Placed) → in_turn true rest ≡ true → length t < length (apply rest (apply_at c s (Some r) t))
-room_for c s r rest t h = omega (arith, additions rest (apply_at c s (Some r) t) h, length-put before (record { course = c; slot = s; room = r }) t)
+-- a timetable is what its cells say
+pub timetable_is : (i : Problem) (t : List Placed) → IsTimetable i t → t ≡ rows_below (λ c s. room_at c s t) (slot_count i) (course_count i)
+timetable_is i t h =
+    let courses : Each (λ (l : Placed). ltb l.course (course_count i) ≡ true) t = Each-map (Fits i) (λ (l : Placed). ltb l.course (course_count i) ≡ true) (λ l f. lt-ltb l.course (course_count i) f.0) t h.fits in
+    sym (filter_every (λ (l : Placed). ltb l.course (course_count i)) t courses) ∙ rows_are i t (course_count i) h
 
--- what is said of cells after one that may have been an addition
-pub in_turn_later : (b : Bool) (cells : List Cell) → in_turn b cells ≡ true → in_turn false cells ≡ true
-in_turn_later false cells h = h
-in_turn_later true [] h = refl
-in_turn_later true (x ∷ xs) h = at x.room h
-  where
-    at : (o : Option ℕ) → in_turn true (record { course = x.course; slot = x.slot; room = o } ∷ xs) ≡ true → in_turn false (record { course = x.course; slot = x.slot; room = o } ∷ xs) ≡ true
-    at None h = cc
-    at (Some r) h = h
+-- cells that are the same list the same
+pub row_same : (f g : ℕ → Option ℕ) (c n : ℕ) → ((s : ℕ) → s < n → f s ≡ g s) → row_below f c n ≡ row_below g c n
+row_same f g c zero e = refl
+row_same f g c (suc n) e = ap₂ (λ a b. a ++ lecture_at c n b) (row_same f g c n (λ s lt. e s (omega (arith, lt)))) (e n (omega arith))
 
--- the next cell of a list, and those after it
-pub cell_at : (cells : List Cell) (k : ℕ) (x : Cell) → k < length cells → x ≡ get_or cells k x → drop k cells ≡ x ∷ drop (k + 1) cells
-cell_at cells k x lt is = drop_more cells k x lt ∙ ap (λ y. y ∷ drop (k + 1) cells) (sym is)
+pub rows_same : (f g : ℕ → ℕ → Option ℕ) (m n : ℕ) → ((c s : ℕ) → c < n → s < m → f c s ≡ g c s) → rows_below f m n ≡ rows_below g m n
+rows_same f g m zero e = refl
+rows_same f g m (suc n) e = ap₂ (λ a b. a ++ b) (rows_same f g m n (λ c s lt k. e c s (omega (arith, lt)) k)) (row_same (f n) (g n) n m (λ s lt. e n s (omega arith) lt))
 
-turn_at : (cells : List Cell) (k : ℕ) (x : Cell) → k < length cells → x ≡ get_or cells k x → in_turn false (drop k cells) ≡ true → in_turn (is_some x.room) (drop (k + 1) cells) ≡ true
-turn_at cells k x lt is h = subst (λ ys. in_turn false ys ≡ true) (cell_at cells k x lt is) h
+pub column_same : (s : ℕ) (f g : ℕ → Option ℕ) (n : ℕ) → ((c : ℕ) → c < n → f c ≡ g c) → column_below f s n ≡ column_below g s n
+column_same s f g zero e = refl
+column_same s f g (suc n) e = ap₂ (λ a b. a ++ lecture_at n s b) (column_same s f g n (λ c lt. e c (omega (arith, lt)))) (e n (omega arith))
 
--- the cells that are left after one more
-pub made_more : (cells : List Cell) (k : ℕ) (x : Cell) (t u : List Placed) → k < length cells → x ≡ get_or cells k x → apply (drop k cells) t ≡ u → apply (drop (k + 1) cells) (apply_at x.course x.slot x.room t) ≡ u
-made_more cells k x t u lt is h = sym (ap (λ ys. apply ys t) (cell_at cells k x lt is)) ∙ h
+-- the lectures in a slot, course by course
+module _ (i : Problem) (t : List Placed) (s : ℕ) (h : IsTimetable i t) where
+  pub one_course : (n : ℕ) → filter (λ l. l.course == n) (slot_row s t) ≡ lecture_at n s (room_at n s t)
+  one_course n = filter_filter (λ (l : Placed). l.course == n) (λ (l : Placed). l.slot == s) t ∙ one_slot n s (course_row n t) (Each-filter_passes (λ l. l.course == n) t) (row_by_slot n t h.ascending)
 
-pub turn_more : (cells : List Cell) (k : ℕ) (x : Cell) → k < length cells → x ≡ get_or cells k x → in_turn false (drop k cells) ≡ true → in_turn false (drop (k + 1) cells) ≡ true
-turn_more cells k x lt is h = in_turn_later (is_some x.room) (drop (k + 1) cells) (turn_at cells k x lt is h)
+  column_is : (n : ℕ) → filter (λ l. ltb l.course n) (slot_row s t) ≡ column_below (λ c. room_at c s t) s n
+  column_is zero = filter_none (λ l. ltb l.course 0) (slot_row s t) (Each-map (Fits i) (λ l. ltb l.course 0 ≡ false) (λ l k. le-ltb l.course 0 (omega arith)) (slot_row s t) (Each-filter (Fits i) (λ l. l.slot == s) t h.fits))
+  column_is (suc n) =
+      split_at (λ (l : Placed). l.course) n (slot_row s t) (Pairwise-map (λ a b. before a b ≡ true) (λ (a b : Placed). a.course ≤ b.course) (λ a b k. grind (arith, nat_tests)) (slot_row s t) (Pairwise-filter (λ a b. before a b ≡ true) (λ l. l.slot == s) t h.ascending))
+      ∙ ap₂ (λ a b. a ++ b) (column_is n) (one_course n)
 
--- there is capacity for an addition if there is for the timetable at the end
-pub room_now : (cells : List Cell) (k : ℕ) (x : Cell) (r : ℕ) (t u : List Placed) → k < length cells → x ≡ get_or cells k x → x.room ≡ Some r → apply (drop k cells) t ≡ u → in_turn false (drop k cells) ≡ true → length t < length u
-room_now cells k x r t u lt is some h turn =
-    let rest : List Cell = drop (k + 1) cells in
-    let next : apply rest (apply_at x.course x.slot (Some r) t) ≡ u = ap (λ o. apply rest (apply_at x.course x.slot o t)) (sym some) ∙ made_more cells k x t u lt is h in
-    let left : in_turn true rest ≡ true = ap (λ o. in_turn (is_some o) rest) (sym some) ∙ turn_at cells k x lt is turn in
-    let more : length t < length (apply rest (apply_at x.course x.slot (Some r) t)) = room_for x.course x.slot r rest t left in
-    omega (arith, ap length next)
+  pub slot_row_is : slot_row s t ≡ column_below (λ c. room_at c s t) s (course_count i)
+  slot_row_is =
+      let courses : Each (λ (l : Placed). ltb l.course (course_count i) ≡ true) (slot_row s t) = Each-map (Fits i) (λ (l : Placed). ltb l.course (course_count i) ≡ true) (λ l f. lt-ltb l.course (course_count i) f.0) (slot_row s t) (Each-filter (Fits i) (λ l. l.slot == s) t h.fits) in
+      sym (filter_every (λ (l : Placed). ltb l.course (course_count i)) (slot_row s t) courses) ∙ column_is (course_count i)

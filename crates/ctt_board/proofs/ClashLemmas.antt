@@ -1,33 +1,20 @@
 -- The courses that have a lecture in a slot, and the first of them that clashes.
 use Rattle.std.proofs.Common.{◌≡◌, ℕ, zero, suc, ◌<◌, Bool, true, false, cond, ◌&&◌, ◌==◌, ltb, List, [], ◌∷◌, Option, Some, None, is_some, refl, ◌∙◌, sym, ap, ap₂, subst, arith, inl, inr}
-use Rattle.std.specs.List.{find, list_any}
+use Rattle.std.specs.List.{find}
 use Rattle.std.specs.Option.{option_or}
 use Rattle.std.proofs.lemmas.Bool.{cases_Bool, cases_lt, lt-ltb, and_parts}
-use Rattle.std.proofs.lemmas.Bool.Decides.{nat_tests}
 use Rattle.std.proofs.lemmas.List.Folds.{find-append}
 use Rattle.ctt_text.specs.Marks.{IsLeast}
 use Rattle.ctt_text.specs.Problem.{Problem, course_count, clash}
-use Rattle.ctt_text.specs.Timetable.{has_lecture}
 use Rattle.ctt_text.specs.declared.placed.Placed.{Placed}
 use Rattle.ctt_rules.specs.Hard.{Lawful}
-use Rattle.ctt_board.specs.Cells.{lecture_at}
-use Rattle.ctt_board.specs.Changes.{room_at, room_of, room_by, course_named, clash_at, stands_by, apply_at, CellFits}
-use Rattle.ctt_board.specs.Grids.{column_below, AreStanding, HaveRows}
-use Rattle.ctt_text.specs.BitRows.{BitTable, is_marked_in, SetsMark}
+use Rattle.ctt_board.specs.Cells.{lecture_at, column_below}
+use Rattle.ctt_board.specs.Changes.{room_at, room_by, course_named, clash_at, stands_by}
 use Rattle.ctt_board.specs.declared.cell.Cell.{Cell}
 use Rattle.ctt_board.proofs.BetweenLemmas.{there_fits, some_room}
-use Rattle.ctt_board.proofs.GridLemmas.{slot_row_is}
-use Rattle.ctt_board.proofs.RoomLemmas.{is_at, room_is, room_after}
+use Rattle.ctt_board.proofs.CellLemmas.{slot_row_is}
 
--- a course has a lecture in a slot exactly if it has a room there
-pub stands_there : (c s : ℕ) (t : List Placed) → has_lecture c s t ≡ is_some (room_at c s t)
-stands_there c s t = any_found (is_at c s) t ∙ ap is_some (sym (room_is c s t))
-  where
-    any_found : (p : Placed → Bool) (xs : List Placed) → list_any p xs ≡ is_some (room_of (find p xs))
-    any_found p [] = refl
-    any_found p (x ∷ xs) = elim (cases_Bool (p x)) [ inl y ↦ rw y refl | inr n ↦ rw n (any_found p xs) ]
-
--- and after cells
+-- a course has a lecture in a slot after cells exactly if it has a room there then
 pub stands_by_room : (cells : List Cell) (c s : ℕ) (o : Option ℕ) → stands_by cells c s (is_some o) ≡ is_some (room_by cells c s o)
 stands_by_room [] c s o = refl
 stands_by_room (x ∷ xs) c s o = ap (stands_by xs c s) (inside (x.course == c && x.slot == s)) ∙ stands_by_room xs c s (cond (x.course == c && x.slot == s) x.room o)
@@ -35,25 +22,6 @@ stands_by_room (x ∷ xs) c s o = ap (stands_by xs c s) (inside (x.course == c &
     inside : (b : Bool) → cond b (is_some x.room) (is_some o) ≡ is_some (cond b x.room o)
     inside true = refl
     inside false = refl
-
--- the table of the courses in each slot, after a cell that fits, and of the empty timetable
-pub standing_after_cell : (i : Problem) (t : List Placed) (old new : BitTable) (c s : ℕ) (o : Option ℕ) → AreStanding i t old → SetsMark old new s c (is_some o) → CellFits t c s o → AreStanding i (apply_at c s o t) new
-standing_after_cell i t old new c s o h w fits = record {
-  size = (w.rows ∙ h.size.0, w.width ∙ h.size.1);
-  courses = λ e d le. w.marks e d ∙ ap (cond (e == s && d == c) (is_some o)) (h.courses e d le) ∙ inside (e == s && d == c) (c == d && s == e) (room_at d e t) (turned d e) ∙ ap is_some (sym (room_after c s o d e t fits));
-}
-  where
-    turned : (d e : ℕ) → (e == s && d == c) ≡ (c == d && s == e)
-    turned d e = grind (arith, nat_tests)
-
-    inside : (a b : Bool) (p : Option ℕ) → a ≡ b → cond a (is_some o) (is_some p) ≡ is_some (cond b o p)
-    inside true true p e = refl
-    inside false false p e = refl
-    inside true false p e = cc
-    inside false true p e = cc
-
-pub none_stand : (i : Problem) (g : BitTable) → HaveRows g i → ((s c : ℕ) → is_marked_in g s c ≡ false) → AreStanding i [] g
-none_stand i g size none = record { size = size; courses = λ s c _. none s c }
 
 -- the first course of a slot that passes
 module _ (f : ℕ → Option ℕ) (s : ℕ) (q : ℕ → Bool) where

@@ -18,7 +18,6 @@ use Rattle.ctt_rules.proofs.CurriculumLemmas.{count_lectures_le}
 use Rattle.ctt_rules.proofs.TimetableLemmas.{sum_by_course, courses_fit, row_is_short, few_lectures}
 use Rattle.ctt_board.specs.Changes.{apply}
 use Rattle.ctt_board.specs.Costs.{touches, touches_curriculum, courses_cost, curricula_cost}
-use Rattle.ctt_board.specs.Laws.{PenaltyFits}
 use Rattle.ctt_board.specs.declared.cell.Cell.{Cell}
 use Rattle.ctt_board.proofs.ApplyLemmas.{untouched_apply}
 
@@ -63,10 +62,6 @@ difference_of i cells t h k =
     let curricula = sum_by_where (touches_curriculum cells) (λ q. alone_cost i (lectures_of q u)) (λ q. alone_cost i (lectures_of q t)) i.curricula (λ q e. ap (alone_cost i) (untouched_apply (λ d. has d q) cells t e)) in
     omega (arith, courses, curricula, total_of i t h, total_of i u k)
 
-pub touched_difference : (i : Problem) (cells : List Cell) (t : List Placed) → IsTimetable i t → IsTimetable i (apply cells t)
-    → (courses_cost i cells (apply cells t) + curricula_cost i cells (apply cells t)) + total (penalty i t) ≡ (courses_cost i cells t + curricula_cost i cells t) + total (penalty i (apply cells t))
-touched_difference i cells t h k = difference_of i cells t (courses_fit i t h) (courses_fit i (apply cells t) k)
-
 -- the numbers of a course are small
 facts_small : (i : Problem) → IsProblem i → (c : ℕ) → IsSmall (course_of i c).min_days × IsSmall (course_of i c).students
 facts_small i p c = elim (cases_lt c (course_count i)) [
@@ -96,9 +91,6 @@ module _ (i : Problem) (p : IsProblem i) (t : List Placed) (h : IsTimetable i t)
       let courses : sum_below (λ c. total (course_cost i t c)) (course_count i) ≤ course_count i * 3000000000000 = sum_below_le (λ c. total (course_cost i t c)) 3000000000000 (course_count i) course_cost_small in
       let curricula : sum_by (λ q. alone_cost i (lectures_of q t)) i.curricula ≤ length i.curricula * 8000000 = sum_by-le (λ q. alone_cost i (lectures_of q t)) 8000000 i.curricula (λ k d lt. alone_cost_small (get_or i.curricula k d)) in
       omega (arith, courses, curricula, total_is i t h, mul-le-mul_right 3000000000000 p.courses_few, mul-le-mul_right 8000000 p.curricula_few)
-
-pub penalty_fits : PenaltyFits
-penalty_fits i t p h = omega (arith, penalty_small i p t h)
 
 -- a signed number that is returned is the number
 pub signed_is : (x d : ℤ) → SFits w64 x → x ≡ d → to_z w64 (of_z w64 x) ≡ d

@@ -1,6 +1,6 @@
 -- One more lecture: sums over the lectures, and what is computed from them.
-use Rattle.std.proofs.Common.{◌≡◌, ℕ, ◌+◌, Bool, true, not, List, [], ◌∷◌, Some, ◌∙◌, sym, ap, ap₂, arith, inl, inr}
-use Rattle.std.specs.List.{find, sum_by, AllByRecursion as Each}
+use Rattle.std.proofs.Common.{◌≡◌, ℕ, cond, ◌+◌, Bool, true, not, List, [], ◌∷◌, Some, ◌∙◌, sym, ap, ap₂, arith, inl, inr}
+use Rattle.std.specs.List.{find, sum_by, count_by, AllByRecursion as Each}
 use Rattle.std.proofs.lemmas.Bool.{cases_Bool}
 use Rattle.std.proofs.lemmas.Bool.Decides.{nat_tests}
 use Rattle.std.proofs.lemmas.List.Sums.{sum_by-cons}
@@ -10,8 +10,15 @@ use Rattle.ctt_text.specs.declared.placed.Placed.{Placed}
 use Rattle.ctt_text.proofs.TimetableLemmas.{Each-map}
 use Rattle.ctt_rules.proofs.ListLemmas.{filter_every}
 use Rattle.ctt_board.specs.Changes.{room_at, room_of}
-use Rattle.ctt_board.specs.Joining.{IsMore}
 use Rattle.ctt_board.proofs.RoomLemmas.{is_at, room_is}
+
+-- u has the lectures of t and l, in any order
+abbrev pub IsMore : Placed → List Placed → List Placed → Type 0
+IsMore l t u = (f : Placed → ℕ) → sum_by f u ≡ f l + sum_by f t
+
+-- a count with one more lecture
+pub counted_more : (l : Placed) (t u : List Placed) → IsMore l t u → (p : Placed → Bool) → count_by p u ≡ cond (p l) 1 0 + count_by p t
+counted_more l t u more p = more (λ x. cond (p x) 1 0)
 
 sum_put : {X : Type 0} (f : X → ℕ) (lt : X → X → Bool) (l : X) (xs : List X) → sum_by f (put lt l xs) ≡ f l + sum_by f xs
 sum_put f lt l [] = sum_by-cons f l []

@@ -1,14 +1,13 @@
 -- The order of a timetable, and what preserves it.
-use Rattle.std.proofs.Common.{◌≡◌, ℕ, ◌<◌, true, false, not, ◌&&◌, ◌==◌, List, [], ◌∷◌, length, get_or, sym, arith}
-use Rattle.std.specs.List.{insert, position_or_len, AllByRecursion as Each}
+use Rattle.std.proofs.Common.{◌≡◌, ℕ, true, false, not, ◌&&◌, ◌==◌, List, [], ◌∷◌, arith}
+use Rattle.std.specs.List.{AllByRecursion as Each}
 use Rattle.std.proofs.lemmas.Bool.Decides.{nat_tests}
-use Rattle.std.proofs.lemmas.List.Sums.{position_or_len_is}
 use Rattle.ctt_text.specs.Lists.{Pairwise}
 use Rattle.ctt_text.specs.Timetable.{before, Ascending, with, without}
 use Rattle.ctt_text.specs.declared.placed.Placed.{Placed}
 use Rattle.ctt_text.proofs.LectureLaws.{before_once}
 use Rattle.ctt_rules.proofs.ListLemmas.{Pairwise-map, Pairwise-filter}
-use Rattle.ctt_board.proofs.PutLemmas.{Pairwise-put, put_is}
+use Rattle.ctt_board.proofs.PutLemmas.{Pairwise-put}
 
 pub before_goes : (a b c : Placed) → before a b ≡ true → before c b ≡ false → before a c ≡ true
 before_goes a b c h k = grind (arith, nat_tests)
@@ -36,14 +35,3 @@ InOrder-with l t h = Pairwise-put (λ a b. before b a ≡ false) before l t far 
 
 pub InOrder-without : (c s : ℕ) (t : List Placed) → InOrder t → InOrder (without c s t)
 InOrder-without c s t h = Pairwise-filter (λ a b. before b a ≡ false) (λ l. not (l.course == c && l.slot == s)) t h
-
--- a lecture inserted in its place
-pub with_is : (l : Placed) (t : List Placed) → insert t (position_or_len (before l) t) l ≡ with l t
-with_is l t = sym (put_is before l t)
-
--- the place where a search for it stops
-pub found_at : (l : Placed) (t : List Placed) (i : ℕ) (d : Placed) → i < length t → ((k : ℕ) (e : Placed) → k < i → before l (get_or t k e) ≡ false) → before l (get_or t i d) ≡ true → i ≡ position_or_len (before l) t
-found_at l t i d lt h e = sym (position_or_len_is (before l) t i d (omega arith) (λ k less. h k d less) (λ less. e))
-
-pub found_nowhere : (l : Placed) (t : List Placed) (i : ℕ) → i ≡ length t → ((k : ℕ) (e : Placed) → k < i → before l (get_or t k e) ≡ false) → i ≡ position_or_len (before l) t
-found_nowhere l t i same h = sym (position_or_len_is (before l) t i l (omega arith) (λ k less. h k l less) (λ less. absurd (omega arith)))

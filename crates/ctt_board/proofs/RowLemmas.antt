@@ -1,5 +1,5 @@
 -- The row of a course, slot by slot.
-use Rattle.std.proofs.Common.{◌≡◌, ℕ, zero, suc, ◌+◌, ◌<◌, ◌≤◌, true, false, ◌==◌, eqb, ltb, List, [], ◌∷◌, ◌++◌, Option, Some, None, refl, add-one, append-nil, ◌∙◌, sym, ap, ap₂, arith, inl, inr}
+use Rattle.std.proofs.Common.{◌≡◌, ℕ, zero, suc, ◌+◌, ◌<◌, ◌≤◌, true, false, ◌==◌, eqb, ltb, List, [], ◌∷◌, ◌++◌, Some, refl, ◌∙◌, sym, ap, ap₂, arith, inl, inr}
 use Rattle.std.specs.List.{filter, find, AllByRecursion as Each}
 use Rattle.std.proofs.lemmas.Bool.{cases_eq, cases_order, eq-eqb, ne_eqb, eqb-true, lt-ltb, le-ltb}
 use Rattle.ctt_text.specs.Lists.{Pairwise}
@@ -66,13 +66,6 @@ row_is_timetable i t c h = record { ascending = Pairwise-filter (λ a b. before 
 
 pub row_of_row : (t : List Placed) (c : ℕ) → course_row c (course_row c t) ≡ course_row c t
 row_of_row t c = filter_within (λ l. l.course == c) (λ l. l.course == c) t (λ l k. k)
-
--- one more slot of a row
-pub row_more_some : (f : ℕ → Option ℕ) (c n r : ℕ) → f n ≡ Some r → row_below f c (n + 1) ≡ row_below f c n ++ record { course = c; slot = n; room = r } ∷ []
-row_more_some f c n r e = rw (add-one, e) refl
-
-pub row_more_none : (f : ℕ → Option ℕ) (c n : ℕ) → f n ≡ None → row_below f c (n + 1) ≡ row_below f c n
-row_more_none f c n e = rw (add-one, e) (append-nil (row_below f c n))
 
 -- what a row costs by itself is what it costs in its timetable
 pub cost_of_row : (i j : Problem) (t ls : List Placed) (c : ℕ) → j ≡ i → ls ≡ course_row c t → course_cost j ls c ≡ course_cost i t c

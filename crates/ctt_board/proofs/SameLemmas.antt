@@ -9,7 +9,7 @@ use Rattle.ctt_text.specs.declared.placed.Placed.{Placed}
 use Rattle.ctt_board.specs.Changes.{room_at, room_of}
 use Rattle.ctt_board.specs.Cells.{lecture_at}
 use Rattle.ctt_board.proofs.RowLemmas.{course_row_is}
-use Rattle.ctt_board.proofs.GridLemmas.{row_same, column_same, slot_row_is, one_course}
+use Rattle.ctt_board.proofs.CellLemmas.{row_same, column_same, slot_row_is, one_course}
 
 module _ (i : Problem) (t u : List Placed) (h : IsTimetable i t) (k : IsTimetable i u) where
   pub course_rows_same : (c : ℕ) → ((s : ℕ) → s < slot_count i → room_at c s t ≡ room_at c s u) → course_row c t ≡ course_row c u

@@ -1,6 +1,6 @@
--- The value of a sheet, the penalty difference of a change, and the invariants of sheets and views.
-use Rattle.std.specs.Prelude.{◌≡◌, true, ℕ, ◌*◌, ◌≤◌, ℤ, pos, ◌-ℤ◌, List}
-use Rattle.ctt_text.specs.Problem.{Problem, course_count, slot_count}
+-- The value of a sheet, the penalty difference of a change, and the invariant of views.
+use Rattle.std.specs.Prelude.{◌≡◌, true, ℤ, pos, ◌-ℤ◌, List}
+use Rattle.ctt_text.specs.Problem.{Problem}
 use Rattle.ctt_text.specs.declared.placed.Placed.{Placed}
 use Rattle.ctt_rules.specs.Hard.{Lawful}
 use Rattle.ctt_rules.specs.Penalty.{penalty, total}
@@ -15,11 +15,6 @@ pub record Board : Type 0 where
 -- the penalty after the change minus the penalty before it
 abbrev pub delta : Problem → List Placed → List Cell → ℤ
 delta i t cells = pos (total (penalty i (apply cells t))) -ℤ pos (total (penalty i t))
-
--- a lawful timetable, in a vector with capacity for any lawful timetable
-pub record IsListSheet (i : Problem) (t : List Placed) (capacity : ℕ) : Type 0 where
-  pub lawful : Lawful i t
-  pub room : course_count i * slot_count i ≤ capacity
 
 -- the cells fit the timetable t of the problem j, which is i, and leave it lawful
 pub record IsAfter (i j : Problem) (t : List Placed) (cells : List Cell) : Type 0 where

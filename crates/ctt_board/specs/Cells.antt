@@ -11,3 +11,13 @@ lecture_at c s (Some r) = record { course = c; slot = s; room = r } ∷ []
 abbrev pub row_below : (ℕ → Option ℕ) → ℕ → ℕ → List Placed
 row_below f c zero = []
 row_below f c (suc n) = row_below f c n ++ lecture_at c n (f n)
+
+-- the lectures of the courses below n in the slots below m, if f gives the rooms
+abbrev pub rows_below : (ℕ → ℕ → Option ℕ) → ℕ → ℕ → List Placed
+rows_below f m zero = []
+rows_below f m (suc n) = rows_below f m n ++ row_below (f n) n m
+
+-- the lectures in slot s of the courses below n, if f gives the rooms
+abbrev pub column_below : (ℕ → Option ℕ) → ℕ → ℕ → List Placed
+column_below f s zero = []
+column_below f s (suc n) = column_below f s n ++ lecture_at n s (f n)

@@ -2,11 +2,5 @@ pub mod Changes
 pub mod Cells
 pub mod Boards
 pub mod Costs
-pub mod Laws
-pub mod Joining
-pub mod Tables
-pub mod Counts
-pub mod Seen
-pub mod Grids
 pub mod Ways
 pub mod Fitting

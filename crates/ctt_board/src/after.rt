@@ -1,19 +1,14 @@
 //! A view of a timetable as a change would leave it. The change is not made, and nothing is
 //! allocated.
 
-ghost use Rattle.std.specs.Prelude.{◌≡◌, ◌<◌, ◌≤◌, true, length, count_by};
-ghost use Rattle.ctt_text.specs.Problem.{AreMembers, course_count};
-ghost use Rattle.ctt_text.specs.Timetable.{course_row};
+ghost use Rattle.std.specs.Prelude.{◌≡◌, ◌≤◌, true, length, count_by};
 ghost use Rattle.ctt_rules.specs.Hard.{Lawful};
-ghost use Rattle.ctt_rules.specs.Penalty.{course_cost, total, alone_cost, lectures_of};
 ghost use Rattle.ctt_board.specs.Changes.{room_by, held_after, holder_by, is_added, is_removed, is_change, apply, CellsFit};
 
 use crate::cell::Cell;
 use crate::sheet::Rooms;
 use crate::standing::change_standing;
-use arrayvec::ArrayVec;
-use ctt_rules::{count_alone, mark_slots};
-use ctt_text::{CourseNo, Instance, Marks, Placed, RoomNo, SlotNo};
+use ctt_text::{CourseNo, Instance, Marks, RoomNo, SlotNo};
 use std::marker::Model;
 
 /// A view of a timetable after some cells of a change. It is lawful.
@@ -40,7 +35,7 @@ impl<'a, R: Rooms> Model for After<'a, R> {
 }
 
 /// Returns the room of a course in a slot after these cells, given the room before them.
-pub(crate) fn last_room(
+pub fn last_room(
     cells: &[Cell],
     course: CourseNo,
     slot: SlotNo,
@@ -134,64 +129,11 @@ impl<'a, R: Rooms> After<'a, R> {
         }
     }
 
-    pub(crate) fn instance(&self) -> &'a Instance
+    /// Returns the instance.
+    pub fn instance(&self) -> &'a Instance
         ensures { result.now ≡ self.now.problem }
     {
         self.instance
-    }
-
-    /// Returns the lectures of a course, by slot.
-    fn row(&self, course: CourseNo) -> ArrayVec<Placed, 2000>
-        requires { course < course_count self.now.problem }
-        ensures { result.items ≡ course_row course self.now.list }
-    {
-        self.lawful();
-        let instance = self.instance();
-        instance.limits_hold();
-        let mut row = ArrayVec::new();
-        for number in 0..instance.slots() {
-            let slot = SlotNo::new(number);
-            if let Some(room) = self.room_at(course, slot) {
-                row.push(Placed { course, slot, room });
-            }
-        }
-        row
-    }
-
-    /// Returns what the lectures of a course cost, without the compactness of its curricula.
-    pub(crate) fn course_cost(&self, course: CourseNo) -> u64
-        requires { course < course_count self.now.problem }
-        ensures value { result ≡ total (course_cost self.now.problem self.now.list course) }
-        ensures bound { result ≤ 3000000000000 }
-    {
-        self.lawful();
-        let instance = self.instance();
-        instance.limits_hold();
-        let row = self.row(course);
-        ctt_rules::course_cost(instance, row.as_slice(), course).total()
-    }
-
-    /// Returns the compactness cost of the curriculum with these members.
-    pub(crate) fn curriculum_cost(&self, members: &[CourseNo]) -> u64
-        requires { AreMembers (course_count self.now.problem) members.now }
-        ensures value { result
-            ≡ alone_cost self.now.problem (lectures_of members.now self.now.list) }
-        ensures bound { result ≤ 8000000 }
-    {
-        self.lawful();
-        let instance = self.instance();
-        instance.limits_hold();
-        let mut slots = Marks::new();
-        for member in members {
-            let row = self.row(*member);
-            mark_slots(instance, &mut slots, row.as_slice());
-        }
-        let mut count = 0;
-        for member in members {
-            let row = self.row(*member);
-            count += count_alone(instance, &slots, row.as_slice());
-        }
-        2 * count
     }
 }
 

@@ -1,29 +1,16 @@
-//! Sheets: lawful timetables with their costs, and changes to them.
+//! Changes to lawful timetables, and the traits that sheets implement.
 #![tactic(auto)]
 
 mod after;
 mod cell;
 mod change;
 mod clashes;
-mod counts;
-mod delta;
-mod fitting;
-mod grid_sheet;
-mod joining;
-mod later;
 pub mod laws;
-mod list_sheet;
-mod meeting;
 mod sheet;
 mod standing;
-mod table;
-mod tables;
-mod tally;
 
-pub use after::After;
+pub use after::{After, last_room};
 pub use cell::Cell;
 pub use change::Change;
 pub use clashes::{first_clash, first_clash_without};
-pub use grid_sheet::GridSheet;
-pub use list_sheet::ListSheet;
 pub use sheet::{Rooms, Sheet, Timetable};

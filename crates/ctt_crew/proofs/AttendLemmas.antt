@@ -7,10 +7,11 @@ use Rattle.ctt_core.specs.declared.event.Event.{Event}
 use Rattle.ctt_core.specs.declared.event.Event.TheVariants.{Open, Ask, Peek, Status, Commit, Refresh, Abandon, Show}
 use Rattle.ctt_desk.specs.Planners.{PlannerValue}
 use Rattle.ctt_script.specs.ScriptText.{has_words, own_item}
-use Rattle.ctt_crew.specs.CrewText.{call_in}
-use Rattle.ctt_crew.specs.Attended.{AnswersItems, AreAttended, AreAttending, IsAttended, IsAttending, own_items}
-use Rattle.ctt_crew.specs.Seats.{AnswersCall, AnswersLine}
-use Rattle.ctt_crew.specs.declared.seat.Seat.{Seat}
+use Rattle.ctt_crew.specs.Attending.{call_in}
+use Rattle.ctt_seat.specs.Attended.{AnswersItems, AreAttended, IsAttended, own_items}
+use Rattle.ctt_crew.specs.Attending.{AreAttending, IsAttending}
+use Rattle.ctt_seat.specs.Seats.{AnswersCall, AnswersLine}
+use Rattle.ctt_seat.specs.declared.seat.Seat.{Seat}
 
 module _ {X Y : Type 0} (i : Problem) (t0 : List Placed) (p : ℕ) (all : List (List ℕ)) (before : Seat X Y) where
   -- at first no line has been answered

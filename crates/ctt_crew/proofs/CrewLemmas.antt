@@ -1,26 +1,13 @@
 -- The planners of a crew.
-use Rattle.std.proofs.Common.{◌≡◌, ◌∙◌, ◌+◌, ◌<◌, ◌++◌, ◌∷◌, List, [], ℕ, inl, inr, zero, suc, append-nil, length, map, zip, refl, ap, arith, sym, subst, Result, Ok, Err}
+use Rattle.std.proofs.Common.{◌≡◌, ◌∙◌, ◌+◌, ◌<◌, ◌++◌, ◌∷◌, List, [], ℕ, inl, inr, length, map, zip, refl, ap, sym, subst, Result, Ok, Err}
 use Rattle.std.specs.Prelude.{IfErr, IfOk, IsOkAnd}
-use Rattle.std.proofs.lemmas.List.{length-append, map-append}
-use Rattle.std.proofs.lemmas.List.Elements.{All-nil}
-use mathlib.Core.List.{IsPrefix}
+use Rattle.std.proofs.lemmas.List.{map-append}
 use Rattle.ctt_text.specs.Problem.{Problem}
 use Rattle.ctt_text.specs.declared.placed.Placed.{Placed}
-use Rattle.ctt_core.specs.Runs.{Legal}
-use Rattle.ctt_core.specs.declared.journal.JournalEntry.{JournalEntry}
-use Rattle.ctt_desk.specs.Planners.{PlannerValue, new_planner, new_planners}
-use Rattle.ctt_crew.specs.Attended.{AreAttended, IsClosing, IsCrewText}
-use Rattle.ctt_crew.specs.CrewText.{IsCrewFault, IsReportFault, added_fault, closing_text}
+use Rattle.ctt_desk.specs.Planners.{PlannerValue, new_planners}
+use Rattle.ctt_seat.specs.Attended.{AreAttended, IsClosing, IsCrewText}
+use Rattle.ctt_crew.specs.CrewFaults.{IsCrewFault, IsReportFault, added_fault}
 use Rattle.ctt_crew.specs.declared.crew_fault.CrewFault.{CrewFault}
-
-pub planners_many : (n : ℕ) → length (new_planners n) ≡ n
-planners_many zero = refl
-planners_many (suc n) = length-append (new_planners n) (new_planner n ∷ []) ∙ ap (λ k. k + 1) (planners_many n) ∙ (omega arith)
-
--- if nothing is left, all is taken
-pub all_taken : {X Y : Type 0} (f : X → Y) (taken : List Y) (left : List X) (all : List Y) → length left ≡ 0 → taken ++ map f left ≡ all → taken ≡ all
-all_taken f taken [] all none same = sym (append-nil taken) ∙ same
-all_taken f taken (x ∷ xs) all none same = cc
 
 -- one more thread, and its promise
 pub promised_also : {T E W : Type 0} (f : T → W) (started : Result T E) (old new : List T) (w : W) → IsOkAnd started (λ t. new ≡ old ++ t ∷ []) → IfOk started (λ t. f t ≡ w) → map f new ≡ map f old ++ w ∷ []
@@ -49,12 +36,3 @@ pub is_crew_text : {A E : Type 0} (done : Result A E) (planners : A → List Pla
     → IsOkAnd done (λ a. IsClosing problem opening (planners a) (texts a) text) → IsCrewText problem opening scripts text
 is_crew_text (Ok a) planners texts problem opening scripts text attended closes = record { planners = planners a; answers = texts a; attended = attended; closes = closes }
 is_crew_text (Err e) planners texts problem opening scripts text attended closes = absurd closes
-
--- the report of a crew without planners
-pub is_closing_text : (problem : Problem) (opening : List Placed) (history : List JournalEntry) (text : List ℕ) → Legal problem opening history → text ≡ closing_text problem opening [] history → IsCrewText problem opening [] text
-is_closing_text problem opening history text legal is = record {
-  planners = [];
-  answers = [];
-  attended = tt;
-  closes = record { history = history; legal = legal; begins = All-nil (λ (p : PlannerValue). IsPrefix p.front history); is = is };
-}

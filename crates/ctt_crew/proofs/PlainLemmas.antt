@@ -14,12 +14,12 @@ use Rattle.ctt_desk.specs.declared.refusal.Refusal.{Refusal}
 use Rattle.ctt_desk.specs.declared.refusal.Refusal.TheVariants as refusal
 use Rattle.ctt_desk.specs.declared.refusal.RefreshRefusal.{RefreshRefusal}
 use Rattle.ctt_desk.specs.declared.refusal.RefreshRefusal.TheVariants as unrefreshed
-use Rattle.ctt_crew.specs.Attended.{AnswersItems, Attends, IsAttended, leaver}
-use Rattle.ctt_crew.specs.Seats.{Abandons, AnswersLine, Asks, Commits, IsTold, Opens, Peeks, Refreshes, Shows, States, Takes, seat_refused, seat_unrefreshed, told_refused, told_unrefreshed}
-use Rattle.ctt_crew.specs.declared.seat.Seat.{Seat}
-use Rattle.ctt_crew.specs.declared.seat.Seat.TheVariants.{Free, Drafting}
-use Rattle.ctt_crew.specs.declared.seat.Told.{Told}
-use Rattle.ctt_crew.specs.declared.seat.Told.TheVariants.{Answer as Answered}
+use Rattle.ctt_seat.specs.Attended.{AnswersItems, Attends, IsAttended, leaver}
+use Rattle.ctt_seat.specs.Seats.{Abandons, AnswersLine, Asks, Commits, IsTold, Opens, Peeks, Refreshes, Shows, States, Takes, seat_refused, seat_unrefreshed, told_refused, told_unrefreshed}
+use Rattle.ctt_seat.specs.declared.seat.Seat.{Seat}
+use Rattle.ctt_seat.specs.declared.seat.Seat.TheVariants.{Free, Drafting}
+use Rattle.ctt_seat.specs.declared.seat.Told.{Told}
+use Rattle.ctt_seat.specs.declared.seat.Told.TheVariants.{Answer as Answered}
 
 module _ {X Y : Type 0} where
   abbrev plain : Seat X Y → Seat (Unit {0}) (Unit {0})

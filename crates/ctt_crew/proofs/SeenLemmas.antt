@@ -18,12 +18,12 @@ use Rattle.ctt_desk.specs.declared.refusal.RefreshRefusal.TheVariants as unrefre
 use Rattle.ctt_desk.specs.declared.shared_fault.SharedFault.{SharedFault}
 use Rattle.ctt_desk.specs.declared.shared_fault.SharedFault.TheVariants.{Unlawful, NoPlace as Unplaced, NoMemory}
 use Rattle.ctt_desk.proofs.PrefixLemmas.{prefix_self, prefix_trans}
-use Rattle.ctt_crew.specs.Attended.{AnswersItems, leaver}
+use Rattle.ctt_seat.specs.Attended.{AnswersItems, leaver}
 use Rattle.ctt_crew.specs.Laws.{CommitsStay, SeenStays}
-use Rattle.ctt_crew.specs.Seats.{Abandons, AnswersLine, Asks, Commits, Opens, Refreshes, Shows, States, Takes, seat_refused, seat_unrefreshed}
-use Rattle.ctt_crew.specs.declared.seat.Seat.{Seat}
-use Rattle.ctt_crew.specs.declared.seat.Seat.TheVariants.{Free, Drafting}
-use Rattle.ctt_crew.specs.declared.seat.Told.{Told}
+use Rattle.ctt_seat.specs.Seats.{Abandons, AnswersLine, Asks, Commits, Opens, Refreshes, Shows, States, Takes, seat_refused, seat_unrefreshed}
+use Rattle.ctt_seat.specs.declared.seat.Seat.{Seat}
+use Rattle.ctt_seat.specs.declared.seat.Seat.TheVariants.{Free, Drafting}
+use Rattle.ctt_seat.specs.declared.seat.Told.{Told}
 
 -- an unchanged planner has seen the same
 same_seen : (p q : PlannerValue) → q ≡ p → IsPrefix p.front q.front

@@ -5,9 +5,9 @@ use Rattle.ctt_text.specs.Problem.{Problem}
 use Rattle.ctt_text.specs.declared.placed.Placed.{Placed}
 use Rattle.ctt_core.specs.declared.event.Event.{Event}
 use Rattle.ctt_core.specs.declared.journal.JournalEntry.{JournalEntry}
-use Rattle.ctt_crew.specs.Attended.{AnswersItems, leaver}
-use Rattle.ctt_crew.specs.Seats.{Commits}
-use Rattle.ctt_crew.specs.declared.seat.Seat.{Seat}
+use Rattle.ctt_seat.specs.Attended.{AnswersItems, leaver}
+use Rattle.ctt_seat.specs.Seats.{Commits}
+use Rattle.ctt_seat.specs.declared.seat.Seat.{Seat}
 
 -- However items are answered, the planner who then leaves has seen at least all that he had seen
 -- before.

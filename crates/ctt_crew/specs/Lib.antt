@@ -1,4 +1,3 @@
-pub mod Attended
-pub mod CrewText
+pub mod Attending
+pub mod CrewFaults
 pub mod Laws
-pub mod Seats

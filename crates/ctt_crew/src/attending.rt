@@ -1,42 +1,26 @@
 //! The work of one planner of a crew, on a thread of his own.
 
-ghost use Rattle.std.specs.Prelude.{◌≡◌, ◌<◌, ℕ, IfOk, IfSome, IsOk, OnOk, ◌++◌, string_bytes};
+ghost use Rattle.std.specs.Prelude.{◌≡◌, ◌<◌, ℕ, IfOk, IfSome, IsOk, OnOk, string_bytes};
 ghost use Rattle.ctt_edits.specs.Calls.{CallFits};
 ghost use Rattle.ctt_core.specs.Runs.{EventFits};
-ghost use Rattle.ctt_crew.specs.CrewText.{call_in, ToldFits, told_words};
-ghost use Rattle.ctt_crew.specs.Attended.{Attends, IsAttended, leaver};
-ghost use Rattle.ctt_crew.specs.Seats.{AnswersCall, AnswersLine};
-ghost use Rattle.ctt_line.specs.Lines.{line};
+ghost use Rattle.ctt_seat.specs.Attended.{Attends, IsAttended, leaver};
+ghost use Rattle.ctt_seat.specs.Seats.{AnswersCall, AnswersLine};
+ghost use Rattle.ctt_crew.specs.Attending.{call_in};
 
 use crate::gate::Gate;
-use crate::seat::{Seat, Told};
-use ctt_board::{GridSheet, Sheet};
-use ctt_core::{Answer, Event, PlannerNo};
+use ctt_board::Sheet;
+use ctt_core::{Event, PlannerNo};
 use ctt_desk::{Naming, Planner, SharedDesk};
 use ctt_edits::Call;
-use ctt_script::{Lines, has_words, read_own_line, write_answer, write_bad_line};
+use ctt_grid::GridSheet;
+use ctt_script::{Lines, has_words, read_own_line, write_bad_line};
+use ctt_seat::{Seat, write_told};
 use ctt_text::{Instance, NoMemory, let_go};
 use std::alloc::{AllocError, Global};
-use std::fmt::Write;
 use std::marker::{Model, PhantomData};
 use std::snapshot::Snapshot;
 use std::sync::Wait;
 use std::thread::Promise;
-
-/// Appends the line that answers a planner of a crew.
-#[inline(always)]
-pub fn write_told(text: &mut String, instance: &Instance, told: &Told) -> Result<(), AllocError>
-    requires { ToldFits instance.now told.now }
-    ensures { OnOk result (string_bytes text.new
-        ≡ string_bytes text.old ++ line (told_words instance.now told.now)) }
-{
-    match told {
-        Told::Answer(answer) => write_answer(text, instance, answer),
-        Told::Stale(row, _) => write_answer(text, instance, &Answer::Stale(*row)),
-        Told::NotYours(count) => writeln!(text, "not yours {count}"),
-        Told::NoPlace => writeln!(text, "no place"),
-    }
-}
 
 /// Makes the call that a line asks for, and appends the line of the answer.
 fn answer_call<'i, S: Sheet<'i>, J: Naming>(

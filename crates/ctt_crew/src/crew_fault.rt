@@ -1,7 +1,7 @@
 //! Why a crew could not finish.
 
 ghost use Rattle.std.specs.Prelude.{◌≡◌};
-ghost use Rattle.ctt_crew.specs.CrewText.{of_shared};
+ghost use Rattle.ctt_crew.specs.CrewFaults.{of_shared};
 ghost use Rattle.ctt_crew.specs.declared.crew_fault.CrewFault.TheVariants as crew_fault;
 
 use ctt_core::PlannerNo;

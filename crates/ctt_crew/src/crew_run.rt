@@ -3,17 +3,18 @@
 ghost use Rattle.std.specs.Prelude.{◌≡◌, ◌≤◌, ◌++◌, ◌∷◌, [], length, IfErr, IfOk, IsOkAnd, OnOk, map, zip, string_bytes};
 ghost use Rattle.ctt_desk.specs.Names.{IsNamed};
 ghost use Rattle.ctt_desk.specs.Planners.{new_planners};
-ghost use Rattle.ctt_crew.specs.CrewText.{IsCrewFault, added_fault};
-ghost use Rattle.ctt_crew.specs.Attended.{AreAttended, IsAttended, IsCrewText};
+ghost use Rattle.ctt_seat.specs.Attended.{AreAttended, IsAttended, IsCrewText};
+ghost use Rattle.ctt_crew.specs.CrewFaults.{IsCrewFault, added_fault};
 ghost use Rattle.ctt_crew.specs.declared.crew_fault.CrewFault.TheVariants as crew_fault;
 
 use crate::attending::{Attendance, GridAttendance, Promised, attend_on_grid};
 use crate::closing::last_report;
 use crate::crew_fault::CrewFault;
 use crate::gate::Gate;
-use ctt_board::{GridSheet, Sheet, Timetable};
+use ctt_board::{Sheet, Timetable};
 use ctt_core::PlannerNo;
 use ctt_desk::{Named, Naming, Opened, Planner, SharedDesk, SharedFault};
+use ctt_grid::GridSheet;
 use ctt_text::{Instance, NoMemory, let_go};
 use std::alloc::Global;
 use std::marker::{Brand, PhantomData, Send, Sync};

@@ -7,11 +7,7 @@ mod crew_fault;
 mod crew_run;
 mod gate;
 pub mod laws;
-mod seat;
 
-pub use attending::write_told;
-pub use closing::{closing_report, end_desk};
 pub use crew_fault::CrewFault;
 pub use crew_run::crew;
 pub use gate::{Gate, NoGate};
-pub use seat::{Seat, Told};

@@ -14,7 +14,7 @@ use Rattle.ctt_text.specs.declared.placed.Placed.{Placed}
 use Rattle.ctt_board.specs.Changes.{room_at, room_by, apply, apply_all, ChangesFit}
 use Rattle.ctt_board.specs.declared.cell.Cell.{Cell}
 use Rattle.ctt_board.proofs.RoomLemmas.{rooms_after}
-use Rattle.ctt_board.proofs.GridLemmas.{timetable_is, rows_same}
+use Rattle.ctt_board.proofs.CellLemmas.{timetable_is, rows_same}
 use Rattle.ctt_draft.specs.Drafts.{made}
 use Rattle.ctt_draft.specs.Laws.{UndoPutsBack}
 use Rattle.ctt_draft.specs.Undo.{is_of, is_named, first_named, found_in, recorded, all_cells, undo_of, put_back, Records, noted, all_noted}

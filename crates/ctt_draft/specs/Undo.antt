@@ -5,7 +5,7 @@ use Rattle.std.specs.List.{filter, list_any, AllByRecursion as Each}
 use Rattle.ctt_text.specs.Problem.{Problem, course_count, slot_count}
 use Rattle.ctt_text.specs.declared.placed.Placed.{Placed}
 use Rattle.ctt_board.specs.Changes.{cell, room_at, room_by}
-use Rattle.ctt_board.specs.Grids.{rows_below}
+use Rattle.ctt_board.specs.Cells.{rows_below}
 use Rattle.ctt_text.specs.BitRows.{BitTable, is_marked_in}
 use Rattle.ctt_board.specs.declared.cell.Cell.{Cell}
 

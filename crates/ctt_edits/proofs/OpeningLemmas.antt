@@ -9,7 +9,7 @@ use Rattle.ctt_text.proofs.FormLaws.{err_same}
 use Rattle.ctt_rules.specs.Hard.{Lawful}
 use Rattle.ctt_rules.proofs.TimetableLemmas.{courses_fit}
 use Rattle.ctt_board.specs.Changes.{room_at}
-use Rattle.ctt_board.proofs.GridLemmas.{row_same}
+use Rattle.ctt_board.proofs.CellLemmas.{row_same}
 use Rattle.ctt_board.proofs.RowLemmas.{course_row_is}
 use Rattle.ctt_edits.specs.Edits.{edit_fault, edited}
 use Rattle.ctt_edits.specs.Fitting.{FaultFits}

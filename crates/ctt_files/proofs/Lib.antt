@@ -1,3 +1,4 @@
+pub mod OutputLemmas
 pub mod Causes
 pub mod Plain
 pub mod InTurn

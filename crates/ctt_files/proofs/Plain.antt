@@ -10,8 +10,8 @@ use Rattle.ctt_text.specs.SolutionPlaces.{lacks_memory}
 use Rattle.ctt_text.specs.declared.fault.BarredFault.{BarredFault}
 use Rattle.ctt_text.specs.declared.fault.ReadFault.{ReadFault}
 use Rattle.ctt_text.specs.declared.fault.SolutionFault.{SolutionFault}
-use Rattle.ctt_devices.specs.declared.input.InputFault.{InputFault}
-use Rattle.ctt_devices.specs.declared.input.InputFault.TheVariants as input
+use Rattle.ctt_files.specs.declared.input.InputFault.{InputFault}
+use Rattle.ctt_files.specs.declared.input.InputFault.TheVariants as input
 use Rattle.ctt_files.specs.Faults.{IfUnwritten, fault_of_barred, fault_of_input, fault_of_instance, fault_of_solution}
 use Rattle.ctt_files.specs.Refusals.{IsNoText, IsOfBarred, IsOfFile, IsOfFiles, IsOfInstance, IsOfInstanceIn, IsOfInstanceOr, IsOfSolution, IsOfStart, IsOfText}
 use Rattle.ctt_files.specs.Texts.{Held, Holds, IsInstanceIn}

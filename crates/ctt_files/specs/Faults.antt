@@ -3,8 +3,8 @@ use Rattle.std.specs.Prelude.{◌≡◌, ◌++◌, ℕ, List, codes, if◌then�
 use Rattle.std.specs.Global.{Global}
 use Rattle.std.specs.String.{string_bytes}
 use Rattle.std.specs.declared.string.String.{String}
-use Rattle.ctt_devices.specs.declared.input.InputFault.{InputFault}
-use Rattle.ctt_devices.specs.declared.input.InputFault.TheVariants as input
+use Rattle.ctt_files.specs.declared.input.InputFault.{InputFault}
+use Rattle.ctt_files.specs.declared.input.InputFault.TheVariants as input
 use Rattle.ctt_text.specs.BarredPlaces as barred
 use Rattle.ctt_text.specs.InstancePlaces as instance
 use Rattle.ctt_text.specs.SolutionPlaces.{lacks_memory}

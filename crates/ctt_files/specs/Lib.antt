@@ -1,5 +1,9 @@
+pub mod Device
+pub mod Output
 pub mod Faults
 pub mod Files
 pub mod Outcomes
+pub mod Storing
+pub mod Answers
 pub mod Texts
 pub mod Refusals

@@ -7,8 +7,8 @@ use Rattle.ctt_text.specs.BarredLaws.{IsBarredCauseOf}
 use Rattle.ctt_text.specs.InstanceLaws.{IsCauseOf}
 use Rattle.ctt_text.specs.Problem.{Problem}
 use Rattle.ctt_text.specs.SolutionLaws.{IsSolutionCauseOf}
-use Rattle.ctt_devices.specs.declared.input.InputFault.{InputFault}
-use Rattle.ctt_devices.specs.declared.input.InputFault.TheVariants as input
+use Rattle.ctt_files.specs.declared.input.InputFault.{InputFault}
+use Rattle.ctt_files.specs.declared.input.InputFault.TheVariants as input
 use Rattle.ctt_files.specs.Faults.{fault_of_barred, fault_of_input, fault_of_instance, fault_of_solution, status_of}
 use Rattle.ctt_files.specs.Texts.{Held, Holds, IsInstanceIn, IsInstanceText, IsNoBarred, IsNoInstance, IsNoSolution}
 use Rattle.ctt_files.specs.declared.fault.Fault.{Fault}

@@ -7,8 +7,11 @@ ghost use Rattle.ctt_files.specs.Refusals.{IsOfFile, IsOfFiles, IsOfInput};
 ghost use Rattle.ctt_files.specs.Texts.{HoldInTurn};
 ghost use Rattle.ctt_files.specs.declared.fault.Fault.TheVariants.{CannotRead};
 
+use crate::device::Device;
 use crate::fault::Fault;
-use ctt_devices::{Device, Failed, INPUT_LIMIT, InputFault, Source, put_whole, read_all};
+use crate::input::{INPUT_LIMIT, InputFault, read_all};
+use crate::sink::put_whole;
+use crate::source::{Failed, Source};
 use std::alloc::Global;
 use std::{fs, rt};
 

@@ -2,11 +2,11 @@
 
 ghost use Rattle.std.specs.Prelude.{◌≡◌, ◌⊎◌, true, OnOk, OnErr, IfErr};
 ghost use Rattle.std.specs.Io.KnownBytes.{Appends};
-ghost use Rattle.ctt_devices.specs.Output.{AppendsFront};
+ghost use Rattle.ctt_files.specs.Output.{AppendsFront};
 ghost use Rattle.ctt_files.specs.declared.fault.Fault.TheVariants.{CannotWrite};
 
 use crate::fault::Fault;
-use ctt_devices::{Sink, put_whole};
+use crate::sink::{Sink, put_whole};
 
 /// Writes a whole text to standard output.
 pub fn print<W: Sink>(out: &mut W, text: &[u8]) -> Result<(), Fault>

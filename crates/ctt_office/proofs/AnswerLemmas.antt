@@ -9,10 +9,10 @@ use Rattle.ctt_core.specs.declared.event.Event.{Event}
 use Rattle.ctt_core.specs.declared.event.Event.TheVariants.{Abandon, Ask, Commit, Open, Peek, Refresh, Show, Status}
 use Rattle.ctt_core.specs.declared.journal.JournalEntry.{JournalEntry}
 use Rattle.ctt_desk.specs.Histories.{entry_of}
-use Rattle.ctt_crew.specs.Seats.{Commits, Takes, open_entry}
-use Rattle.ctt_crew.specs.declared.seat.Seat.{Seat}
-use Rattle.ctt_crew.specs.declared.seat.Seat.TheVariants.{Drafting, Free}
-use Rattle.ctt_crew.specs.declared.seat.Told.{Told}
+use Rattle.ctt_seat.specs.Seats.{Commits, Takes, open_entry}
+use Rattle.ctt_seat.specs.declared.seat.Seat.{Seat}
+use Rattle.ctt_seat.specs.declared.seat.Seat.TheVariants.{Drafting, Free}
+use Rattle.ctt_seat.specs.declared.seat.Told.{Told}
 use Rattle.ctt_office.specs.Pages.{EndsWith}
 use Rattle.ctt_office.specs.declared.workplace.Workplace.{Workplace}
 use Rattle.ctt_office.specs.SeatAnswers.{Adds, Does, IsAnsweredBy, IsCommitAlone, IsCommitAnswer, IsToldAnswer, IsStepAnswer}

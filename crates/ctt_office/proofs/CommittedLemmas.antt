@@ -15,11 +15,11 @@ use Rattle.ctt_desk.specs.declared.refusal.RefreshRefusal.{RefreshRefusal}
 use Rattle.ctt_desk.specs.declared.refusal.RefreshRefusal.TheVariants as unrefreshed
 use Rattle.ctt_desk.specs.declared.shared_fault.SharedFault.{SharedFault}
 use Rattle.ctt_desk.specs.declared.shared_fault.SharedFault.TheVariants as shared
-use Rattle.ctt_crew.specs.Attended.{leaver}
-use Rattle.ctt_crew.specs.Seats.{Abandons, Asks, Commits, IsLooked, Opens, Refreshes, States, Views, seat_refused, seat_unrefreshed}
-use Rattle.ctt_crew.specs.declared.seat.Seat.{Seat}
-use Rattle.ctt_crew.specs.declared.seat.Seat.TheVariants.{Drafting, Free}
-use Rattle.ctt_crew.specs.declared.seat.Told.{Told}
+use Rattle.ctt_seat.specs.Attended.{leaver}
+use Rattle.ctt_seat.specs.Seats.{Abandons, Asks, Commits, IsLooked, Opens, Refreshes, States, Views, seat_refused, seat_unrefreshed}
+use Rattle.ctt_seat.specs.declared.seat.Seat.{Seat}
+use Rattle.ctt_seat.specs.declared.seat.Seat.TheVariants.{Drafting, Free}
+use Rattle.ctt_seat.specs.declared.seat.Told.{Told}
 use Rattle.ctt_office.specs.SeatAnswers.{Does, CommitsNone}
 
 -- a planner who could not read

@@ -19,12 +19,12 @@ use Rattle.ctt_desk.specs.declared.refusal.RefreshRefusal.{RefreshRefusal}
 use Rattle.ctt_desk.specs.declared.refusal.RefreshRefusal.TheVariants as unrefreshed
 use Rattle.ctt_desk.specs.declared.shared_fault.SharedFault.{SharedFault}
 use Rattle.ctt_desk.specs.declared.shared_fault.SharedFault.TheVariants as shared
-use Rattle.ctt_crew.specs.CrewText.{told_unread}
-use Rattle.ctt_crew.specs.Seats.{Abandons, Asks, Commits, IsLooked, IsUntold, Opens, Peeks, Refreshes, States, Views, told_of, told_refused, told_unrefreshed}
-use Rattle.ctt_crew.specs.declared.seat.Seat.{Seat}
-use Rattle.ctt_crew.specs.declared.seat.Seat.TheVariants.{Drafting, Free}
-use Rattle.ctt_crew.specs.declared.seat.Told.{Told}
-use Rattle.ctt_crew.specs.declared.seat.Told.TheVariants.{Answer as Answered, NoPlace, NotYours, Stale}
+use Rattle.ctt_seat.specs.CrewText.{told_unread}
+use Rattle.ctt_seat.specs.Seats.{Abandons, Asks, Commits, IsLooked, IsUntold, Opens, Peeks, Refreshes, States, Views, told_of, told_refused, told_unrefreshed}
+use Rattle.ctt_seat.specs.declared.seat.Seat.{Seat}
+use Rattle.ctt_seat.specs.declared.seat.Seat.TheVariants.{Drafting, Free}
+use Rattle.ctt_seat.specs.declared.seat.Told.{Told}
+use Rattle.ctt_seat.specs.declared.seat.Told.TheVariants.{Answer as Answered, NoPlace, NotYours, Stale}
 use Rattle.ctt_office.specs.Ended.{BackFits, EndedFits, OpenFits, ended_after, is_fresh_start}
 use Rattle.ctt_office.specs.SeatAnswers.{Does}
 

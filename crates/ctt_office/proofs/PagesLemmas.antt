@@ -8,8 +8,8 @@ use mathlib.Core.List.{IsPrefix}
 use Rattle.ctt_text.specs.Problem.{Problem}
 use Rattle.ctt_core.specs.declared.journal.JournalEntry.{JournalEntry}
 use Rattle.ctt_script.specs.WrittenText.{entry_text}
-use Rattle.ctt_devices.specs.Output.{AppendsFront}
-use Rattle.ctt_devices.proofs.OutputLemmas.{on_err, whole_front}
+use Rattle.ctt_files.specs.Output.{AppendsFront}
+use Rattle.ctt_files.proofs.OutputLemmas.{on_err, whole_front}
 use Rattle.ctt_office.specs.Pages.{AreMinutesOf, AreTaken, EndsWith, IsOut}
 
 behind : {X : Type 0} (xs ys : List X) → drop (length xs) (xs ++ ys) ≡ ys

@@ -24,8 +24,8 @@ use Rattle.ctt_desk.specs.Planners.{DraftingValue, Grows, IsOpen, PlannerValue, 
 use Rattle.ctt_desk.specs.declared.shared_fault.SharedFault.TheVariants as shared
 use Rattle.ctt_line.specs.Lines.{words_part}
 use Rattle.ctt_script.proofs.WrittenText.{parts_end}
-use Rattle.ctt_crew.specs.declared.seat.Seat.TheVariants.{Drafting, Free}
-use Rattle.ctt_crew.specs.declared.seat.Told.TheVariants.{Answer as Answered}
+use Rattle.ctt_seat.specs.declared.seat.Seat.TheVariants.{Drafting, Free}
+use Rattle.ctt_seat.specs.declared.seat.Told.TheVariants.{Answer as Answered}
 use Rattle.ctt_office.specs.SeatAnswers.{RedoesCalls, told_line}
 use Rattle.ctt_office.specs.declared.workplace.Workplace.{Workplace}
 use Rattle.ctt_office.specs.Laws.{AreAsked, RedoIsAsking}

@@ -6,10 +6,10 @@ use Rattle.ctt_core.specs.declared.answer.Answer.{Answer}
 use Rattle.ctt_core.specs.declared.answer.Answer.TheVariants.{Abandoned, Committed, Opened}
 use Rattle.ctt_draft.specs.Drafts.{AskedFits}
 use Rattle.ctt_draft.specs.declared.asked.Asked.{Asked}
-use Rattle.ctt_crew.specs.declared.seat.Seat.{Seat}
-use Rattle.ctt_crew.specs.declared.seat.Seat.TheVariants.{Drafting, Free}
-use Rattle.ctt_crew.specs.declared.seat.Told.{Told}
-use Rattle.ctt_crew.specs.declared.seat.Told.TheVariants.{Answer as Answered, NoPlace, NotYours, Stale}
+use Rattle.ctt_seat.specs.declared.seat.Seat.{Seat}
+use Rattle.ctt_seat.specs.declared.seat.Seat.TheVariants.{Drafting, Free}
+use Rattle.ctt_seat.specs.declared.seat.Told.{Told}
+use Rattle.ctt_seat.specs.declared.seat.Told.TheVariants.{Answer as Answered, NoPlace, NotYours, Stale}
 
 -- the answer reports that a draft is opened, committed or abandoned
 abbrev pub is_fresh_start : Answer → Bool

@@ -7,10 +7,10 @@ use Rattle.ctt_edits.specs.declared.reply.Reply.TheVariants.{Done}
 use Rattle.ctt_draft.specs.Undoing.{edits_done}
 use Rattle.ctt_core.specs.declared.answer.Answer.TheVariants.{Replied}
 use Rattle.ctt_desk.specs.Planners.{DraftingValue}
-use Rattle.ctt_crew.specs.Seats.{Asks}
-use Rattle.ctt_crew.specs.declared.seat.Seat.{Seat}
-use Rattle.ctt_crew.specs.declared.seat.Seat.TheVariants.{Drafting}
-use Rattle.ctt_crew.specs.declared.seat.Told.TheVariants.{Answer as Answered}
+use Rattle.ctt_seat.specs.Seats.{Asks}
+use Rattle.ctt_seat.specs.declared.seat.Seat.{Seat}
+use Rattle.ctt_seat.specs.declared.seat.Seat.TheVariants.{Drafting}
+use Rattle.ctt_seat.specs.declared.seat.Told.TheVariants.{Answer as Answered}
 use Rattle.ctt_office.specs.Redone.{remade}
 
 -- each of these edits is asked for at a seat, one after another, and answered as done

@@ -17,14 +17,14 @@ use Rattle.ctt_core.specs.declared.event.Event.TheVariants.{Abandon, Ask, Commit
 use Rattle.ctt_core.specs.declared.journal.JournalEntry.{JournalEntry}
 use Rattle.ctt_desk.specs.Planners.{DraftingValue, IsOpen, PlannerValue, asked_also, present_of}
 use Rattle.ctt_script.specs.AnswerText.{bad_line}
-use Rattle.ctt_crew.specs.Attended.{leaver}
-use Rattle.ctt_crew.specs.CrewText.{told_words}
-use Rattle.ctt_crew.specs.Seats.{Commits, IsUntold, Takes, Views, told_of}
+use Rattle.ctt_seat.specs.Attended.{leaver}
+use Rattle.ctt_seat.specs.CrewText.{told_words}
+use Rattle.ctt_seat.specs.Seats.{Commits, IsUntold, Takes, Views, told_of}
 use Rattle.ctt_line.specs.Lines.{line}
-use Rattle.ctt_crew.specs.declared.seat.Seat.{Seat}
-use Rattle.ctt_crew.specs.declared.seat.Seat.TheVariants.{Drafting, Free}
-use Rattle.ctt_crew.specs.declared.seat.Told.{Told}
-use Rattle.ctt_crew.specs.declared.seat.Told.TheVariants.{Answer as Answered}
+use Rattle.ctt_seat.specs.declared.seat.Seat.{Seat}
+use Rattle.ctt_seat.specs.declared.seat.Seat.TheVariants.{Drafting, Free}
+use Rattle.ctt_seat.specs.declared.seat.Told.{Told}
+use Rattle.ctt_seat.specs.declared.seat.Told.TheVariants.{Answer as Answered}
 use Rattle.ctt_office.specs.BadWords.{bad_word_line}
 use Rattle.ctt_office.specs.Ended.{ended_after}
 use Rattle.ctt_office.specs.Redone.{nothing_to_redo, nothing_to_undo, redone_line, remade, undone_line}

@@ -2,14 +2,14 @@
 
 ghost use Rattle.std.specs.Prelude.{◌≡◌, ◌+◌, ◌<◌, ◌≤◌, ◌↔◌, ◌⊎◌, [], length, true, false, IsTrue, OnErr, OnOk};
 ghost use Rattle.std.specs.Io.KnownBytes.{Appends};
-ghost use Rattle.ctt_devices.specs.Output.{AppendsFront};
+ghost use Rattle.ctt_files.specs.Output.{AppendsFront};
 ghost use mathlib.Core.List.{IsPrefix};
 ghost use Rattle.ctt_office.specs.Pages.{AreTaken, EndsWith, HasFailed, IsEntered, IsInMinutes, IsSound, Stays, seen};
 ghost use Rattle.ctt_office.specs.declared.book.Attempt.TheVariants.{Entered, Failed as NotEntered, NotYet};
 
 use crate::durable::Durable;
 use ctt_desk::{Naming, Receipt};
-use ctt_devices::{Failed, put_whole};
+use ctt_files::{Failed, put_whole};
 use std::marker::Model;
 use std::sync::{Condvar, Mutex, MutexGuard, Wait};
 

@@ -1,6 +1,6 @@
 //! Opening of the devices of seats.
 
-use ctt_devices::{Failed, Sink, Source};
+use ctt_files::{Failed, Sink, Source};
 use std::marker::{Send, Sync};
 
 /// The devices of seats, by the names of the seats. Opening one may block until its other end is

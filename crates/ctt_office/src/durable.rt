@@ -4,7 +4,7 @@ ghost use Rattle.std.specs.Prelude.{◌≡◌, true, OnErr, OnOk};
 ghost use Rattle.std.specs.Io.KnownBytes.{Keeps};
 ghost use Rattle.ctt_office.specs.Pages.{Stays};
 
-use ctt_devices::{Device, Failed, Sink};
+use ctt_files::{Device, Failed, Sink};
 use std::fs::OpenFile;
 use std::io::Write;
 

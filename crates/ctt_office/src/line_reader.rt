@@ -6,7 +6,7 @@ ghost use Rattle.std.specs.Io.KnownBytes.{Keeps, IsAtEnd};
 ghost use Rattle.ctt_office.specs.Lines.{GivesNext, HasLine, IsCut, IsGrown, IsLong, IsOpen, IsReadOnce, IsShort, IsShut, coming};
 ghost use Rattle.ctt_office.specs.declared.line_reader.Next.TheVariants.{End, Line, TooLong};
 
-use ctt_devices::{Failed, Source};
+use ctt_files::{Failed, Source};
 use ctt_script::line_end;
 use ctt_text::{NoMemory, let_go};
 use std::alloc::Global;

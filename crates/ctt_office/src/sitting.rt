@@ -2,9 +2,9 @@
 
 ghost use Rattle.std.specs.Prelude.{◌≡◌, ◌≢◌, ◌⊎◌, ℕ, true, false, Err, IfErr, IfOk, OnErr, OnOk};
 ghost use Rattle.std.specs.Io.KnownBytes.{Appends};
-ghost use Rattle.ctt_devices.specs.Output.{AppendsFront};
+ghost use Rattle.ctt_files.specs.Output.{AppendsFront};
 ghost use Rattle.ctt_office.specs.Lines.{Comes, Gives, ReaderValue, coming};
-ghost use Rattle.ctt_crew.specs.Attended.{leaver};
+ghost use Rattle.ctt_seat.specs.Attended.{leaver};
 ghost use Rattle.ctt_office.specs.Pages.{HasFailed, IsInMinutes};
 ghost use Rattle.ctt_office.specs.Ended.{EndedFits};
 ghost use Rattle.ctt_office.specs.SeatAnswers.{IsAnswer, IsUncommitted, Tells};
@@ -21,10 +21,11 @@ use crate::line_reader::{LineReader, Next};
 use crate::office_fault::SeatFault;
 use crate::seat_line::{SeatLine, read_seat_line};
 use crate::workplace::Workplace;
-use ctt_board::{GridSheet, Sheet, Timetable};
+use ctt_board::{Sheet, Timetable};
 use ctt_core::PlannerNo;
 use ctt_desk::{Naming, Planner, SharedDesk};
-use ctt_devices::{Failed, Sink, Source, put_whole};
+use ctt_files::{Failed, Sink, Source, put_whole};
+use ctt_grid::GridSheet;
 use ctt_text::{Instance, let_go};
 use std::alloc::Global;
 use std::marker::PhantomData;

@@ -3,18 +3,18 @@
 ghost use Rattle.std.specs.Prelude.{◌≡◌, ◌++◌, OnOk, string_bytes};
 ghost use Rattle.ctt_edits.specs.Edits.{EditFits};
 ghost use Rattle.ctt_edits.specs.Fitting.{ReplyFits};
-ghost use Rattle.ctt_crew.specs.Attended.{leaver};
+ghost use Rattle.ctt_seat.specs.Attended.{leaver};
 ghost use Rattle.ctt_office.specs.Redone.{undone_line};
 ghost use Rattle.ctt_office.specs.SeatAnswers.{Adds, Undoes, UndoesIn};
 
 use crate::answering::write_no_memory;
 use ctt_board::Sheet;
 use ctt_core::Answer;
-use ctt_crew::{Seat, Told, write_told};
 use ctt_desk::{Drafting, Naming};
 use ctt_edits::{Call, Edit, Reply};
 use ctt_line::{push_line, push_words};
 use ctt_script::{words_of_edit, words_of_fault};
+use ctt_seat::{Seat, Told, write_told};
 use ctt_text::Instance;
 use std::alloc::AllocError;
 

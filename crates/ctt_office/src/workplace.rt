@@ -1,14 +1,14 @@
 //! A seat, with the calls that can be redone there.
 
 ghost use Rattle.std.specs.Prelude.{◌≡◌, None};
-ghost use Rattle.ctt_crew.specs.Attended.{leaver};
+ghost use Rattle.ctt_seat.specs.Attended.{leaver};
 ghost use Rattle.ctt_office.specs.Ended.{OpenFits, ended_after, is_fresh_start};
 
 use ctt_board::{Sheet, Timetable};
 use ctt_core::Answer;
-use ctt_crew::{Seat, Told};
 use ctt_desk::{Naming, Planner};
 use ctt_draft::AskedCalls;
+use ctt_seat::{Seat, Told};
 use ctt_text::let_go;
 
 /// A seat, and the calls of the last draft that ended stale there, until they are redone or no

@@ -9,7 +9,7 @@ use Rattle.ctt_findings.specs.Hearing.{Fails, Hears, HearsFront}
 use Rattle.ctt_findings.specs.declared.finding.Finding.{Finding}
 use Rattle.ctt_findings.specs.declared.untold.Untold.{Untold}
 use Rattle.ctt_findings.specs.declared.untold.Untold.TheVariants.{Failed, NoMemory}
-use Rattle.ctt_devices.specs.Output.{AppendsFront, WritesOut}
+use Rattle.ctt_files.specs.Output.{AppendsFront, WritesOut}
 use Rattle.ctt_files.specs.Faults.{MayHaveWritten}
 use Rattle.ctt_files.specs.declared.fault.Fault.{Fault}
 use Rattle.ctt_files.specs.declared.fault.Fault.TheVariants.{CannotWrite}

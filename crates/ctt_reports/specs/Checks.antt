@@ -10,7 +10,7 @@ use Rattle.ctt_findings.specs.Lines.{line}
 use Rattle.ctt_findings.specs.Objects.{item_text}
 use Rattle.ctt_findings.specs.ReportText.{IsExplainedJson, IsExplainedText, IsJsonReport, IsTextReport}
 use Rattle.ctt_findings.specs.declared.finding.Finding.{Finding}
-use Rattle.ctt_devices.specs.Output.{AppendsFront}
+use Rattle.ctt_files.specs.Output.{AppendsFront}
 use Rattle.ctt_files.specs.Texts.{Held}
 use Rattle.ctt_files.specs.declared.outcome.Outcome.{Outcome}
 use Rattle.ctt_files.specs.declared.outcome.Outcome.TheVariants.{Differs, Done, Incomplete, Unlawful}
@@ -25,11 +25,6 @@ IsReport false = IsTextReport
 abbrev pub IsExplained : Bool → Problem → List Placed → List ℕ → Type 0
 IsExplained true = IsExplainedJson
 IsExplained false = IsExplainedText
-
--- the report, with all findings if they are asked for
-abbrev pub IsChecked : Bool → Bool → Problem → List Placed → List ℕ → Type 0
-IsChecked json true = IsExplained json
-IsChecked json false = IsReport json
 
 -- the text of a finding: an item of a JSON array, with a comma before it unless it is the first, or a line
 abbrev pub found_text : Bool → Problem → Bool → Finding → List ℕ
@@ -49,12 +44,13 @@ IsJudged true i t Incomplete = Lawful i t × ¬ Complete i t
 IsJudged true i t Unlawful = ¬ Lawful i t
 IsJudged true i t Differs = ⊥
 
--- the files contain an instance and a solution of it, whose report is printed, with this outcome
-abbrev pub PrintsReport : Bool → Bool → Bool → String Global → Option (String Global) → String Global → Outcome → Held → Option (List ℕ) → Option (List ℕ) → Type 0
-PrintsReport json explain strict instance barred solution outcome held old new =
-    Shows (λ problem selection timetable bytes. IsChecked json explain problem timetable bytes × IsJudged strict problem timetable outcome) instance barred None solution held (Appends old new)
+-- the files contain an instance and a solution of it, whose report with all findings is printed,
+-- with this outcome
+abbrev pub ExplainsSolution : Bool → Bool → String Global → Option (String Global) → String Global → Outcome → Held → Option (List ℕ) → Option (List ℕ) → Type 0
+ExplainsSolution json strict instance barred solution outcome held old new =
+    Shows (λ problem selection timetable. ((bytes : List ℕ) × IsExplained json problem timetable bytes × Appends old new bytes) × IsJudged strict problem timetable outcome) instance barred None solution held
 
--- a prefix of the report is printed
-abbrev pub PrintsFront : Bool → Bool → String Global → Option (String Global) → String Global → Held → Option (List ℕ) → Option (List ℕ) → Type 0
-PrintsFront json explain instance barred solution held old new =
-    Shows (λ problem selection. IsChecked json explain problem) instance barred None solution held (AppendsFront old new)
+-- a prefix of the report with all findings is printed
+abbrev pub PrintsFront : Bool → String Global → Option (String Global) → String Global → Held → Option (List ℕ) → Option (List ℕ) → Type 0
+PrintsFront json instance barred solution held old new =
+    Shows (λ problem selection timetable. (bytes : List ℕ) × IsExplained json problem timetable bytes × AppendsFront old new bytes) instance barred None solution held

@@ -2,5 +2,4 @@ pub mod Subjects
 pub mod Refusals
 pub mod Writing
 pub mod Checks
-pub mod Views
 pub mod Showings

@@ -1,14 +1,13 @@
 -- Why the commands `check`, `week` and `page` are refused.
-use Rattle.std.specs.Prelude.{◌≡◌, ◌⊎◌, Bool, true, false, Option, Some, None}
+use Rattle.std.specs.Prelude.{◌≡◌, ◌⊎◌, Option, Some, None}
 use Rattle.std.specs.Global.{Global}
 use Rattle.std.specs.declared.string.String.{String}
 use Rattle.ctt_text.specs.Problem.{Problem}
-use Rattle.ctt_files.specs.Faults.{MayHaveWritten}
 use Rattle.ctt_files.specs.Refusals.{IsOfInstanceOr, IsOfSolution}
 use Rattle.ctt_files.specs.Texts.{Held}
 use Rattle.ctt_files.specs.declared.fault.Fault.{Fault}
-use Rattle.ctt_files.specs.declared.fault.Fault.TheVariants.{CannotWrite, NoCourse, NoCurriculum, NoRoom, NoTeacher}
-use Rattle.ctt_week.specs.declared.selection.Selection.{Selection}
+use Rattle.ctt_files.specs.declared.fault.Fault.TheVariants.{NoCourse, NoCurriculum, NoRoom, NoTeacher}
+use Rattle.ctt_views.specs.declared.selection.Selection.{Selection}
 use Rattle.ctt_words.specs.declared.job.Whose.{Whose}
 use Rattle.ctt_words.specs.declared.job.Whose.TheVariants.{Course, Curriculum, Room, Teacher}
 use Rattle.ctt_reports.specs.Subjects.{IsSelection, numbered}
@@ -42,9 +41,3 @@ IsOfCheck held instance barred solution = IsOfWeek held instance barred None sol
 -- why `page` is refused
 abbrev pub IsOfPage : Held → String Global → Option (String Global) → String Global → Fault → Type 0
 IsOfPage held instance barred solution = IsOfWeek held instance barred None solution
-
--- the faults after which a part of the report may have been printed: a failed write and, in a
--- report with findings, also out of memory
-abbrev pub MayHaveTold : Bool → Fault → Type 0
-MayHaveTold true fault = MayHaveWritten fault
-MayHaveTold false fault = fault ≡ CannotWrite

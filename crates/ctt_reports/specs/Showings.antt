@@ -1,28 +1,44 @@
 -- How a solution is shown, and why it is not.
-use Rattle.std.specs.Prelude.{◌≡◌, ℕ, List, Option, None}
+use Rattle.std.specs.Prelude.{◌≡◌, Bool, true, false, List, Option, None}
 use Rattle.std.specs.Global.{Global}
 use Rattle.std.specs.declared.string.String.{String}
+use Rattle.ctt_text.specs.Problem.{Problem}
+use Rattle.ctt_text.specs.declared.placed.Placed.{Placed}
+use Rattle.ctt_files.specs.Answers.{IsTextAlone}
 use Rattle.ctt_files.specs.Texts.{Held}
 use Rattle.ctt_files.specs.declared.fault.Fault.{Fault}
-use Rattle.ctt_files.specs.declared.outcome.Outcome.{Outcome}
 use Rattle.ctt_files.specs.declared.outcome.Outcome.TheVariants.{Done}
+use Rattle.ctt_files.specs.declared.printed.Printed.{Printed}
+use Rattle.ctt_views.specs.Page.{IsPage}
+use Rattle.ctt_views.specs.Week.{week}
+use Rattle.ctt_views.specs.declared.selection.Selection.{Selection}
 use Rattle.ctt_words.specs.declared.job.Showing.{Showing}
 use Rattle.ctt_words.specs.declared.job.Showing.TheVariants.{Page, Report, Week}
 use Rattle.ctt_words.specs.declared.job.Whose.{Whose}
-use Rattle.ctt_reports.specs.Checks.{PrintsReport}
+use Rattle.ctt_reports.specs.Checks.{IsJudged, IsReport}
 use Rattle.ctt_reports.specs.Refusals.{IsOfWeek}
-use Rattle.ctt_reports.specs.Views.{PrintsPage, PrintsWeek}
+use Rattle.ctt_reports.specs.Subjects.{Shows}
 
--- the solution is shown this way, and the command has this outcome
-abbrev pub ShowsSolution : Showing → String Global → Option (String Global) → String Global → Outcome → Held → Option (List ℕ) → Option (List ℕ) → Type 0
-ShowsSolution (Report json explain strict) instance barred solution outcome held old new = PrintsReport json explain strict instance barred solution outcome held old new
-ShowsSolution (Week whose) instance barred solution outcome held old new = (outcome ≡ Done) × PrintsWeek instance barred whose solution held old new
-ShowsSolution Page instance barred solution outcome held old new = (outcome ≡ Done) × PrintsPage instance barred solution held old new
+-- whether all findings are asked for, which are printed as they are found
+abbrev pub explains : Showing → Bool
+explains (Report json explain strict) = explain
+explains showing = false
 
 -- whose week is shown, if one is named
 abbrev pub whose_of : Showing → Option Whose
 whose_of (Week whose) = whose
 whose_of showing = None
+
+-- a timetable is shown this way by the text, and the command has this outcome
+abbrev pub IsShown : Showing → Problem → Option Selection → List Placed → Printed → Type 0
+IsShown (Report json explain strict) i selection t p = IsReport json i t p.text.items × IsJudged strict i t p.outcome
+IsShown (Week whose) i selection t p = (p.text.items ≡ week i selection t) × (p.outcome ≡ Done)
+IsShown Page i selection t p = IsPage i t p.text.items × (p.outcome ≡ Done)
+
+-- the solution in a file is shown this way
+abbrev pub ShowsSolution : Showing → String Global → Option (String Global) → String Global → Held → Printed → Type 0
+ShowsSolution showing instance barred solution held p =
+    Shows (λ i selection t. IsShown showing i selection t p) instance barred (whose_of showing) solution held × IsTextAlone p
 
 -- why the solution is not shown
 abbrev pub IsOfShowing : Showing → Held → String Global → Option (String Global) → String Global → Fault → Type 0

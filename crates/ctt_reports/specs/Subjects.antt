@@ -5,8 +5,8 @@ use Rattle.std.specs.declared.string.String.{String}
 use Rattle.ctt_text.specs.Problem.{Problem, number_in}
 use Rattle.ctt_text.specs.declared.placed.Placed.{Placed}
 use Rattle.ctt_files.specs.Texts.{Held, Holds, IsInstanceIn, IsSolutionText}
-use Rattle.ctt_week.specs.declared.selection.Selection.{Selection}
-use Rattle.ctt_week.specs.declared.selection.Selection.TheVariants as number
+use Rattle.ctt_views.specs.declared.selection.Selection.{Selection}
+use Rattle.ctt_views.specs.declared.selection.Selection.TheVariants as number
 use Rattle.ctt_words.specs.declared.job.Whose.{Whose}
 use Rattle.ctt_words.specs.declared.job.Whose.TheVariants as name
 
@@ -22,15 +22,12 @@ abbrev pub IsSelection : Problem → Option Whose → Option Selection → Type 
 IsSelection i None selection = selection ≡ None
 IsSelection i (Some whose) selection = (found : Selection) × (numbered i whose ≡ Some found) × (selection ≡ Some found)
 
--- the files contain an instance, which has what is named, and a solution of it; a text for these
--- fulfils IsText, and its bytes fulfil Taken
-pub record Shows (IsText : Problem → Option Selection → List Placed → List ℕ → Type 0) (instance : String Global) (barred : Option (String Global)) (whose : Option Whose) (solution : String Global) (held : Held) (Taken : List ℕ → Type 0) : Type 0 where
+-- the files contain an instance, which has what is named, and a solution of it, of which P holds
+pub record Shows (P : Problem → Option Selection → List Placed → Type 0) (instance : String Global) (barred : Option (String Global)) (whose : Option Whose) (solution : String Global) (held : Held) : Type 0 where
   pub problem : Problem
   pub is_instance : IsInstanceIn held instance barred problem
   pub selection : Option Selection
   pub is_selection : IsSelection problem whose selection
   pub timetable : List Placed
   pub is_solution : Holds held solution (λ text. IsSolutionText problem text timetable)
-  pub bytes : List ℕ
-  pub is_text : IsText problem selection timetable bytes
-  pub taken : Taken bytes
+  pub shown : P problem selection timetable

@@ -1,20 +1,21 @@
 //! The command `check`.
 
-ghost use Rattle.std.specs.Prelude.{◌≡◌, ◌⊎◌, ◌++◌, ℕ, List, true, false, OnOk, IfOk, IfErr};
+ghost use Rattle.std.specs.Prelude.{◌≡◌, ◌⊎◌, ◌++◌, ℕ, List, None, true, false, OnOk, IfOk, IfErr};
 ghost use Rattle.std.specs.Io.KnownBytes.{Appends};
 ghost use Rattle.ctt_text.specs.Timetable.{IsTimetable};
 ghost use Rattle.ctt_findings.specs.Findings.{findings};
-ghost use Rattle.ctt_devices.specs.Output.{AppendsFront};
-ghost use Rattle.ctt_files.specs.Faults.{IfUnwritten};
+ghost use Rattle.ctt_files.specs.Output.{AppendsFront};
+ghost use Rattle.ctt_files.specs.Answers.{IsTextAlone};
+ghost use Rattle.ctt_files.specs.Faults.{IfUnwritten, MayHaveWritten};
 ghost use Rattle.ctt_files.specs.declared.fault.Fault.TheVariants.{NoMemory as OutOfMemory};
-ghost use Rattle.ctt_reports.specs.Checks.{IsChecked, IsExplained, IsJudged, IsReport, PrintsFront, PrintsReport, found_texts};
-ghost use Rattle.ctt_reports.specs.Refusals.{IsOfCheck, MayHaveTold};
+ghost use Rattle.ctt_reports.specs.Checks.{ExplainsSolution, IsExplained, IsJudged, IsReport, PrintsFront, found_texts};
+ghost use Rattle.ctt_reports.specs.Refusals.{IsOfCheck};
+ghost use Rattle.ctt_reports.specs.Subjects.{Shows};
 
 use crate::judging::judge;
 use crate::subject::fetch_subject;
 use crate::told::tell;
-use ctt_devices::Sink;
-use ctt_files::{Fault, Files, Outcome, print};
+use ctt_files::{Fault, Files, Outcome, Printed, Sink, print};
 use ctt_findings::{report_around, report_json, report_text};
 use ctt_text::{Instance, NoMemory, Placed, let_go};
 use std::alloc::Global;
@@ -56,30 +57,6 @@ fn around(
     }
 }
 
-/// Prints the report on a timetable.
-fn print_report<W: Sink>(
-    alloc: Global,
-    out: &mut W,
-    instance: &Instance,
-    timetable: &[Placed],
-    json: bool,
-) -> Result<(), Fault>
-    requires { IsTimetable instance.now timetable.now }
-    ensures prints { OnOk result ((bytes : List ℕ)
-        × IsReport json instance.now timetable.now bytes
-        × Appends (W.taken out.old) (W.taken out.new) bytes) }
-    ensures unmarked { OnOk result (W.has_failed out.new ≡ W.has_failed out.old) }
-    ensures cause { IfErr result (λ fault. IfUnwritten fault
-        (W.has_failed out.new ≡ true)
-        ((fault ≡ OutOfMemory) × (W.has_failed out.new ≡ W.has_failed out.old))) }
-    ensures part { IfErr result (λ fault. (out.new ≡ out.old) ⊎ (MayHaveTold false fault
-        × ((bytes : List ℕ) × IsReport json instance.now timetable.now bytes
-        × AppendsFront (W.taken out.old) (W.taken out.new) bytes))) }
-{
-    let report = report(alloc, instance, timetable, json)?;
-    print(out, &report)
-}
-
 /// Prints the report on a timetable with all findings, which are written as they are found.
 fn print_explained<W: Sink>(
     alloc: Global,
@@ -96,7 +73,7 @@ fn print_explained<W: Sink>(
     ensures cause { IfErr result (λ fault. IfUnwritten fault
         (W.has_failed out.new ≡ true)
         ((fault ≡ OutOfMemory) × (W.has_failed out.new ≡ W.has_failed out.old))) }
-    ensures part { IfErr result (λ fault. (out.new ≡ out.old) ⊎ (MayHaveTold true fault
+    ensures part { IfErr result (λ fault. (out.new ≡ out.old) ⊎ (MayHaveWritten fault
         × ((bytes : List ℕ) × IsExplained json instance.now timetable.now bytes
         × AppendsFront (W.taken out.old) (W.taken out.new) bytes))) }
 {
@@ -106,38 +83,36 @@ fn print_explained<W: Sink>(
     print(out, &rest)
 }
 
-/// Prints the report on a timetable, with all findings if `explain` is set.
-fn print_checked<W: Sink>(
+/// Returns the report on a solution of an instance, as text or as JSON. If `strict` is set, the
+/// outcome says whether the solution is lawful and complete. Files are given by name.
+pub(crate) fn answer_report<F: Files>(
     alloc: Global,
-    out: &mut W,
-    instance: &Instance,
-    timetable: &[Placed],
+    files: &mut F,
+    instance: String,
+    barred: Option<String>,
+    solution: String,
     json: bool,
-    explain: bool,
-) -> Result<(), Fault>
-    requires { IsTimetable instance.now timetable.now }
-    ensures prints { OnOk result ((bytes : List ℕ)
-        × IsChecked json explain instance.now timetable.now bytes
-        × Appends (W.taken out.old) (W.taken out.new) bytes) }
-    ensures unmarked { OnOk result (W.has_failed out.new ≡ W.has_failed out.old) }
-    ensures cause { IfErr result (λ fault. IfUnwritten fault
-        (W.has_failed out.new ≡ true)
-        ((fault ≡ OutOfMemory) × (W.has_failed out.new ≡ W.has_failed out.old))) }
-    ensures part { IfErr result (λ fault. (out.new ≡ out.old) ⊎ (MayHaveTold explain fault
-        × ((bytes : List ℕ) × IsChecked json explain instance.now timetable.now bytes
-        × AppendsFront (W.taken out.old) (W.taken out.new) bytes))) }
+    strict: bool,
+) -> Result<Printed, Fault>
+    ensures shows { IfOk result (λ p.
+        Shows (λ i selection t. IsReport json i t p.text.items × IsJudged strict i t p.outcome)
+        instance barred None solution (F.held files.old)) }
+    ensures alone { IfOk result IsTextAlone }
+    ensures kept { F.held files.new ≡ F.held files.old }
+    ensures cause { IfErr result (IsOfCheck (F.held files.old) instance barred solution) }
 {
-    if explain {
-        print_explained(alloc, out, instance, timetable, json)
-    } else {
-        print_report(alloc, out, instance, timetable, json)
-    }
+    let subject = fetch_subject(alloc, files, instance, barred, None, solution)?;
+    let (instance, timetable) = (&subject.instance, &subject.timetable);
+    let text = report(alloc, instance, timetable, json);
+    let outcome = judge(instance, timetable, strict);
+    let_go(subject);
+    Ok(Printed::new(alloc, text?, outcome))
 }
 
-/// Prints the report on a solution of an instance, as text or as JSON, with all findings if
-/// `explain` is set. If `strict` is set, the outcome says whether the solution is lawful and
-/// complete. Files are given by name.
-pub(crate) fn check<F: Files, W: Sink>(
+/// Prints the report on a solution of an instance with all findings, as text or as JSON, as they
+/// are found. If `strict` is set, the outcome says whether the solution is lawful and complete.
+/// Files are given by name.
+pub fn explain<F: Files, W: Sink>(
     alloc: Global,
     files: &mut F,
     out: &mut W,
@@ -145,11 +120,10 @@ pub(crate) fn check<F: Files, W: Sink>(
     barred: Option<String>,
     solution: String,
     json: bool,
-    explain: bool,
     strict: bool,
 ) -> Result<Outcome, Fault>
-    ensures reports { IfOk result (λ outcome.
-        PrintsReport json explain strict instance barred solution outcome (F.held files.old)
+    ensures explains { IfOk result (λ outcome.
+        ExplainsSolution json strict instance barred solution outcome (F.held files.old)
         (W.taken out.old) (W.taken out.new)) }
     ensures kept { F.held files.new ≡ F.held files.old }
     ensures unmarked { OnOk result (W.has_failed out.new ≡ W.has_failed out.old) }
@@ -157,13 +131,13 @@ pub(crate) fn check<F: Files, W: Sink>(
         (W.has_failed out.new ≡ true)
         (IsOfCheck (F.held files.old) instance barred solution fault
         × (W.has_failed out.new ≡ W.has_failed out.old))) }
-    ensures part { IfErr result (λ fault. (out.new ≡ out.old) ⊎ (MayHaveTold explain fault
-        × PrintsFront json explain instance barred solution (F.held files.old)
+    ensures part { IfErr result (λ fault. (out.new ≡ out.old) ⊎ (MayHaveWritten fault
+        × PrintsFront json instance barred solution (F.held files.old)
         (W.taken out.old) (W.taken out.new))) }
 {
     let subject = fetch_subject(alloc, files, instance, barred, None, solution)?;
     let (instance, timetable) = (&subject.instance, &subject.timetable);
-    let printed = print_checked(alloc, out, instance, timetable, json, explain);
+    let printed = print_explained(alloc, out, instance, timetable, json);
     let outcome = judge(instance, timetable, strict);
     let_go(subject);
     printed?;

@@ -8,4 +8,5 @@ mod showing;
 mod subject;
 mod told;
 
+pub use checking::explain;
 pub use showing::show;

@@ -1,38 +1,36 @@
 //! The commands `week` and `page`.
 
-ghost use Rattle.std.specs.Prelude.{◌≡◌, true, OnOk, IfErr};
-ghost use Rattle.ctt_files.specs.Faults.{IfUnwritten};
+ghost use Rattle.std.specs.Prelude.{◌≡◌, None, IfOk, IfErr};
+ghost use Rattle.ctt_files.specs.Answers.{IsTextAlone};
+ghost use Rattle.ctt_files.specs.declared.outcome.Outcome.TheVariants.{Done};
+ghost use Rattle.ctt_views.specs.Page.{IsPage};
+ghost use Rattle.ctt_views.specs.Week.{week};
 ghost use Rattle.ctt_reports.specs.Refusals.{IsOfPage, IsOfWeek};
-ghost use Rattle.ctt_reports.specs.Views.{PrintsPage, PrintsWeek};
+ghost use Rattle.ctt_reports.specs.Subjects.{Shows};
 
 use crate::subject::fetch_subject;
-use ctt_devices::Sink;
-use ctt_files::{Fault, Files, print};
-use ctt_page::page_text;
+use ctt_files::{Fault, Files, Outcome, Printed};
 use ctt_text::let_go;
-use ctt_week::week_text;
+use ctt_views::{page_text, week_text};
 use ctt_words::Whose;
 use std::alloc::Global;
 
-/// Prints the week of what is named, or of all rooms, in a solution of an instance. Files are given
-/// by name.
-pub(crate) fn week<F: Files, W: Sink>(
+/// Returns the week of a solution of an instance: of what is named, or of all rooms. Files are
+/// given by name.
+pub(crate) fn answer_week<F: Files>(
     alloc: Global,
     files: &mut F,
-    out: &mut W,
     instance: String,
     barred: Option<String>,
     solution: String,
     whose: Option<Whose>,
-) -> Result<(), Fault>
-    ensures prints { OnOk result (PrintsWeek instance barred whose solution (F.held files.old)
-        (W.taken out.old) (W.taken out.new)) }
+) -> Result<Printed, Fault>
+    ensures shows { IfOk result (λ p.
+        Shows (λ i selection t. (p.text.items ≡ week i selection t) × (p.outcome ≡ Done))
+        instance barred whose solution (F.held files.old)) }
+    ensures alone { IfOk result IsTextAlone }
     ensures kept { F.held files.new ≡ F.held files.old }
-    ensures unmarked { OnOk result (W.has_failed out.new ≡ W.has_failed out.old) }
-    ensures cause { IfErr result (λ fault. IfUnwritten fault
-        (W.has_failed out.new ≡ true)
-        (IsOfWeek (F.held files.old) instance barred whose solution fault
-        × (out.new ≡ out.old))) }
+    ensures cause { IfErr result (IsOfWeek (F.held files.old) instance barred whose solution) }
 {
     let subject = fetch_subject(alloc, files, instance, barred, whose, solution)?;
     let text = week_text(
@@ -42,28 +40,26 @@ pub(crate) fn week<F: Files, W: Sink>(
         &subject.timetable,
     );
     let_go(subject);
-    print(out, text?.as_bytes())
+    Ok(Printed::new(alloc, text?.into_bytes(), Outcome::Done))
 }
 
-/// Prints a page for a browser on a solution of an instance. Files are given by name.
-pub(crate) fn page<F: Files, W: Sink>(
+/// Returns the page on a solution of an instance, for a browser. Files are given by name.
+pub(crate) fn answer_page<F: Files>(
     alloc: Global,
     files: &mut F,
-    out: &mut W,
     instance: String,
     barred: Option<String>,
     solution: String,
-) -> Result<(), Fault>
-    ensures prints { OnOk result (PrintsPage instance barred solution (F.held files.old)
-        (W.taken out.old) (W.taken out.new)) }
+) -> Result<Printed, Fault>
+    ensures shows { IfOk result (λ p.
+        Shows (λ i selection t. IsPage i t p.text.items × (p.outcome ≡ Done))
+        instance barred None solution (F.held files.old)) }
+    ensures alone { IfOk result IsTextAlone }
     ensures kept { F.held files.new ≡ F.held files.old }
-    ensures unmarked { OnOk result (W.has_failed out.new ≡ W.has_failed out.old) }
-    ensures cause { IfErr result (λ fault. IfUnwritten fault
-        (W.has_failed out.new ≡ true)
-        (IsOfPage (F.held files.old) instance barred solution fault × (out.new ≡ out.old))) }
+    ensures cause { IfErr result (IsOfPage (F.held files.old) instance barred solution) }
 {
     let subject = fetch_subject(alloc, files, instance, barred, None, solution)?;
     let text = page_text(alloc, &subject.instance, &subject.timetable);
     let_go(subject);
-    print(out, text?.as_bytes())
+    Ok(Printed::new(alloc, text?.into_bytes(), Outcome::Done))
 }

@@ -3,13 +3,13 @@
 ghost use Rattle.std.specs.Prelude.{◌≡◌, IfOk, IfErr, IfSome, string_bytes};
 ghost use Rattle.ctt_text.specs.Timetable.{IsTimetable};
 ghost use Rattle.ctt_files.specs.Texts.{IsInstanceIn, IsSolutionText};
-ghost use Rattle.ctt_week.specs.Week.{SelectionFits};
+ghost use Rattle.ctt_views.specs.Week.{SelectionFits};
 ghost use Rattle.ctt_reports.specs.Refusals.{IsNoName, IsOfSubject, IsOfWeek};
 ghost use Rattle.ctt_reports.specs.Subjects.{IsSelection};
 
 use ctt_files::{Fault, Files, fetch_instance, fetch_solution};
 use ctt_text::{Instance, Placed, let_go};
-use ctt_week::Selection;
+use ctt_views::Selection;
 use ctt_words::Whose;
 use std::alloc::Global;
 

@@ -5,13 +5,12 @@ ghost use Rattle.std.specs.Io.KnownBytes.{Appends};
 ghost use Rattle.ctt_text.specs.Timetable.{IsTimetable};
 ghost use Rattle.ctt_findings.specs.Findings.{findings};
 ghost use Rattle.ctt_findings.specs.Fitting.{FindingFits};
-ghost use Rattle.ctt_devices.specs.Output.{AppendsFront};
+ghost use Rattle.ctt_files.specs.Output.{AppendsFront};
 ghost use Rattle.ctt_files.specs.Faults.{IfUnwritten, MayHaveWritten};
 ghost use Rattle.ctt_files.specs.declared.fault.Fault.TheVariants.{NoMemory};
 ghost use Rattle.ctt_reports.specs.Checks.{found_text, found_texts};
 
-use ctt_devices::{Sink, put_long};
-use ctt_files::{Fault, print};
+use ctt_files::{Fault, Sink, print, put_long};
 use ctt_findings::{Finding, Listener, Untold, push_item, push_line, tell_findings};
 use ctt_text::{Instance, Placed};
 use std::alloc::{AllocError, Global};
@@ -50,7 +49,7 @@ struct Told<'w, W> {
 
 impl<'w, W: Sink> Listener for Told<'w, W> {
     ghost use Rattle.std.specs.Prelude.{◌≡◌, ◌++◌, true, string_bytes};
-    ghost use Rattle.ctt_devices.specs.Output.{AppendsFront, WritesOut};
+    ghost use Rattle.ctt_files.specs.Output.{AppendsFront, WritesOut};
     ghost use Rattle.ctt_reports.specs.Checks.{found_text};
     ghost use Rattle.ctt_reports.specs.Writing.{Marks};
 

@@ -15,9 +15,9 @@ use Rattle.ctt_core.specs.Desks.{DeskValue, SameDesk}
 use Rattle.ctt_core.specs.Laws.{Stands}
 use Rattle.ctt_script.specs.Entries.{AnswerFits}
 use Rattle.ctt_script.specs.AnswerText.{answer_words, bad_line, answered, answers_after, run_after}
-use Rattle.ctt_devices.specs.Output.{WritesOut}
+use Rattle.ctt_files.specs.Output.{WritesOut}
 use Rattle.ctt_script.specs.Answering.{IsAtRun, Answered, Answering, Wrote, WroteFront}
-use Rattle.ctt_devices.specs.Output.{AppendsFront}
+use Rattle.ctt_files.specs.Output.{AppendsFront}
 use Rattle.ctt_script.specs.ScriptText.{items_of}
 use Rattle.ctt_line.specs.Lines.{line}
 use Rattle.ctt_script.proofs.AnswersFit.{answer_fits}

@@ -19,7 +19,7 @@ use Rattle.ctt_script.specs.Answering.{Wrote, WroteFront}
 use Rattle.ctt_edits.specs.Fitting.{AreFew}
 use Rattle.ctt_core.specs.Entries.{EntryFits}
 use Rattle.ctt_script.specs.Entries.{IsShort, IsEntry, IsWritable}
-use Rattle.ctt_devices.specs.Output.{AppendsFront}
+use Rattle.ctt_files.specs.Output.{AppendsFront}
 use Rattle.ctt_script.specs.ScriptText.{script, lines_of, item, has_words}
 use Rattle.ctt_script.proofs.AnswersFit.{journal_is}
 use Rattle.ctt_board.proofs.LawfulLemmas.{length-filter_le}

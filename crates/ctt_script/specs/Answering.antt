@@ -6,7 +6,7 @@ use Rattle.ctt_core.specs.Desks.{DeskValue, SameDesk}
 use Rattle.ctt_core.specs.Laws.{Stands}
 use Rattle.ctt_core.specs.declared.event.Event.{Event}
 use Rattle.ctt_script.specs.AnswerText.{answers_after, run_after}
-use Rattle.ctt_devices.specs.Output.{AppendsFront}
+use Rattle.ctt_files.specs.Output.{AppendsFront}
 use Rattle.ctt_script.specs.ScriptText.{items_of}
 
 -- the desk is in the state that some run leads to

@@ -5,8 +5,8 @@ use Rattle.ctt_text.specs.declared.placed.Placed.{Placed}
 use Rattle.ctt_edits.specs.Openings.{opening}
 use Rattle.ctt_core.specs.declared.desk_fault.DeskFault.{DeskFault}
 use Rattle.ctt_core.specs.declared.desk_fault.DeskFault.TheVariants as desk_fault
-use Rattle.ctt_devices.specs.declared.input.InputFault.{InputFault}
-use Rattle.ctt_devices.specs.declared.input.InputFault.TheVariants as input_fault
+use Rattle.ctt_files.specs.declared.input.InputFault.{InputFault}
+use Rattle.ctt_files.specs.declared.input.InputFault.TheVariants as input_fault
 use Rattle.ctt_script.specs.declared.script_fault.ScriptFault.{ScriptFault}
 use Rattle.ctt_script.specs.declared.script_fault.ScriptFault.TheVariants as script_fault
 

@@ -13,7 +13,7 @@ ghost use Rattle.ctt_core.specs.declared.desk_fault.DeskFault.TheVariants as des
 ghost use Rattle.ctt_script.specs.AnswerText.{answer_text, script_run};
 ghost use Rattle.ctt_script.specs.Answering.{Answered, IsAtRun, Wrote, WroteFront};
 ghost use Rattle.ctt_script.specs.Entries.{IsWritable};
-ghost use Rattle.ctt_devices.specs.Output.{AppendsFront};
+ghost use Rattle.ctt_files.specs.Output.{AppendsFront};
 ghost use Rattle.ctt_script.specs.RunFaults.{IsCauseOf, MayHaveWritten};
 ghost use Rattle.ctt_script.specs.ScriptText.{items_of, script};
 ghost use Rattle.ctt_script.specs.declared.script_fault.ScriptFault.TheVariants as script_fault;
@@ -22,9 +22,10 @@ use crate::answers::{write_answer, write_bad_line};
 use crate::lines::Lines;
 use crate::script::{PLANNERS, has_words, read_line};
 use crate::script_fault::ScriptFault;
-use ctt_board::{GridSheet, Sheet};
+use ctt_board::Sheet;
 use ctt_core::{Answer, Desk, Event};
-use ctt_devices::{INPUT_LIMIT, Sink, Source, put_long, put_whole, read_all};
+use ctt_files::{INPUT_LIMIT, Sink, Source, put_long, put_whole, read_all};
+use ctt_grid::GridSheet;
 use ctt_text::{Instance, NoMemory, Placed, let_go};
 use std::alloc::Global;
 

@@ -6,8 +6,8 @@ ghost use Rattle.ctt_script.specs.RunFaults.{of_desk, of_input};
 ghost use Rattle.ctt_script.specs.declared.script_fault.ScriptFault.TheVariants as script_fault;
 
 use ctt_core::DeskFault;
-use ctt_devices::{Failed, InputFault};
 use ctt_edits::EditFault;
+use ctt_files::{Failed, InputFault};
 use ctt_text::NoMemory;
 use std::alloc::AllocError;
 use thiserror::Error;

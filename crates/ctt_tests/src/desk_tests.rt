@@ -1,16 +1,16 @@
-//! Planners of one desk of grid sheets, two of whom commit drafts in alternation, on threads of
-//! their own. Each entry must be where its receipt says. A third planner may then learn their last
-//! receipts, and all must see what was placed.
+//! Two planners of one desk, on threads of their own, commit drafts. Each entry must be where its
+//! receipt says. A third planner may learn their last receipts; all must see what was placed.
 
 ghost use Rattle.ctt_desk.specs.Names.{IsNamed};
 
 use crate::desks::{accept, costs, draft_of, empty, expect_seen, is_entry, is_left, place};
 use crate::small::{geo_second, small_instance, top_third};
 use crate::stopped::Stopped;
-use ctt_board::{GridSheet, Sheet, Timetable};
+use ctt_board::{Sheet, Timetable};
 use ctt_core::{JournalEntry, PlannerNo};
 use ctt_desk::{Closed, Named, Naming, Opened, Planner, Receipt, SharedDesk};
 use ctt_edits::{Call, Edit};
+use ctt_grid::GridSheet;
 use ctt_rules::Cost;
 use ctt_text::{Instance, Placed, let_go};
 use std::alloc::Global;
@@ -39,8 +39,7 @@ struct Committed<S: Timetable, J: Naming> {
     receipt: Receipt<J>,
 }
 
-/// The numbers of a planner's receipts, in the order of the drafts, with the lecture that these
-/// place and drop.
+/// The numbers of a planner's receipts, in order, and the lecture that the drafts place and drop.
 #[derive(Drop)]
 struct Numbers {
     planner: PlannerNo,
@@ -241,8 +240,7 @@ fn come_once(one: &Numbers, two: &Numbers, last: u64) -> bool {
     true
 }
 
-/// Returns whether a closed desk has the entries of both planners where their receipts say, each
-/// number once, and the lectures that are left.
+/// Returns whether a closed desk has both planners' entries, each once, and what lectures are left.
 fn is_of_both<S: Timetable, J: Naming>(
     closed: &Closed<S, J>,
     numbers: &(Numbers, Numbers),

@@ -28,7 +28,7 @@ use Rattle.ctt_files.proofs.Plain.{plain_written}
 use Rattle.ctt_tool.specs.Audits.{VerdictFits}
 use Rattle.ctt_tool.specs.Faults.{IsRunFault, RunFaultFits}
 use Rattle.ctt_tool.specs.Refusals.{IsAnswerFault, IsOfScript}
-use Rattle.ctt_tool.specs.Runs.{KeepOthers, Stores}
+use Rattle.ctt_files.specs.Storing.{KeepOthers, Stores}
 use Rattle.ctt_tool.proofs.Plain.{refused_plain}
 
 -- if the fault of an opening names a course, it is one of the instance

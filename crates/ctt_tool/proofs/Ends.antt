@@ -1,9 +1,10 @@
 -- How the program ends, by its status.
-use Rattle.std.proofs.Common.{◌≡◌, ◌≢◌, ◌≤◌, ◌∙◌, ◌⊎◌, refl, ap, sym, inl, inr, true, ⊎_elim, subst, ℕ, suc, Bool, List, [], Option, Result, Ok, Err, IfOk, IfErr, OnOk, OnErr, arith}
+use Rattle.std.proofs.Common.{◌≡◌, ◌≢◌, ◌≤◌, ◌∙◌, ◌⊎◌, refl, ap, sym, inl, inr, true, false, ⊎_elim, subst, ℕ, suc, Bool, List, [], Option, Result, Ok, Err, IfOk, IfErr, OnOk, OnErr, arith}
 use Rattle.std.specs.Global.{Global}
 use Rattle.std.specs.declared.string.String.{String}
 use Rattle.ctt_words.specs.Jobs.{IsJobOf, faults_of}
 use Rattle.ctt_words.specs.declared.job.Job.{Job}
+use Rattle.ctt_words.specs.declared.job.Showing.TheVariants.{Page, Report, Week}
 use Rattle.ctt_words.specs.declared.job.Task.{Task}
 use Rattle.ctt_words.specs.declared.job.Task.TheVariants.{Audit, Crew, Desk, Journal as Journals, Listing, Mending, Run, Show}
 use Rattle.ctt_files.specs.Faults.{MayHaveWritten, status_of}
@@ -100,6 +101,11 @@ pub done_so : {E : Type 0} (r : Result Outcome E) (P : Type 0) (Q : Outcome → 
 done_so (Ok outcome) P Q done does gives = gives outcome done does
 done_so (Err fault) P Q done does gives = tt
 
+-- two properties of a success
+pub both_ok : {T E : Type 0} (r : Result T E) (P Q R : T → Type 0) → IfOk r P → IfOk r Q → ((x : T) → P x → Q x → R x) → IfOk r R
+both_ok (Ok x) P Q R one two gives = gives x one two
+both_ok (Err e) P Q R one two gives = tt
+
 -- what holds in any case holds of a success
 pub on_ok_too : {T E : Type 0} (r : Result T E) (P : Type 0) → P → OnOk r P
 on_ok_too (Ok value) P holds = holds
@@ -122,14 +128,17 @@ failed_so (Err fault) F P Q is holds gives = gives fault is holds
 -- a job that ends with another outcome than `Done` has changed no file
 task_kept : (instance : String Global) (barred : Option (String Global)) (task : Task) (outcome : Outcome) (before after : Held) (old new : Option (List ℕ))
     → DoesTask instance barred task outcome before after old new → outcome ≢ Done → after ≡ before
-task_kept instance barred (Show solution showing) outcome before after old new does other = does.0
+task_kept instance barred (Show solution (Report json true strict)) outcome before after old new does other = does.0
+task_kept instance barred (Show solution (Report json false strict)) outcome before after old new does other = does.0
+task_kept instance barred (Show solution (Week whose)) outcome before after old new does other = does.0
+task_kept instance barred (Show solution Page) outcome before after old new does other = does.0
 task_kept instance barred (Run script start journal) outcome before after old new does other = absurd (other does.0)
 task_kept instance barred (Audit journal start) outcome before after old new does other = does.0
-task_kept instance barred (Crew scripts) outcome before after old new does other = absurd (other does.0)
+task_kept instance barred (Crew scripts) outcome before after old new does other = does.0
 task_kept instance barred (Desk seats start minutes) outcome before after old new does other = absurd (other does.0)
-task_kept instance barred (Journals minutes) outcome before after old new does other = absurd (other does.0)
+task_kept instance barred (Journals minutes) outcome before after old new does other = does.0
 task_kept instance barred (Listing journal start) outcome before after old new does other = does.0
-task_kept instance barred (Mending solution) outcome before after old new does other = absurd (other does.0)
+task_kept instance barred (Mending solution) outcome before after old new does other = does.0
 
 pub other_kept : (words : List (List ℕ)) (outcome : Outcome) (before after : Held) (old new : Option (List ℕ)) → DoesAsAsked words outcome before after old new → outcome ≢ Done → after ≡ before
 other_kept words outcome before after old new (inl help) other = help.2

@@ -49,10 +49,10 @@ IsWord _ = ⊥
 
 -- a fault of a job is a plain one, except for too many scripts, which only a crew has, and for the
 -- seats of a desk
-abbrev IsSpecial : Task → Fault → Type 0
+abbrev pub IsSpecial : Task → Fault → Type 0
 IsSpecial task fault = ((fault ≡ TooManyScripts) × (64 < length (scripts_of task))) ⊎ ((fault ≡ BadSeats) × HasBadSeats task)
 
-task_plain : (instance : String Global) (barred : Option (String Global)) (task : Task) (held : Held) (fault : Fault) → IsOfTask instance barred task held fault
+pub task_plain : (instance : String Global) (barred : Option (String Global)) (task : Task) (held : Held) (fault : Fault) → IsOfTask instance barred task held fault
     → IsPlain fault ⊎ IsSpecial task fault
 task_plain instance barred (Show solution showing) held fault is = inl (look_plain held instance barred (whose_of showing) solution fault is)
 task_plain instance barred (Run script start journal) held fault is = inl (behind_plain (IsOfScript script start) (script_plain script start) held instance barred fault is)

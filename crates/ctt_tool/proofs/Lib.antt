@@ -5,3 +5,4 @@ pub mod Desks
 pub mod Ends
 pub mod Audited
 pub mod Offices
+pub mod Delivered

@@ -1,11 +1,13 @@
 -- What the command `crew` prints.
-use Rattle.std.specs.Prelude.{◌≤◌, ℕ, List, [], length, Option}
+use Rattle.std.specs.Prelude.{◌≡◌, ◌≤◌, ℕ, List, [], length, Option}
 use Rattle.std.specs.Global.{Global}
-use Rattle.std.specs.Io.KnownBytes.{Appends}
 use Rattle.std.specs.declared.string.String.{String}
 use Rattle.ctt_text.specs.Problem.{Problem}
-use Rattle.ctt_crew.specs.Attended.{IsCrewText}
+use Rattle.ctt_seat.specs.Attended.{IsCrewText}
+use Rattle.ctt_files.specs.Answers.{IsTextAlone}
 use Rattle.ctt_files.specs.Texts.{Held, HoldInTurn, IsInstanceIn}
+use Rattle.ctt_files.specs.declared.outcome.Outcome.TheVariants.{Done}
+use Rattle.ctt_files.specs.declared.printed.Printed.{Printed}
 
 -- the bytes are what a crew writes on the instance in a file, with a desk that opens empty and one
 -- planner for each of the scripts in these files
@@ -16,10 +18,7 @@ pub record IsOfCrewOn (instance : String Global) (barred : Option (String Global
   pub hold : HoldInTurn held scripts texts
   pub is_crew : IsCrewText problem [] texts bytes
 
--- such a text, of one to 64 planners, is printed
-pub record PrintsCrew (instance : String Global) (barred : Option (String Global)) (scripts : List (String Global)) (held : Held) (old new : Option (List ℕ)) : Type 0 where
-  pub some : 1 ≤ length scripts
-  pub few : length scripts ≤ 64
-  pub bytes : List ℕ
-  pub is_crew : IsOfCrewOn instance barred scripts held bytes
-  pub prints : Appends old new bytes
+-- the text is such, of one to 64 planners; the command is done, and nothing else is left
+abbrev pub WritesCrew : String Global → Option (String Global) → List (String Global) → Held → Printed → Type 0
+WritesCrew instance barred scripts held p = (1 ≤ length scripts) × (length scripts ≤ 64)
+    × IsOfCrewOn instance barred scripts held p.text.items × (p.outcome ≡ Done) × IsTextAlone p

@@ -6,7 +6,7 @@ use Rattle.std.specs.declared.string.String.{String}
 use Rattle.ctt_text.specs.Problem.{Problem}
 use Rattle.ctt_text.specs.declared.placed.Placed.{Placed}
 use Rattle.ctt_edits.specs.Openings.{opening}
-use Rattle.ctt_crew.specs.Attended.{IsCrewText}
+use Rattle.ctt_seat.specs.Attended.{IsCrewText}
 use Rattle.ctt_files.specs.Texts.{Held, IsInstanceIn, IsStart}
 use Rattle.ctt_tool.specs.Seats.{has_standard}
 

@@ -1,15 +1,12 @@
 -- Which files tasks get and store, and whether they write to standard error.
-use Rattle.std.specs.Prelude.{◌≡◌, ◌⊎◌, false, true, List, [], Option, Some, None, is_some}
+use Rattle.std.specs.Prelude.{◌≡◌, ◌⊎◌, Bool, false, true, List, [], Option, None, is_some}
 use Rattle.std.specs.Global.{Global}
 use Rattle.std.specs.declared.string.String.{String}
 use Rattle.ctt_words.specs.declared.job.Task.{Task}
-use Rattle.ctt_words.specs.declared.job.Task.TheVariants.{Crew, Desk, Journal, Mending, Run}
+use Rattle.ctt_words.specs.declared.job.Task.TheVariants.{Crew, Desk, Journal, Mending, Run, Show}
+use Rattle.ctt_reports.specs.Showings.{explains}
+use Rattle.ctt_files.specs.Storing.{IsGiven}
 use Rattle.ctt_tool.specs.Seats.{AreBadSeats, has_standard}
-
--- a file is given
-abbrev pub IsGiven : Option (String Global) → Type 0
-IsGiven None = ⊥
-IsGiven (Some name) = Unit {0}
 
 -- the scripts of a crew
 abbrev pub scripts_of : Task → List (String Global)
@@ -39,6 +36,14 @@ Saying (Desk seats start minutes) = (is_some minutes ≡ false) ⊎ (has_standar
 Saying (Journal minutes) = Unit {0}
 Saying (Mending solution) = Unit {0}
 Saying task = ⊥
+
+-- whether the task prints its answer while it works: all findings, the answers to a script, or
+-- what the seats of a desk get
+abbrev pub streams : Task → Bool
+streams (Show solution showing) = explains showing
+streams (Run script start journal) = true
+streams (Desk seats start minutes) = true
+streams task = false
 
 -- this output includes a warning, and if that cannot be written, the task is done nevertheless
 abbrev pub Warning : Task → Type 0

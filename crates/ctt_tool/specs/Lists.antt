@@ -1,8 +1,8 @@
 -- What the commands `journal` and `list` print, and which texts they refuse.
-use Rattle.std.specs.Prelude.{◌≡◌, ◌≢◌, ◌⊎◌, ◌++◌, ℕ, Bool, List, [], Option, Some, None, IfSome, codes, flat_map, is_some, length}
+use Rattle.std.specs.Prelude.{◌≡◌, ◌≢◌, ◌⊎◌, ◌++◌, ℕ, List, [], Option, Some, None, IfSome, codes, flat_map, is_some, length}
 use Rattle.std.specs.Fmt.{decimal}
 use Rattle.std.specs.Global.{Global}
-use Rattle.std.specs.Io.KnownBytes.{Appends}
+use Rattle.std.specs.String.{string_bytes}
 use Rattle.std.specs.declared.string.String.{String}
 use Rattle.ctt_text.specs.Problem.{Problem}
 use Rattle.ctt_text.specs.Written.{soltext}
@@ -13,10 +13,11 @@ use Rattle.ctt_core.specs.declared.auditing.Verdict.TheVariants.{Agrees}
 use Rattle.ctt_core.specs.declared.journal.JournalEntry.{JournalEntry}
 use Rattle.ctt_script.specs.WrittenText.{entry_text, journal_text}
 use Rattle.ctt_office.specs.Recovery.{IsRecovered}
-use Rattle.ctt_files.specs.Texts.{Held, Holds, IsInstanceIn, IsStart}
-use Rattle.ctt_files.specs.declared.outcome.Outcome.{Outcome}
+use Rattle.ctt_files.specs.Answers.{IsTextAlone, OfInstance}
+use Rattle.ctt_files.specs.Texts.{Held, Holds, IsStart}
 use Rattle.ctt_files.specs.declared.outcome.Outcome.TheVariants.{Done}
-use Rattle.ctt_tool.specs.Audits.{PrintsVerdict}
+use Rattle.ctt_files.specs.declared.printed.Printed.{Printed}
+use Rattle.ctt_tool.specs.Audits.{ShowsVerdict}
 use Rattle.ctt_tool.specs.Texts.{IsJournalText}
 
 -- if an incomplete entry follows these entries, it begins after their bytes
@@ -31,56 +32,40 @@ pub record IsRecoveredJournal (problem : Problem) (text : List ℕ) (torn : Opti
   pub is_behind : IsTornBehind problem entries torn
   pub is : bytes ≡ journal_text problem entries
 
--- the whole entries at the beginning of the minutes in a file are printed as a journal
-pub record PrintsEntries (problem : Problem) (minutes : String Global) (held : Held) (old new : Option (List ℕ)) : Type 0 where
-  pub entries : List JournalEntry
-  pub torn : Bool
-  pub is_recovered : Holds held minutes (λ text. IsRecovered problem text entries torn)
-  pub prints : Appends old new (journal_text problem entries)
-
--- the same for the instance in a file
-pub record PrintsJournal (instance : String Global) (barred : Option (String Global)) (minutes : String Global) (held : Held) (old new : Option (List ℕ)) : Type 0 where
-  pub problem : Problem
-  pub is_instance : IsInstanceIn held instance barred problem
-  pub prints : PrintsEntries problem minutes held old new
-
 -- the line that reports the byte at which an incomplete entry begins, or the empty text
 abbrev pub torn_text : Option ℕ → List ℕ
 torn_text None = []
 torn_text (Some at) = codes "timedesk: torn at byte " ++ (decimal at ++ codes "\n")
 
--- if an incomplete entry follows the whole ones in the minutes of a file, the byte at which it
--- begins is reported
-pub record SaysTorn (problem : Problem) (minutes : String Global) (held : Held) (old new : Option (List ℕ)) : Type 0 where
+-- the text is the journal of the whole entries at the beginning of the minutes in a file; if an
+-- incomplete entry follows them, the byte at which it begins is reported
+pub record RecoversOn (problem : Problem) (minutes : String Global) (held : Held) (p : Printed) : Type 0 where
   pub entries : List JournalEntry
   pub torn : Option ℕ
   pub is_recovered : Holds held minutes (λ text. IsRecovered problem text entries (is_some torn))
   pub is_behind : IsTornBehind problem entries torn
-  pub says : Appends old new (torn_text torn)
+  pub text : p.text.items ≡ journal_text problem entries
+  pub aside : string_bytes p.aside ≡ torn_text torn
 
--- the same for the instance in a file
-pub record SaysTornOf (instance : String Global) (barred : Option (String Global)) (minutes : String Global) (held : Held) (old new : Option (List ℕ)) : Type 0 where
-  pub problem : Problem
-  pub is_instance : IsInstanceIn held instance barred problem
-  pub says : SaysTorn problem minutes held old new
+-- the same for the instance in a file; the command is done, and nothing is stored
+abbrev pub RecoversJournal : String Global → Option (String Global) → String Global → Held → Printed → Type 0
+RecoversJournal instance barred minutes held p = OfInstance held instance barred (λ problem. RecoversOn problem minutes held p) × (p.store ≡ None) × (p.outcome ≡ Done)
 
--- the timetable after the entries is printed as a solution, or the verdict of the audit if the
+-- the text is the timetable after the entries, as a solution, or the verdict of the audit if the
 -- entries do not agree
-abbrev pub PrintsLeft : Problem → List Placed → List JournalEntry → Outcome → Option (List ℕ) → Option (List ℕ) → Type 0
-PrintsLeft problem lectures entries outcome old new =
-    ((outcome ≡ Done) × ((list : List Placed) × LeavesList problem lectures entries list × Appends old new (soltext problem list)))
-    ⊎ ((verdict : Verdict) × IsVerdict problem lectures entries verdict × (verdict ≢ Agrees) × PrintsVerdict verdict outcome old new)
+abbrev pub ShowsLeft : Problem → List Placed → List JournalEntry → Printed → Type 0
+ShowsLeft problem lectures entries p =
+    ((p.outcome ≡ Done) × ((list : List Placed) × LeavesList problem lectures entries list × (p.text.items ≡ soltext problem list)))
+    ⊎ ((verdict : Verdict) × IsVerdict problem lectures entries verdict × (verdict ≢ Agrees) × ShowsVerdict verdict p)
 
 -- the same for the journal in a file, on an opening with the start
-pub record ListsOn (problem : Problem) (journal : String Global) (start : Option (String Global)) (outcome : Outcome) (held : Held) (old new : Option (List ℕ)) : Type 0 where
+pub record ListsOn (problem : Problem) (journal : String Global) (start : Option (String Global)) (held : Held) (p : Printed) : Type 0 where
   pub entries : List JournalEntry
   pub is_journal : Holds held journal (λ text. IsJournalText problem text entries)
   pub lectures : List Placed
   pub is_start : IsStart problem held start lectures
-  pub prints : PrintsLeft problem lectures entries outcome old new
+  pub shows : ShowsLeft problem lectures entries p
 
--- the same for the instance in a file
-pub record ListsJournal (instance : String Global) (barred : Option (String Global)) (journal : String Global) (start : Option (String Global)) (outcome : Outcome) (held : Held) (old new : Option (List ℕ)) : Type 0 where
-  pub problem : Problem
-  pub is_instance : IsInstanceIn held instance barred problem
-  pub lists : ListsOn problem journal start outcome held old new
+-- the same for the instance in a file; nothing else is left
+abbrev pub ListsJournal : String Global → Option (String Global) → String Global → Option (String Global) → Held → Printed → Type 0
+ListsJournal instance barred journal start held p = OfInstance held instance barred (λ problem. ListsOn problem journal start held p) × IsTextAlone p

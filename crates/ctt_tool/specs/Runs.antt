@@ -1,8 +1,7 @@
 -- What the command `run` prints and stores.
-use Rattle.std.specs.Prelude.{◌≡◌, ◌≢◌, ◌≤◌, ℕ, List, Option, Some, None, Ok, length}
+use Rattle.std.specs.Prelude.{◌≡◌, ◌≤◌, ℕ, List, Option, Ok, length}
 use Rattle.std.specs.Global.{Global}
 use Rattle.std.specs.Io.KnownBytes.{Appends}
-use Rattle.std.specs.String.{string_bytes}
 use Rattle.std.specs.declared.string.String.{String}
 use Rattle.ctt_text.specs.Problem.{Problem}
 use Rattle.ctt_text.specs.declared.placed.Placed.{Placed}
@@ -10,21 +9,8 @@ use Rattle.ctt_edits.specs.Openings.{opening}
 use Rattle.ctt_core.specs.Runs.{accepted_of}
 use Rattle.ctt_script.specs.AnswerText.{answer_text, script_run}
 use Rattle.ctt_script.specs.WrittenText.{journal_text}
+use Rattle.ctt_files.specs.Storing.{Stores}
 use Rattle.ctt_files.specs.Texts.{Held, Holds, IsInstanceIn, IsStart}
-
--- the name is not that of this file, if one is given
-abbrev pub IsOther : Option (String Global) → List ℕ → Type 0
-IsOther None other = Unit {0}
-IsOther (Some name) other = other ≢ string_bytes name
-
--- all files are unchanged, except this one, if it is given
-abbrev pub KeepOthers : Option (String Global) → Held → Held → Type 0
-KeepOthers stored before after = (other : List ℕ) → IsOther stored other → after other ≡ before other
-
--- if a file is given, P holds of its bytes and all other files are unchanged; else all files are
-abbrev pub Stores : Option (String Global) → Held → Held → (List ℕ → Type 0) → Type 0
-Stores None before after P = after ≡ before
-Stores (Some name) before after P = Holds after name P × KeepOthers (Some name) before after
 
 -- the script, which is within the limit, is run on a desk that opens with the start; its answers
 -- are printed, and the accepted drafts are stored as a journal, if a file is given

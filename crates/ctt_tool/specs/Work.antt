@@ -12,42 +12,49 @@ use Rattle.ctt_words.specs.declared.job.WordsFault.TheVariants.{Help, Refused}
 use Rattle.ctt_words.specs.declared.job.Job.{Job}
 use Rattle.ctt_words.specs.declared.job.Task.{Task}
 use Rattle.ctt_words.specs.declared.job.Task.TheVariants.{Audit, Crew, Desk, Journal, Listing, Mending, Run, Show}
+use Rattle.ctt_words.specs.declared.job.Showing.TheVariants.{Report}
+use Rattle.ctt_reports.specs.Checks.{ExplainsSolution}
 use Rattle.ctt_reports.specs.Showings.{IsOfShowing, ShowsSolution}
+use Rattle.ctt_files.specs.Answers.{Prints, Reports}
 use Rattle.ctt_files.specs.Faults.{status_of}
 use Rattle.ctt_files.specs.Outcomes.{outcome_status}
+use Rattle.ctt_files.specs.Storing.{KeepOthers}
 use Rattle.ctt_files.specs.Texts.{Held}
 use Rattle.ctt_files.specs.declared.fault.Fault.{Fault}
 use Rattle.ctt_files.specs.declared.fault.Fault.TheVariants.{CannotWrite, NoMemory, Words, WordsNotText}
 use Rattle.ctt_files.specs.declared.outcome.Outcome.{Outcome}
 use Rattle.ctt_files.specs.declared.outcome.Outcome.TheVariants.{Done}
+use Rattle.ctt_files.specs.declared.printed.Printed.{Printed}
 use Rattle.ctt_tool.specs.Audits.{AuditsJournal}
-use Rattle.ctt_tool.specs.Crews.{PrintsCrew}
+use Rattle.ctt_tool.specs.Crews.{WritesCrew}
 use Rattle.ctt_tool.specs.Desks.{PrintsLast, SaysLast, Warns}
 use Rattle.ctt_tool.specs.Jobs.{HasBadSeats, Saying, Storing, Warning, scripts_of, stored_by}
-use Rattle.ctt_tool.specs.Lists.{ListsJournal, PrintsJournal, SaysTornOf}
-use Rattle.ctt_tool.specs.Mends.{PrintsMendedOf, SaysAsideOf}
+use Rattle.ctt_tool.specs.Lists.{ListsJournal, RecoversJournal}
+use Rattle.ctt_tool.specs.Mends.{MendsSolution}
 use Rattle.ctt_tool.specs.Refusals.{IsOfAudit, IsOfCrew, IsOfDesk, IsOfMending, IsOfRecovery, IsOfRun}
-use Rattle.ctt_tool.specs.Runs.{KeepOthers, RunsScript}
+use Rattle.ctt_tool.specs.Runs.{RunsScript}
+
+-- what the task answers, unless it streams its answer
+abbrev pub IsAnswer : String Global → Option (String Global) → Task → Held → Printed → Type 0
+IsAnswer instance barred (Show solution showing) held p = ShowsSolution showing instance barred solution held p
+IsAnswer instance barred (Audit journal start) held p = AuditsJournal instance barred journal start held p
+IsAnswer instance barred (Crew scripts) held p = WritesCrew instance barred scripts.items held p
+IsAnswer instance barred (Journal minutes) held p = RecoversJournal instance barred minutes held p
+IsAnswer instance barred (Listing journal start) held p = ListsJournal instance barred journal start held p
+IsAnswer instance barred (Mending solution) held p = MendsSolution instance barred solution held p
+IsAnswer instance barred task held p = ⊥
 
 -- the task is done with this instance and these files, as far as their bytes are known; its answer
 -- is printed, with this outcome
 abbrev pub DoesTask : String Global → Option (String Global) → Task → Outcome → Held → Held → Option (List ℕ) → Option (List ℕ) → Type 0
-DoesTask instance barred (Show solution showing) outcome before after old new = (after ≡ before)
-    × ShowsSolution showing instance barred solution outcome before old new
+DoesTask instance barred (Show solution (Report json true strict)) outcome before after old new = (after ≡ before)
+    × ExplainsSolution json strict instance barred solution outcome before old new
 DoesTask instance barred (Run script start journal) outcome before after old new = (outcome ≡ Done)
     × RunsScript instance barred script start journal before after old new
-DoesTask instance barred (Audit journal start) outcome before after old new = (after ≡ before)
-    × AuditsJournal instance barred journal start outcome before old new
-DoesTask instance barred (Crew scripts) outcome before after old new = (outcome ≡ Done)
-    × (after ≡ before) × PrintsCrew instance barred scripts.items before old new
 DoesTask instance barred (Desk seats start minutes) outcome before after old new = (outcome ≡ Done)
     × (after ≡ before) × PrintsLast instance barred seats.items start before old new
-DoesTask instance barred (Journal minutes) outcome before after old new = (outcome ≡ Done)
-    × (after ≡ before) × PrintsJournal instance barred minutes before old new
-DoesTask instance barred (Listing journal start) outcome before after old new = (after ≡ before)
-    × ListsJournal instance barred journal start outcome before old new
-DoesTask instance barred (Mending solution) outcome before after old new = (outcome ≡ Done)
-    × (after ≡ before) × PrintsMendedOf instance barred solution before old new
+DoesTask instance barred task outcome before after old new = (after ≡ before)
+    × Prints (IsAnswer instance barred task before) outcome old new
 
 -- the same for a job
 abbrev pub DoesJob : Job → Outcome → Held → Held → Option (List ℕ) → Option (List ℕ) → Type 0
@@ -57,8 +64,8 @@ DoesJob job outcome before after old new = DoesTask job.instance job.barred job.
 -- an incomplete entry, or the lectures set aside, and else nothing
 abbrev pub SaysOfTask : String Global → Option (String Global) → Task → Held → Option (List ℕ) → Option (List ℕ) → Type 0
 SaysOfTask instance barred (Desk seats start minutes) held old new = SaysLast instance barred seats.items start minutes held old new
-SaysOfTask instance barred (Journal minutes) held old new = SaysTornOf instance barred minutes held old new
-SaysOfTask instance barred (Mending solution) held old new = SaysAsideOf instance barred solution held old new
+SaysOfTask instance barred (Journal minutes) held old new = Reports (RecoversJournal instance barred minutes held) old new
+SaysOfTask instance barred (Mending solution) held old new = Reports (MendsSolution instance barred solution held) old new
 SaysOfTask instance barred task held old new = new ≡ old
 
 -- the contents of borrowed words

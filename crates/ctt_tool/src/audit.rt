@@ -1,50 +1,41 @@
 //! The command `audit`.
 
-ghost use Rattle.std.specs.Prelude.{◌≡◌, true, OnOk, IfOk, IfErr, IfSome};
+ghost use Rattle.std.specs.Prelude.{◌≡◌, IfOk, IfErr, IfSome};
 ghost use Rattle.std.specs.List.{AllByRecursion as Each};
 ghost use Rattle.std.specs.String.{string_bytes};
 ghost use Rattle.ctt_core.specs.Entries.{EntryFits};
-ghost use Rattle.ctt_files.specs.Faults.{IfUnwritten};
-ghost use Rattle.ctt_tool.specs.Audits.{AuditsJournal, AuditsOn, FindsIn, IsVerdictFault, PrintsVerdict, VerdictFits};
+ghost use Rattle.ctt_files.specs.Answers.{IsTextAlone};
+ghost use Rattle.ctt_tool.specs.Audits.{AuditsJournal, AuditsOn, FindsIn, IsVerdictFault, ShowsVerdict, VerdictFits};
 ghost use Rattle.ctt_tool.specs.Refusals.{IsOfAudit, IsOfAudited, IsOfJournal};
 ghost use Rattle.ctt_tool.specs.Texts.{IsJournalText};
 
 use crate::refused::{refused_journal, refused_opening};
-use ctt_board::{GridSheet, Sheet};
+use ctt_board::Sheet;
 use ctt_core::{JournalEntry, Verdict, audit as audit_entries};
-use ctt_devices::Sink;
-use ctt_files::{Fault, Files, Outcome, fetch_instance, fetch_start, print, read_file};
+use ctt_files::{Fault, Files, Outcome, Printed, fetch_instance, fetch_start, read_file};
+use ctt_grid::GridSheet;
 use ctt_script::read_journal;
 use ctt_text::{Instance, let_go};
 use std::alloc::Global;
 
-/// Prints a verdict, unless the opening is refused, which is a fault.
-pub fn print_verdict<W: Sink>(
-    alloc: Global,
-    out: &mut W,
-    instance: &Instance,
-    verdict: Verdict,
-) -> Result<Outcome, Fault>
+/// Returns the text of a verdict, unless the opening is refused, which is a fault.
+pub fn show_verdict(alloc: Global, instance: &Instance, verdict: Verdict) -> Result<Printed, Fault>
     requires { VerdictFits instance.now verdict }
-    ensures prints { IfOk result (λ outcome.
-        PrintsVerdict verdict outcome (W.taken out.old) (W.taken out.new)) }
-    ensures unmarked { OnOk result (W.has_failed out.new ≡ W.has_failed out.old) }
-    ensures cause { IfErr result (λ fault. IfUnwritten fault
-        (W.has_failed out.new ≡ true)
-        (IsVerdictFault instance.now verdict fault × (out.new ≡ out.old))) }
+    ensures shows { IfOk result (ShowsVerdict verdict) }
+    ensures alone { IfOk result IsTextAlone }
+    ensures cause { IfErr result (IsVerdictFault instance.now verdict) }
 {
-    match verdict {
-        Verdict::Agrees => {
-            print(out, b"agrees\n")?;
-            Ok(Outcome::Done)
+    let (words, outcome) = match verdict {
+        Verdict::Agrees => (String::from_str(alloc, "agrees\n")?, Outcome::Done),
+        Verdict::Differs(entry, call) => (
+            format!(in alloc; "differs {entry} {call}\n")?,
+            Outcome::Differs,
+        ),
+        Verdict::BadOpening(at, fault) => {
+            return Err(refused_opening(alloc, instance, at, &fault));
         }
-        Verdict::Differs(entry, call) => {
-            let line = format!(in alloc; "differs {entry} {call}\n")?;
-            print(out, line.as_bytes())?;
-            Ok(Outcome::Differs)
-        }
-        Verdict::BadOpening(at, fault) => Err(refused_opening(alloc, instance, at, &fault)),
-    }
+    };
+    Ok(Printed::new(alloc, words.into_bytes(), outcome))
 }
 
 /// Parses the entries of the journal in a file.
@@ -98,50 +89,39 @@ fn fetch_verdict<'i, S: Sheet<'i>, F: Files>(
     }
 }
 
-/// Audits the journal in a file on sheets of this kind, and prints the verdict.
-fn audit_on<'i, S: Sheet<'i>, F: Files, W: Sink>(
+/// Audits the journal in a file on sheets of this kind, and returns the verdict's text.
+fn audit_on<'i, S: Sheet<'i>, F: Files>(
     alloc: Global,
     files: &mut F,
-    out: &mut W,
     instance: &'i Instance,
     journal: String,
     start: Option<String>,
-) -> Result<Outcome, Fault>
-    ensures audits { IfOk result (λ outcome.
-        AuditsOn instance.now journal start outcome (F.held files.old)
-        (W.taken out.old) (W.taken out.new)) }
-    ensures unmarked { OnOk result (W.has_failed out.new ≡ W.has_failed out.old) }
+) -> Result<Printed, Fault>
+    ensures audits { IfOk result (AuditsOn instance.now journal start (F.held files.old)) }
+    ensures alone { IfOk result IsTextAlone }
     ensures kept { F.held files.new ≡ F.held files.old }
-    ensures cause { IfErr result (λ fault. IfUnwritten fault
-        (W.has_failed out.new ≡ true)
-        (IsOfAudited journal start (F.held files.old) instance.now fault × (out.new ≡ out.old))) }
+    ensures cause { IfErr result (IsOfAudited journal start (F.held files.old) instance.now) }
 {
     let verdict = fetch_verdict::<S, F>(alloc, files, instance, journal, start)?;
-    print_verdict(alloc, out, instance, verdict)
+    show_verdict(alloc, instance, verdict)
 }
 
-/// Audits a journal of an instance, and prints whether its entries have the replies that their
+/// Audits a journal of an instance, and returns whether its entries have the replies that their
 /// drafts get if they are run whole, one after another. Each text is given by its file name.
-pub fn audit<F: Files, W: Sink>(
+pub fn audit<F: Files>(
     alloc: Global,
     files: &mut F,
-    out: &mut W,
     instance: String,
     barred: Option<String>,
     journal: String,
     start: Option<String>,
-) -> Result<Outcome, Fault>
-    ensures audits { IfOk result (λ outcome.
-        AuditsJournal instance barred journal start outcome (F.held files.old)
-        (W.taken out.old) (W.taken out.new)) }
-    ensures unmarked { OnOk result (W.has_failed out.new ≡ W.has_failed out.old) }
+) -> Result<Printed, Fault>
+    ensures audits { IfOk result (AuditsJournal instance barred journal start (F.held files.old)) }
     ensures kept { F.held files.new ≡ F.held files.old }
-    ensures cause { IfErr result (λ fault. IfUnwritten fault
-        (W.has_failed out.new ≡ true)
-        (IsOfAudit (F.held files.old) instance barred journal start fault × (out.new ≡ out.old))) }
+    ensures cause { IfErr result (IsOfAudit (F.held files.old) instance barred journal start) }
 {
     let instance = fetch_instance(alloc, files, instance, barred)?;
-    let audited = audit_on::<GridSheet, F, W>(alloc, files, out, &instance, journal, start);
+    let audited = audit_on::<GridSheet, F>(alloc, files, &instance, journal, start);
     let_go(instance);
     audited
 }

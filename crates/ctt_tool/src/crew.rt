@@ -1,20 +1,16 @@
 //! The command `crew`.
 
-ghost use Rattle.std.specs.Prelude.{◌≡◌, ◌≤◌, ◌<◌, ℕ, List, [], Err, length, map, true, OnOk, IfOk, IfErr};
-ghost use Rattle.ctt_crew.specs.Attended.{IsCrewText};
-ghost use Rattle.ctt_files.specs.Faults.{IfUnwritten};
+ghost use Rattle.std.specs.Prelude.{◌≡◌, ◌≤◌, ◌<◌, ℕ, List, [], Err, length, map, IfOk, IfErr};
+ghost use Rattle.ctt_seat.specs.Attended.{IsCrewText};
 ghost use Rattle.ctt_files.specs.Refusals.{IsOfInstanceOr};
 ghost use Rattle.ctt_files.specs.Texts.{HoldInTurn};
 ghost use Rattle.ctt_files.specs.declared.fault.Fault.TheVariants.{TooManyScripts};
-ghost use Rattle.ctt_files.specs.declared.outcome.Outcome.TheVariants.{Done};
-ghost use Rattle.ctt_tool.specs.Crews.{IsOfCrewOn, PrintsCrew};
+ghost use Rattle.ctt_tool.specs.Crews.{IsOfCrewOn, WritesCrew};
 ghost use Rattle.ctt_tool.specs.Faults.{fault_of_crew};
 ghost use Rattle.ctt_tool.specs.Refusals.{IsOfCrew, IsOfCrewWork, IsOfScripts};
 
-use crate::printed::print_last;
 use ctt_crew::{CrewFault, NoGate};
-use ctt_devices::Sink;
-use ctt_files::{Fault, Files, Outcome, fetch_instance, read_files};
+use ctt_files::{Fault, Files, Outcome, Printed, fetch_instance, read_files};
 use ctt_script::PLANNERS;
 use ctt_text::{Instance, let_go};
 use std::alloc::Global;
@@ -102,32 +98,25 @@ fn report<R: Threads + Wait + Sync, F: Files>(
 }
 
 /// Runs scripts on one desk of an instance, which opens empty, with one planner and one thread per
-/// script, and prints the answers when all have ended. Each text is given by its file name. The
+/// script, and returns the answers when all have ended. Each text is given by its file name. The
 /// number of scripts is checked before any file is read.
-pub fn crew<R: Threads + Wait + Sync, F: Files, W: Sink>(
+pub fn crew<R: Threads + Wait + Sync, F: Files>(
     rt: &R,
     alloc: Global,
     files: &mut F,
-    out: &mut W,
     instance: String,
     barred: Option<String>,
     scripts: Vec<String>,
-) -> Result<Outcome, Fault>
+) -> Result<Printed, Fault>
     requires { 1 ≤ length scripts.items }
-    ensures prints { OnOk result
-        (PrintsCrew instance barred scripts.items (F.held files.old) (W.taken out.old)
-        (W.taken out.new)) }
-    ensures done { IfOk result (λ outcome. outcome ≡ Done) }
+    ensures writes { IfOk result (WritesCrew instance barred scripts.items (F.held files.old)) }
     ensures many { 64 < length scripts.items → result ≡ Err TooManyScripts }
     ensures kept { F.held files.new ≡ F.held files.old }
-    ensures unmarked { OnOk result (W.has_failed out.new ≡ W.has_failed out.old) }
-    ensures cause { IfErr result (λ fault. IfUnwritten fault
-        (W.has_failed out.new ≡ true)
-        (IsOfCrew (F.held files.old) instance barred scripts.items fault × (out.new ≡ out.old))) }
+    ensures cause { IfErr result (IsOfCrew (F.held files.old) instance barred scripts.items) }
 {
     if scripts.len() > PLANNERS as usize {
         return Err(Fault::TooManyScripts);
     }
     let report = report(rt, alloc, files, instance, barred, scripts)?;
-    print_last(out, &report)
+    Ok(Printed::new(alloc, report, Outcome::Done))
 }

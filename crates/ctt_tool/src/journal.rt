@@ -1,16 +1,14 @@
 //! The command `journal`.
 
-ghost use Rattle.std.specs.Prelude.{◌≡◌, ◌⊎◌, true, OnOk, OnErr, IfOk, IfErr};
+ghost use Rattle.std.specs.Prelude.{◌≡◌, ◌⊎◌, None, IfOk, IfErr};
 ghost use Rattle.std.specs.String.{string_bytes};
-ghost use Rattle.ctt_files.specs.Faults.{IfUnwritten};
 ghost use Rattle.ctt_files.specs.declared.fault.Fault.TheVariants.{NoMemory};
 ghost use Rattle.ctt_files.specs.declared.outcome.Outcome.TheVariants.{Done};
-ghost use Rattle.ctt_tool.specs.Lists.{IsRecoveredJournal, PrintsEntries, PrintsJournal, SaysTorn, SaysTornOf, torn_text};
+ghost use Rattle.ctt_tool.specs.Lists.{IsRecoveredJournal, RecoversJournal, RecoversOn, torn_text};
 ghost use Rattle.ctt_tool.specs.Refusals.{IsNoMinutes, IsOfMinutes, IsOfRecovery};
 
 use crate::refused::refused_journal;
-use ctt_devices::Sink;
-use ctt_files::{Fault, Files, Outcome, complain, fetch_instance, print, read_file};
+use ctt_files::{Fault, Files, Outcome, Printed, fetch_instance, read_file};
 use ctt_office::read_blocks;
 use ctt_script::write_journal;
 use ctt_text::{Instance, let_go};
@@ -50,61 +48,45 @@ fn recover(
     Ok((journal?, torn))
 }
 
-/// Prints the journal of the whole entries at the beginning of minutes. An incomplete entry is
-/// reported on standard error.
-fn print_journal<F: Files, W: Sink, V: Sink>(
+/// Returns the journal of the whole entries at the beginning of the minutes in a file, and what is
+/// reported of an incomplete entry.
+fn recover_on<F: Files>(
     alloc: Global,
     files: &mut F,
-    out: &mut W,
-    err: &mut V,
     instance: &Instance,
     minutes: String,
-) -> Result<Outcome, Fault>
-    ensures prints { OnOk result (PrintsEntries instance.now minutes (F.held files.old)
-        (W.taken out.old) (W.taken out.new)) }
-    ensures says { OnOk result ((V.has_failed err.new ≡ true)
-        ⊎ SaysTorn instance.now minutes (F.held files.old) (V.taken err.old) (V.taken err.new)) }
-    ensures done { IfOk result (λ outcome. outcome ≡ Done) }
-    ensures unmarked { OnOk result (W.has_failed out.new ≡ W.has_failed out.old) }
+) -> Result<Printed, Fault>
+    ensures recovers { IfOk result (RecoversOn instance.now minutes (F.held files.old)) }
+    ensures unstored { IfOk result (λ p. p.store ≡ None) }
+    ensures done { IfOk result (λ p. p.outcome ≡ Done) }
     ensures kept { F.held files.new ≡ F.held files.old }
-    ensures cause { IfErr result (λ fault. IfUnwritten fault
-        (W.has_failed out.new ≡ true)
-        (IsOfMinutes minutes (F.held files.old) instance.now fault × (out.new ≡ out.old))) }
-    ensures unsaid { OnErr result (err.new ≡ err.old) }
+    ensures cause { IfErr result (IsOfMinutes minutes (F.held files.old) instance.now) }
 {
-    let text = read_file(alloc, files, minutes)?;
-    let (journal, torn) = recover(alloc, instance, &text)?;
-    let line = torn_line(alloc, torn)?;
-    print(out, &journal)?;
-    complain(err, line.as_bytes());
-    Ok(Outcome::Done)
+    let bytes = read_file(alloc, files, minutes)?;
+    let (text, torn) = recover(alloc, instance, &bytes)?;
+    Ok(Printed {
+        text,
+        aside: torn_line(alloc, torn)?,
+        store: None,
+        outcome: Outcome::Done,
+    })
 }
 
-/// Prints the journal of minutes of an instance, each given by its file name. An incomplete last
-/// entry is left out, and reported on standard error.
-pub fn journal<F: Files, W: Sink, V: Sink>(
+/// Returns the journal of minutes of an instance, each given by its file name. An incomplete last
+/// entry is left out, and reported.
+pub fn journal<F: Files>(
     alloc: Global,
     files: &mut F,
-    out: &mut W,
-    err: &mut V,
     instance: String,
     barred: Option<String>,
     minutes: String,
-) -> Result<Outcome, Fault>
-    ensures prints { OnOk result (PrintsJournal instance barred minutes (F.held files.old)
-        (W.taken out.old) (W.taken out.new)) }
-    ensures says { OnOk result ((V.has_failed err.new ≡ true)
-        ⊎ SaysTornOf instance barred minutes (F.held files.old) (V.taken err.old) (V.taken err.new)) }
-    ensures done { IfOk result (λ outcome. outcome ≡ Done) }
-    ensures unmarked { OnOk result (W.has_failed out.new ≡ W.has_failed out.old) }
+) -> Result<Printed, Fault>
+    ensures recovers { IfOk result (RecoversJournal instance barred minutes (F.held files.old)) }
     ensures kept { F.held files.new ≡ F.held files.old }
-    ensures cause { IfErr result (λ fault. IfUnwritten fault
-        (W.has_failed out.new ≡ true)
-        (IsOfRecovery (F.held files.old) instance barred minutes fault × (out.new ≡ out.old))) }
-    ensures unsaid { OnErr result (err.new ≡ err.old) }
+    ensures cause { IfErr result (IsOfRecovery (F.held files.old) instance barred minutes) }
 {
     let instance = fetch_instance(alloc, files, instance, barred)?;
-    let printed = print_journal(alloc, files, out, err, &instance, minutes);
+    let recovered = recover_on(alloc, files, &instance, minutes);
     let_go(instance);
-    printed
+    recovered
 }

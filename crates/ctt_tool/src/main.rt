@@ -17,8 +17,7 @@ ghost use Rattle.std.specs.Prelude.{◌≡◌, ◌≤◌, ◌⊎◌, ℕ, List, 
 ghost use Rattle.ctt_files.specs.declared.fault.Fault.TheVariants.{NoMemory, WordsNotText};
 ghost use Rattle.ctt_tool.specs.Served.{IsServed, IsUnserved};
 
-use ctt_devices::{Device, Sink};
-use ctt_files::{Fault, Files, SystemFiles};
+use ctt_files::{Device, Fault, Files, Sink, SystemFiles};
 use office::{Office, SystemOffice};
 use program::{fail_with, program};
 use std::alloc::AllocError;

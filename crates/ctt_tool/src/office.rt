@@ -1,6 +1,6 @@
 //! Seats and minutes in files.
 
-use ctt_devices::{Device, Failed};
+use ctt_files::{Device, Failed};
 use ctt_office::{Doors, Durable};
 use std::alloc::Global;
 use std::fs::{File, OpenOptions};

@@ -5,8 +5,7 @@ ghost use Rattle.std.specs.Io.KnownBytes.{Appends};
 ghost use Rattle.ctt_files.specs.declared.fault.Fault.TheVariants.{CannotWrite};
 ghost use Rattle.ctt_files.specs.declared.outcome.Outcome.TheVariants.{Done};
 
-use ctt_devices::Sink;
-use ctt_files::{Fault, Outcome, print};
+use ctt_files::{Fault, Outcome, Sink, print};
 
 /// Prints a text that completes a job.
 pub fn print_last<W: Sink>(out: &mut W, text: &[u8]) -> Result<Outcome, Fault>

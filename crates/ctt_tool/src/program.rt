@@ -6,10 +6,10 @@ ghost use Rattle.ctt_files.specs.Faults.{IfUnwritten, MayHaveWritten, status_of}
 ghost use Rattle.ctt_files.specs.declared.fault.Fault.TheVariants.{NoMemory};
 ghost use Rattle.ctt_files.specs.declared.outcome.Outcome.TheVariants.{Done};
 ghost use Rattle.ctt_tool.specs.Faults.{KeptUnless, SaysFault};
-ghost use Rattle.ctt_tool.specs.Jobs.{Saying, Storing, Warning, stored_by};
-ghost use Rattle.ctt_tool.specs.Runs.{KeepOthers};
+ghost use Rattle.ctt_files.specs.Storing.{KeepOthers};
+ghost use Rattle.ctt_tool.specs.Jobs.{Saying, Storing, Warning, stored_by, streams};
 ghost use Rattle.ctt_tool.specs.Served.{IsServed};
-ghost use Rattle.ctt_tool.specs.Work.{AsksToSay, AsksToStore, AsksToWarn, DoesAsAsked, DoesJob, GivesHelp, HasCause, IsOfHelp, IsOfJob, KeepAsAsked, PrintsHelp, SaysAsAsked, SaysOfTask, WarnsAsAsked, WarnsOfTask, texts};
+ghost use Rattle.ctt_tool.specs.Work.{AsksToSay, AsksToStore, AsksToWarn, DoesAsAsked, DoesJob, DoesTask, GivesHelp, HasCause, IsAnswer, IsOfHelp, IsOfJob, IsOfTask, KeepAsAsked, PrintsHelp, SaysAsAsked, SaysOfTask, WarnsAsAsked, WarnsOfTask, texts};
 
 use crate::audit::audit;
 use crate::crew::crew;
@@ -20,14 +20,108 @@ use crate::mend::mend;
 use crate::office::Office;
 use crate::printed::print_last;
 use crate::run::run;
-use ctt_devices::Sink;
-use ctt_files::{Fault, Files, NO_MEMORY, Outcome, complain};
-use ctt_reports::show;
-use ctt_words::{Job, Task, WordsFault, read_words};
+use ctt_files::{Fault, Files, NO_MEMORY, Outcome, Printed, Sink, complain, deliver};
+use ctt_reports::{explain, show};
+use ctt_words::{Job, Showing, Task, WordsFault, read_words};
 use std::alloc::Global;
 use std::marker::Sync;
 use std::sync::Wait;
 use std::thread::Threads;
+
+/// Returns whether a task prints its answer while it works.
+fn streams(task: &Task) -> bool
+    ensures { result ≡ streams task.now }
+{
+    match task {
+        Task::Show {
+            showing: Showing::Report { explain, .. },
+            ..
+        } => *explain,
+        Task::Run { .. } | Task::Desk { .. } => true,
+        _ => false,
+    }
+}
+
+/// Returns the answer of a task that does not stream it.
+fn answer<R: Threads + Wait + Sync, F: Files>(
+    rt: &R,
+    alloc: Global,
+    files: &mut F,
+    instance: String,
+    barred: Option<String>,
+    task: Task,
+) -> Result<Printed, Fault>
+    requires scripts { HasScripts task }
+    requires whole { streams task ≡ false }
+    ensures answers { IfOk result (IsAnswer instance barred task (F.held files.old)) }
+    ensures kept { F.held files.new ≡ F.held files.old }
+    ensures cause { IfErr result (IsOfTask instance barred task (F.held files.old)) }
+{
+    match task {
+        Task::Show { solution, showing } => show(alloc, files, instance, barred, solution, showing),
+        Task::Audit { journal, start } => audit(alloc, files, instance, barred, journal, start),
+        Task::Crew { scripts } => crew(rt, alloc, files, instance, barred, scripts),
+        Task::Journal { minutes } => journal(alloc, files, instance, barred, minutes),
+        Task::Listing { journal, start } => list(alloc, files, instance, barred, journal, start),
+        Task::Mending { solution } => mend(alloc, files, instance, barred, solution),
+        Task::Run { .. } | Task::Desk { .. } => unreachable!(),
+    }
+}
+
+/// Runs a task that prints its answer while it works.
+fn stream<R: Threads + Wait + Sync, F: Files, O: Office, W: Sink, V: Sink>(
+    rt: &R,
+    alloc: Global,
+    instance: String,
+    barred: Option<String>,
+    task: Task,
+    files: &mut F,
+    office: &O,
+    out: &mut W,
+    err: &mut V,
+) -> Result<Outcome, Fault>
+    requires { streams task ≡ true }
+    ensures done { IfOk result (λ outcome. DoesTask instance barred task outcome
+        (F.held files.old) (F.held files.new) (W.taken out.old) (W.taken out.new)) }
+    ensures unmarked { OnOk result (W.has_failed out.new ≡ W.has_failed out.old) }
+    ensures cause { IfErr result (λ fault. IfUnwritten fault
+        ((W.has_failed out.new ≡ true) ⊎ Storing task)
+        (IsOfTask instance barred task (F.held files.old) fault
+        × (W.has_failed out.new ≡ W.has_failed out.old))) }
+    ensures unwritten { IfErr result (λ fault. MayHaveWritten fault ⊎ (out.new ≡ out.old)) }
+    ensures unstored { IfErr result (λ fault. KeptUnless fault
+        ((W.has_failed out.new ≡ W.has_failed out.old) × Storing task)
+        (F.held files.new ≡ F.held files.old)) }
+    ensures others { KeepOthers (stored_by task) (F.held files.old) (F.held files.new) }
+    ensures quiet { IfOk result (λ outcome.
+        (Saying task × (outcome ≡ Done)) ⊎ (err.new ≡ err.old)) }
+    ensures says { OnOk result ((Warning task × (V.has_failed err.new ≡ true))
+        ⊎ SaysOfTask instance barred task (F.held files.old) (V.taken err.old) (V.taken err.new)) }
+    ensures unsaid { OnErr result ((err.new ≡ err.old) ⊎ ((V.has_failed err.new ≡ true)
+        ⊎ WarnsOfTask task (V.taken err.old) (V.taken err.new))) }
+{
+    match task {
+        Task::Show { solution, showing } => match showing {
+            Showing::Report { json, strict, .. } => explain(
+                alloc, files, out, instance, barred, solution, json, strict,
+            ),
+            _ => unreachable!(),
+        },
+        Task::Run {
+            script,
+            start,
+            journal,
+        } => run(alloc, files, out, instance, barred, script, start, journal),
+        Task::Desk {
+            seats,
+            start,
+            minutes,
+        } => desk(
+            rt, alloc, files, office, out, err, instance, barred, seats, start, minutes,
+        ),
+        _ => unreachable!(),
+    }
+}
 
 /// Runs the command of a job.
 fn do_job<R: Threads + Wait + Sync, F: Files, O: Office, W: Sink, V: Sink>(
@@ -64,32 +158,11 @@ fn do_job<R: Threads + Wait + Sync, F: Files, O: Office, W: Sink, V: Sink>(
         barred,
         task,
     } = job;
-    match task {
-        Task::Show { solution, showing } => {
-            show(alloc, files, out, instance, barred, solution, showing)
-        }
-        Task::Run {
-            script,
-            start,
-            journal,
-        } => run(alloc, files, out, instance, barred, script, start, journal),
-        Task::Audit { journal, start } => {
-            audit(alloc, files, out, instance, barred, journal, start)
-        }
-        Task::Crew { scripts } => crew(rt, alloc, files, out, instance, barred, scripts),
-        Task::Desk {
-            seats,
-            start,
-            minutes,
-        } => desk(
-            rt, alloc, files, office, out, err, instance, barred, seats, start, minutes,
-        ),
-        Task::Journal { minutes } => journal(alloc, files, out, err, instance, barred, minutes),
-        Task::Listing { journal, start } => {
-            list(alloc, files, out, instance, barred, journal, start)
-        }
-        Task::Mending { solution } => mend(alloc, files, out, err, instance, barred, solution),
+    if streams(&task) {
+        return stream(rt, alloc, instance, barred, task, files, office, out, err);
     }
+    let printed = answer(rt, alloc, files, instance, barred, task)?;
+    deliver(files, out, err, printed)
 }
 
 /// Prints the help that the words ask for, or returns why they are refused.

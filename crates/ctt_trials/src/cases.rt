@@ -6,7 +6,8 @@ ghost use Rattle.ctt_trials.specs.Scripts.{IsTimetable-prop};
 
 use crate::story::Story;
 use crate::{desks, drafts, journals, scripts, shared, sheets, shown};
-use ctt_board::{GridSheet, ListSheet, Sheet};
+use ctt_board::Sheet;
+use ctt_grid::{GridSheet, ListSheet};
 use ctt_text::{Instance, Placed, let_go, read_solution};
 use std::sync::Wait;
 

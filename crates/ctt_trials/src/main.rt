@@ -19,7 +19,7 @@ mod turns;
 mod worked;
 
 use cases::play_cases;
-use ctt_devices::{Device, INPUT_LIMIT, read_all};
+use ctt_files::{Device, INPUT_LIMIT, read_all};
 use ctt_text::{Instance, let_go, read_instance};
 use std::alloc::Global;
 use std::process::ExitCode;

@@ -8,9 +8,9 @@ use crate::cases::{Script, Told};
 use crate::desks::tell_desk;
 use crate::journals::tell_journal;
 use crate::story::Story;
-use ctt_board::GridSheet;
 use ctt_core::Desk;
-use ctt_devices::Device;
+use ctt_files::Device;
+use ctt_grid::GridSheet;
 use ctt_script::{ScriptFault, run_script};
 use ctt_text::let_go;
 

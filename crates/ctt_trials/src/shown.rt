@@ -2,7 +2,7 @@
 
 use crate::cases::Script;
 use crate::story::Story;
-use ctt_devices::{Device, InputFault, read_all};
+use ctt_files::{Device, InputFault, read_all};
 use ctt_findings::{report_json, report_text};
 use ctt_text::{read_solution, write_solution};
 

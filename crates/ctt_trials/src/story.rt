@@ -4,8 +4,8 @@ ghost use Rattle.std.specs.Prelude.{◌↔◌, IsTrue, None};
 ghost use Rattle.ctt_script.specs.Entries.{AnswerFits, RowFits};
 
 use ctt_core::{Answer, JournalEntry};
-use ctt_devices::{Failed, Sink, put_all};
 use ctt_edits::{EditFault, Lectures, Reply, Row};
+use ctt_files::{Failed, Sink, put_all};
 use ctt_rules::Cost;
 use ctt_script::{write_answer, write_entry};
 use ctt_text::{Instance, NoMemory, Placed};

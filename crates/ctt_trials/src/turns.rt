@@ -6,9 +6,9 @@ ghost use Rattle.ctt_core.specs.Runs.{EventFits};
 use crate::story::Story;
 use ctt_board::{Sheet, Timetable};
 use ctt_core::{Answer, Event, PlannerNo};
-use ctt_crew::{Seat, Told};
 use ctt_desk::{Naming, Planner, Receipt, SharedDesk};
 use ctt_script::{Lines, read_own_line};
+use ctt_seat::{Seat, Told};
 use ctt_text::{Instance, let_go};
 use std::sync::Wait;
 

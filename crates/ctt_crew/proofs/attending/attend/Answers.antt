@@ -7,9 +7,9 @@ use Rattle.ctt_core.specs.Runs.{EventFits}
 use Rattle.ctt_core.specs.declared.event.Event.{Event}
 use Rattle.ctt_core.specs.declared.event.Event.TheVariants.{Open, Ask, Peek, Status, Commit, Refresh, Abandon, Show}
 use Rattle.ctt_script.specs.ScriptText.{has_words, lines_of, own_item}
-use Rattle.ctt_crew.specs.CrewText.{call_in}
-use Rattle.ctt_crew.specs.Attended.{AnswersItems, IsAttending, own_items}
-use Rattle.ctt_crew.specs.Seats.{AnswersLine}
+use Rattle.ctt_seat.specs.Attended.{AnswersItems, own_items}
+use Rattle.ctt_seat.specs.Seats.{AnswersLine}
+use Rattle.ctt_crew.specs.Attending.{IsAttending, call_in}
 use Rattle.ctt_crew.proofs.AttendLemmas.{begins, call_answered, one_more, passed_over}
 use Rattle.ctt_crew.proofs.attending.attend.Goals as goal
 use Rattle.ctt_crew.proofs.attending.attend.Goals.{in-Some-call_in+else-is_err, in_default-call_in+in-Ok-answer_own_line, then-is_some-via-then-is_some, then-is_some-via-else-is_some+then-has_words}

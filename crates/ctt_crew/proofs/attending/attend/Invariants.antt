@@ -1,6 +1,6 @@
 use Rattle.std.proofs.Common.{string_bytes}
 use Rattle.ctt_script.specs.ScriptText.{lines_of}
-use Rattle.ctt_crew.specs.Attended.{IsAttending}
+use Rattle.ctt_crew.specs.Attending.{IsAttending}
 use Rattle.ctt_crew.proofs.attending.attend.Given as goal
 
 -- all lines but those that are left have been answered

@@ -2,7 +2,7 @@ use Rattle.std.proofs.Common.{◌≡◌, arith, length, map}
 use Rattle.std.specs.Slice.Iter.{iter_rest}
 use Rattle.std.specs.Vec.Iter.{into_iter_items}
 use Rattle.std.proofs.lemmas.Grind.{common_steps}
-use Rattle.ctt_crew.proofs.CrewLemmas.{all_taken}
+use Rattle.ctt_seat.proofs.PlannerLemmas.{all_taken}
 use Rattle.ctt_crew.proofs.crew_run.attendances.Goals as goal
 
 pub returns-clause-planners : goal.returns-clause-planners

@@ -1,6 +1,6 @@
 use Rattle.std.proofs.Common.{◌≡◌, ◌∙◌, map, string_bytes, subst, zip, ap₂}
 use Rattle.std.proofs.lemmas.Result.{IfOk-weaker}
-use Rattle.ctt_crew.specs.Attended.{AreAttended}
+use Rattle.ctt_seat.specs.Attended.{AreAttended}
 use Rattle.ctt_crew.proofs.CrewLemmas.{zipped}
 use Rattle.ctt_crew.proofs.crew_run.attended_at.Goals as goal
 

@@ -4,8 +4,9 @@ use Rattle.std.proofs.lemmas.Result.{IfErr-weaker, IfOk-weaker}
 use Rattle.ctt_text.specs.Problem.{Problem}
 use Rattle.ctt_text.specs.declared.placed.Placed.{Placed}
 use Rattle.ctt_desk.specs.Planners.{new_planners}
-use Rattle.ctt_crew.specs.Attended.{AreAttended}
-use Rattle.ctt_crew.proofs.CrewLemmas.{is_crew_text, planners_many, report_fits}
+use Rattle.ctt_seat.specs.Attended.{AreAttended}
+use Rattle.ctt_seat.proofs.PlannerLemmas.{planners_many}
+use Rattle.ctt_crew.proofs.CrewLemmas.{is_crew_text, report_fits}
 use Rattle.ctt_crew.proofs.crew_run.crew_named.Goals as goal
 
 pub attended_at-done-requires-clause-counted : goal.attended_at-done-requires-clause-counted

@@ -5,7 +5,7 @@ use Rattle.std.proofs.lemmas.List.{map-append, nil_from_length}
 use Rattle.ctt_text.specs.Problem.{Problem}
 use Rattle.ctt_text.specs.declared.placed.Placed.{Placed}
 use Rattle.ctt_desk.specs.Planners.{PlannerValue}
-use Rattle.ctt_crew.specs.Attended.{AreAttending}
+use Rattle.ctt_crew.specs.Attending.{AreAttending}
 use Rattle.ctt_crew.proofs.AttendLemmas.{all_attended, one_attended}
 use Rattle.ctt_crew.proofs.crew_run.join_all.Goals as goal
 

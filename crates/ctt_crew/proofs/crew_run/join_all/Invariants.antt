@@ -1,6 +1,6 @@
 use Rattle.std.proofs.Common.{map, string_bytes}
 use Rattle.std.specs.Vec.Iter.{into_iter_items}
-use Rattle.ctt_crew.specs.Attended.{AreAttending}
+use Rattle.ctt_crew.specs.Attending.{AreAttending}
 use Rattle.ctt_crew.proofs.crew_run.join_all.Given as goal
 
 -- each thread is joined, or is still to be

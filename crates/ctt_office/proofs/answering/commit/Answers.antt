@@ -1,8 +1,8 @@
 use Rattle.std.proofs.Common.{Err, rules, subst, sym}
 use Rattle.std.proofs.lemmas.Result.{IfErr-at_err}
-use Rattle.ctt_crew.specs.CrewText.{ToldFits}
-use Rattle.ctt_crew.specs.Seats.{Commits}
-use Rattle.ctt_devices.proofs.OutputLemmas.{on_err}
+use Rattle.ctt_seat.specs.CrewText.{ToldFits}
+use Rattle.ctt_seat.specs.Seats.{Commits}
+use Rattle.ctt_files.proofs.OutputLemmas.{on_err}
 use Rattle.ctt_office.specs.Ended.{BackFits, EndedFits}
 use Rattle.ctt_office.specs.SeatAnswers.{CommitsNone}
 use Rattle.ctt_office.proofs.CommittedLemmas.{refused_uncommitted}

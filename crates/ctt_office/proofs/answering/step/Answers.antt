@@ -1,4 +1,4 @@
-use Rattle.ctt_devices.proofs.OutputLemmas.{on_err}
+use Rattle.ctt_files.proofs.OutputLemmas.{on_err}
 use Rattle.ctt_office.specs.Pages.{HasFailed, IsInMinutes}
 use Rattle.ctt_office.proofs.AnswerLemmas.{adds_also, no_book, no_commit, with_book}
 use Rattle.ctt_office.proofs.answering.step.Goals as goal

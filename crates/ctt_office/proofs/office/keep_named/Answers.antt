@@ -1,5 +1,5 @@
 use Rattle.std.proofs.Common.{◌∙◌, ap, length, sym}
-use Rattle.ctt_crew.proofs.CrewLemmas.{planners_many}
+use Rattle.ctt_seat.proofs.PlannerLemmas.{planners_many}
 use Rattle.ctt_office.specs.OfficeFaults.{IsOfficeFault}
 use Rattle.ctt_office.proofs.PassLemmas.{passed_on}
 use Rattle.ctt_office.proofs.office.keep_named.Goals as goal

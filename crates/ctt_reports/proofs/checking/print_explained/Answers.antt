@@ -1,7 +1,7 @@
 use Rattle.std.proofs.Common.{◌++◌, ℕ, List, false, append_assoc, inr, subst, sym}
 use Rattle.std.specs.Io.KnownBytes.{Appends}
 use Rattle.std.proofs.KnownBytes.{Appends-trans}
-use Rattle.ctt_devices.specs.Output.{AppendsFront}
+use Rattle.ctt_files.specs.Output.{AppendsFront}
 use Rattle.ctt_files.proofs.Plain.{on_ok_weaker, passed_on}
 use Rattle.ctt_findings.specs.Findings.{findings}
 use Rattle.ctt_reports.specs.Checks.{found_texts}

@@ -2,7 +2,7 @@ use Rattle.std.proofs.Common.{◌≡◌, true, false, Err, OnOk, OnErr, rules}
 use Rattle.std.specs.Io.KnownBytes.{Appends}
 use Rattle.ctt_findings.specs.Findings.{findings}
 use Rattle.ctt_findings.specs.declared.untold.Untold.TheVariants.{Failed, NoMemory}
-use Rattle.ctt_devices.specs.Output.{AppendsFront}
+use Rattle.ctt_files.specs.Output.{AppendsFront}
 use Rattle.ctt_files.proofs.Plain.{on_ok_weaker}
 use Rattle.ctt_reports.specs.Checks.{found_texts}
 use Rattle.ctt_reports.proofs.WritingLemmas.{all_written, front_written, heard, heard_front, of_fault, on_err_weaker}

@@ -3,10 +3,10 @@ use Rattle.std.specs.Io.KnownBytes.{Appends}
 use Rattle.std.proofs.KnownBytes.{Appends-nil}
 use Rattle.ctt_core.specs.Desks.{DeskValue}
 use Rattle.ctt_script.specs.Answering.{Answered, Answering, IsAtRun, Wrote, WroteFront}
-use Rattle.ctt_devices.specs.Output.{AppendsFront}
+use Rattle.ctt_files.specs.Output.{AppendsFront}
 use Rattle.ctt_script.specs.ScriptText.{lines_of, items_of}
 use Rattle.ctt_script.proofs.AnsweringLemmas.{begins, all_written, one_more_line, more_written, front_written, still_at_run}
-use Rattle.ctt_devices.proofs.OutputLemmas.{on_err}
+use Rattle.ctt_files.proofs.OutputLemmas.{on_err}
 use Rattle.ctt_script.proofs.engine.answer_lines.Goals as goal
 
 pub loop-line-init : goal.loop-line-init

@@ -1,6 +1,6 @@
 use Rattle.std.proofs.Common.{◌≡◌, ◌≤◌, ◌∙◌, ℕ, List, [], ap, length, map, subst, sym, take}
 use Rattle.std.proofs.lemmas.List.{length-map, take_all}
-use Rattle.ctt_crew.specs.Attended.{IsCrewText}
+use Rattle.ctt_seat.specs.Attended.{IsCrewText}
 use Rattle.ctt_tool.proofs.crew.answers.Goals as goal
 
 -- at the end each text is given

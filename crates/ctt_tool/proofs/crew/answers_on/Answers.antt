@@ -1,6 +1,6 @@
 use Rattle.std.proofs.Common.{◌≤◌, ◌∙◌, [], ap, inl, inr, length, map, subst, sym}
 use Rattle.std.proofs.lemmas.Result.{IfErr-weaker, IfOk-weaker}
-use Rattle.ctt_crew.specs.Attended.{IsCrewText}
+use Rattle.ctt_seat.specs.Attended.{IsCrewText}
 use Rattle.ctt_files.proofs.Plain.{passed_on}
 use Rattle.ctt_tool.specs.Refusals.{IsOfScripts}
 use Rattle.ctt_tool.proofs.crew.answers_on.Goals as goal

@@ -16,7 +16,7 @@ use Rattle.ctt_files.specs.Faults.{IfUnwritten}
 use Rattle.ctt_files.specs.Refusals.{IsOfStart}
 use Rattle.ctt_files.specs.Texts.{Held, Holds, IsStart}
 use Rattle.ctt_files.proofs.Plain.{on_ok_weaker, passed_on, passed_plain, start_plain, unwritten_more}
-use Rattle.ctt_tool.specs.Jobs.{IsGiven}
+use Rattle.ctt_files.specs.Storing.{IsGiven}
 use Rattle.ctt_tool.specs.Refusals.{IsOfScript}
 use Rattle.ctt_tool.proofs.Desks.{answer_in, journal_stored, others_kept, told_through}
 use Rattle.ctt_tool.proofs.run.run_on.Goals as goal

@@ -5,8 +5,8 @@ use Rattle.std.proofs.lemmas.List.{nil_from_length}
 use Rattle.std.proofs.lemmas.Result.{IfErr-weaker, IfOk-weaker}
 use Rattle.ctt_text.specs.Problem.{Problem}
 use Rattle.ctt_text.specs.declared.placed.Placed.{Placed}
-use Rattle.ctt_crew.specs.CrewText.{IsCrewFault}
-use Rattle.ctt_crew.specs.Attended.{AreAttended, IsAttended}
+use Rattle.ctt_crew.specs.CrewFaults.{IsCrewFault}
+use Rattle.ctt_seat.specs.Attended.{AreAttended, IsAttended}
 use Rattle.ctt_desk.specs.Planners.{PlannerValue}
 use Rattle.ctt_crew.proofs.CrewLemmas.{promised_also}
 use Rattle.ctt_crew.proofs.crew_run.fn.work_at_once.scope.Goals as goal

@@ -1,6 +1,0 @@
-use Rattle.std.proofs.Common.{drop}
-use Rattle.ctt_board.proofs.SettleLemmas.{Settling}
-use Rattle.ctt_board.proofs.list_sheet.ListSheetTimetable.apply_all.Given as goal
-
-abbrev pub invariant-loop-change : goal.invariant-loop-change
-invariant-loop-change l = Settling l.fn.self.problem l.self.problem l.fn.self.list l.self.list l.changes (drop l.change-index l.changes)

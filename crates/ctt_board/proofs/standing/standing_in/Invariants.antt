@@ -1,7 +1,0 @@
-use Rattle.std.proofs.Common.{◌≡◌, ℕ, take}
-use Rattle.ctt_text.specs.Marks.{is_marked}
-use Rattle.ctt_text.specs.Timetable.{has_lecture}
-use Rattle.ctt_board.proofs.standing.standing_in.Given as goal
-
-abbrev pub invariant-loop-lecture : goal.invariant-loop-lecture
-invariant-loop-lecture l = (c : ℕ) → is_marked l.standing c ≡ has_lecture c l.slot (take l.lecture-index l.lectures)

@@ -1,0 +1,34 @@
+-- The faults of a crew, and their causes.
+use Rattle.std.specs.Prelude.{ℕ, ◌<◌, ◌≡◌, ◌⊎◌, Result, Ok, Err}
+use Rattle.ctt_desk.specs.declared.shared_fault.SharedFault.{SharedFault}
+use Rattle.ctt_desk.specs.declared.shared_fault.SharedFault.TheVariants.{Unlawful, NoPlace as Unplaced, NoMemory}
+use Rattle.ctt_crew.specs.declared.crew_fault.CrewFault.{CrewFault}
+use Rattle.ctt_crew.specs.declared.crew_fault.CrewFault.TheVariants as crew_fault
+
+-- the fault of a desk that opens empty, as a crew's fault
+abbrev pub of_shared : SharedFault → CrewFault
+of_shared (Unlawful at f) = crew_fault.NoMemory
+of_shared Unplaced = crew_fault.NoPlace
+of_shared NoMemory = crew_fault.NoMemory
+
+-- a fault of a crew of this many planners: a thread that was not started is that of one of them
+abbrev pub IsCrewFault : ℕ → CrewFault → Type 0
+IsCrewFault planners (crew_fault.NoThread p) = p < planners
+IsCrewFault planners crew_fault.NoPlace = Unit {0}
+IsCrewFault planners crew_fault.NotYours = Unit {0}
+IsCrewFault planners crew_fault.NoMemory = Unit {0}
+
+-- why a planner's thread was not added: memory ran out after it was started, or it was not started
+abbrev pub added_fault : {T E : Type 0} → ℕ → Result T E → CrewFault
+added_fault planner (Ok thread) = crew_fault.NoMemory
+added_fault planner (Err refused) = crew_fault.NoThread planner
+
+-- why a desk that its planners have left gives no report: one of them had seen more than it has, or
+-- memory ran out
+abbrev pub IsEndFault : CrewFault → Type 0
+IsEndFault fault = (fault ≡ crew_fault.NotYours) ⊎ (fault ≡ crew_fault.NoMemory)
+
+-- why there is no report: a fault of the end if the run succeeded, or else the fault of the run
+abbrev pub IsReportFault : {A : Type 0} → Result A CrewFault → CrewFault → Type 0
+IsReportFault (Ok done) fault = IsEndFault fault
+IsReportFault (Err why) fault = fault ≡ why

@@ -1,0 +1,36 @@
+-- Files that are stored.
+use Rattle.std.specs.Prelude.{◌≡◌, ◌≢◌, ℕ, List, Option, Some, None}
+use Rattle.std.specs.Global.{Global}
+use Rattle.std.specs.String.{string_bytes}
+use Rattle.std.specs.declared.string.String.{String}
+use Rattle.ctt_files.specs.Texts.{Held, Holds}
+use Rattle.ctt_files.specs.declared.printed.Stored.{Stored}
+
+-- a file is given
+abbrev pub IsGiven : Option (String Global) → Type 0
+IsGiven None = ⊥
+IsGiven (Some name) = Unit {0}
+
+-- the name is not that of this file, if one is given
+abbrev pub IsOther : Option (String Global) → List ℕ → Type 0
+IsOther None other = Unit {0}
+IsOther (Some name) other = other ≢ string_bytes name
+
+-- all files are unchanged, except this one, if it is given
+abbrev pub KeepOthers : Option (String Global) → Held → Held → Type 0
+KeepOthers stored before after = (other : List ℕ) → IsOther stored other → after other ≡ before other
+
+-- if a file is given, P holds of its bytes and all other files are unchanged; else all files are
+abbrev pub Stores : Option (String Global) → Held → Held → (List ℕ → Type 0) → Type 0
+Stores None before after P = after ≡ before
+Stores (Some name) before after P = Holds after name P × KeepOthers (Some name) before after
+
+-- the name of a file to store, if there is one
+abbrev pub name_of : Option Stored → Option (String Global)
+name_of None = None
+name_of (Some stored) = Some stored.name
+
+-- the file is stored with its bytes, and all others are unchanged
+abbrev pub StoresFile : Option Stored → Held → Held → Type 0
+StoresFile None before after = after ≡ before
+StoresFile (Some stored) before after = Stores (Some stored.name) before after (λ bytes. bytes ≡ stored.bytes.items)

@@ -1,0 +1,138 @@
+-- The tables of counts after one lecture is added, and after one is removed.
+use Rattle.std.proofs.Common.{◌≡◌, ℕ, zero, suc, ◌+◌, ◌<◌, ◌≤◌, Bool, true, false, cond, ◌&&◌, ◌==◌, ltb, List, [], ◌∷◌, length, refl, ◌∙◌, sym, ap, ap₂, arith, inl, inr}
+use Rattle.std.specs.List.{count_by}
+use Rattle.std.proofs.lemmas.Bool.{cases_eq, eq-eqb, ne_eqb, lt-ltb, le-ltb}
+use Rattle.std.proofs.lemmas.Bool.Decides.{nat_tests}
+use Rattle.std.proofs.lemmas.List.Sums.{sum_by-append, length-filter}
+use Rattle.ctt_text.specs.Lists.{has, below}
+use Rattle.ctt_text.specs.Belonging.{curricula_of}
+use Rattle.ctt_text.specs.Problem.{Problem, IsProblem, course_count, room_count, curriculum_count, slot_count, members, day_of}
+use Rattle.ctt_text.specs.Timetable.{Fits, course_row}
+use Rattle.ctt_text.specs.declared.placed.Placed.{Placed}
+use Rattle.ctt_rules.proofs.SlotLemmas.{day_fits}
+use Rattle.ctt_board.proofs.MoreLemmas.{IsMore, counted_more}
+use Rattle.ctt_grid.specs.Joining.{on_day, in_room, in_slot}
+use Rattle.ctt_grid.specs.Tables.{Grid, at, Adds, one_at, in_column}
+use Rattle.ctt_grid.specs.Counts.{HaveSizes, Counted, AreCounts, AddsLecture, HaveNone, HaveLecture}
+use Rattle.ctt_grid.specs.declared.counts.Counts.{Counts}
+
+-- each of the numbers that pass occurs once among them
+pub named_once : (p : ℕ → Bool) (r n : ℕ) → count_by (λ q. q == r) (below p n) ≡ cond (p r && ltb r n) 1 0
+named_once p r zero = rw (le-ltb r 0 (omega arith)) (by (p r))
+  where
+    by : (b : Bool) → ◌≡◌ {A = ℕ} 0 (cond (b && false) 1 0)
+    by true = refl
+    by false = refl
+named_once p r (suc n) =
+    sum_by-append (λ q. cond (q == r) 1 0) (below p n) (cond (p n) (n ∷ []) []) ∙ ap (λ m. m + count_by (λ q. q == r) (cond (p n) (n ∷ []) [])) (named_once p r n)
+    ∙ elim (cases_eq n r) [
+      | inl same ↦ (
+          let now : ltb r (suc n) ≡ true = lt-ltb r (suc n) (omega (arith, same)) in
+          let then' : ltb r n ≡ false = le-ltb r n (omega (arith, same)) in
+          rw (now, then', ap p same) (here (p r) (eq-eqb n r same)))
+      | inr other ↦ (
+          let alike : ltb r (suc n) ≡ ltb r n = grind (arith, nat_tests, other) in
+          rw alike (there (p n) (cond (p r && ltb r n) 1 0) (ne_eqb n r other)))
+    ]
+  where
+    here : (b : Bool) → (n == r) ≡ true → cond (b && false) 1 0 + count_by (λ q. q == r) (cond b (n ∷ []) []) ≡ cond (b && true) 1 0
+    here true e = omega (arith, ap (λ c. cond {A = ℕ} c 1 0) e)
+    here false e = refl
+
+    there : (b : Bool) (m : ℕ) → (n == r) ≡ false → m + count_by (λ q. q == r) (cond b (n ∷ []) []) ≡ m
+    there true m e = omega (arith, ap (λ c. cond {A = ℕ} c 1 0) e)
+    there false m e = omega arith
+
+-- a table with w added
+counted_up : (a b : Grid ℕ) (w f g : ℕ → ℕ → ℕ) (rows width : ℕ) → Adds a b w → ((r k : ℕ) → r < rows → k < width → g r k ≡ w r k + f r k) → Counted a rows width f → Counted b rows width g
+counted_up a b w f g rows width adds e h = record {
+  size = (adds.rows ∙ h.size.0, adds.width ∙ h.size.1);
+  counts = λ r k lr lk. omega (arith, adds.sums r k (omega (arith, lk, h.size.1)), e r k lr lk, h.counts r k lr lk);
+}
+
+counted_down : (a b : Grid ℕ) (w f g : ℕ → ℕ → ℕ) (rows width : ℕ) → Adds a b w → ((r k : ℕ) → r < rows → k < width → g r k ≡ w r k + f r k) → Counted b rows width g → Counted a rows width f
+counted_down a b w f g rows width adds e h = record {
+  size = (sym adds.rows ∙ h.size.0, sym adds.width ∙ h.size.1);
+  counts = λ r k lr lk. omega (arith, adds.sums r k (omega (arith, lk, h.size.1, adds.width)), e r k lr lk, h.counts r k lr lk);
+}
+
+module _ (i : Problem) (l : Placed) (t u : List Placed) (more : IsMore l t u) (fits : Fits i l) where
+  pub lectures_step : (r k : ℕ) → r < 1 → length (course_row k u) ≡ one_at 0 l.course r k + length (course_row k t)
+  lectures_step r k lr = length-filter (λ x. x.course == k) u ∙ counted_more l t u more (λ x. x.course == k) ∙ ap₂ (λ b n. cond b 1 0 + n) test (sym (length-filter (λ x. x.course == k) t))
+    where
+      test : (l.course == k) ≡ (r == 0 && k == l.course)
+      test = grind (arith, nat_tests)
+
+  pub days_step : (r k : ℕ) → count_by (on_day i r k) u ≡ one_at l.course (day_of i l.slot) r k + count_by (on_day i r k) t
+  days_step r k = counted_more l t u more (on_day i r k) ∙ ap (λ b. cond b 1 0 + count_by (on_day i r k) t) test
+    where
+      test : (l.course == r && day_of i l.slot == k) ≡ (r == l.course && k == day_of i l.slot)
+      test = grind (arith, nat_tests)
+
+  pub rooms_step : (r k : ℕ) → count_by (in_room r k) u ≡ one_at l.course l.room r k + count_by (in_room r k) t
+  rooms_step r k = counted_more l t u more (in_room r k) ∙ ap (λ b. cond b 1 0 + count_by (in_room r k) t) test
+    where
+      test : (l.course == r && l.room == k) ≡ (r == l.course && k == l.room)
+      test = grind (arith, nat_tests)
+
+  pub curricula_step : (r k : ℕ) → r < curriculum_count i → count_by (in_slot (members i r) k) u ≡ in_column (curricula_of i l.course) l.slot r k + count_by (in_slot (members i r) k) t
+  curricula_step r k lr = counted_more l t u more (in_slot (members i r) k) ∙ ap (λ n. n + count_by (in_slot (members i r) k) t) (by (has l.course (members i r)) (named_once (λ q. has l.course (members i q)) r (curriculum_count i)))
+    where
+      turned : (l.slot == k) ≡ (k == l.slot)
+      turned = grind (arith, nat_tests)
+
+      each : (b c : Bool) → cond (b && c) 1 0 ≡ cond {A = ℕ} c (cond (b && true) 1 0) 0
+      each true true = refl
+      each true false = refl
+      each false true = refl
+      each false false = refl
+
+      by : (b : Bool) → count_by (λ q. q == r) (curricula_of i l.course) ≡ cond (b && ltb r (curriculum_count i)) 1 0 → cond (b && l.slot == k) 1 0 ≡ cond (k == l.slot) (count_by (λ q. q == r) (curricula_of i l.course)) 0
+      by b e = rw (e, lt-ltb r (curriculum_count i) lr, turned) (each b (k == l.slot))
+
+  module _ (a b : Counts) (adds : AddsLecture i l a b) where
+    pub counts_more : AreCounts i t a → AreCounts i u b
+    counts_more h =
+        record {
+          lectures = counted_up a.lectures b.lectures _ _ _ _ _ adds.lectures (λ r k lr lk. lectures_step r k lr) h.lectures;
+          days = counted_up a.days b.days _ _ _ _ _ adds.days (λ r k lr lk. days_step r k) h.days;
+          rooms = counted_up a.rooms b.rooms _ _ _ _ _ adds.rooms (λ r k lr lk. rooms_step r k) h.rooms;
+          curricula = counted_up a.curricula b.curricula _ _ _ _ _ adds.curricula (λ r k lr lk. curricula_step r k lr) h.curricula;
+        }
+
+    pub counts_less : AreCounts i u b → AreCounts i t a
+    counts_less h =
+        record {
+          lectures = counted_down a.lectures b.lectures _ _ _ _ _ adds.lectures (λ r k lr lk. lectures_step r k lr) h.lectures;
+          days = counted_down a.days b.days _ _ _ _ _ adds.days (λ r k lr lk. days_step r k) h.days;
+          rooms = counted_down a.rooms b.rooms _ _ _ _ _ adds.rooms (λ r k lr lk. rooms_step r k) h.rooms;
+          curricula = counted_down a.curricula b.curricula _ _ _ _ _ adds.curricula (λ r k lr lk. curricula_step r k lr) h.curricula;
+        }
+
+  -- if a lecture can be added, none of its curricula has one in its slot
+  pub have_none : (a : Counts) → AreCounts i t a → ((q : ℕ) → q < curriculum_count i → count_by (in_slot (members i q) l.slot) u ≤ 1) → HaveNone i l a
+  have_none a h few = λ q lt. omega (arith, h.curricula.counts q l.slot lt fits.1, curricula_step q l.slot lt, few q lt)
+
+  -- a lecture that is there is counted
+  pub have_lecture : (b : Counts) → IsProblem i → AreCounts i u b → HaveLecture i l b
+  have_lecture b p h =
+      let one : (x y : ℕ) → one_at x y x y ≡ 1 = λ x y. rw (eq-eqb x x refl, eq-eqb y y refl) refl in
+      let day = day_fits i l.slot fits.1 in
+      record {
+        lectures = omega (arith, h.lectures.counts 0 l.course (omega arith) fits.0, lectures_step 0 l.course (omega arith), one 0 l.course);
+        days = omega (arith, h.days.counts l.course (day_of i l.slot) fits.0 day, days_step l.course (day_of i l.slot), one l.course (day_of i l.slot));
+        rooms = omega (arith, h.rooms.counts l.course l.room fits.0 fits.2, rooms_step l.course l.room, one l.course l.room);
+        curricula = λ q lt. omega (arith, h.curricula.counts q l.slot lt fits.1, curricula_step q l.slot lt);
+      }
+
+-- tables of zeros are the counts of the empty timetable
+abbrev pub IsZero : Grid ℕ → ℕ → ℕ → Type 0
+IsZero g rows width = (r k : ℕ) → r < rows → k < width → at g r k 0 ≡ 0
+
+pub none_counted : (i : Problem) (c : Counts) → HaveSizes i c → IsZero c.lectures 1 (course_count i) → IsZero c.days (course_count i) i.days → IsZero c.rooms (course_count i) (room_count i) → IsZero c.curricula (curriculum_count i) (slot_count i) → AreCounts i [] c
+none_counted i c h lectures days rooms curricula = record {
+  lectures = record { size = h.lectures; counts = lectures };
+  days = record { size = h.days; counts = days };
+  rooms = record { size = h.rooms; counts = rooms };
+  curricula = record { size = h.curricula; counts = curricula };
+}

@@ -1,0 +1,182 @@
+-- What a lecture does to a curriculum that has none in its slot; and lawful timetables have at most one.
+use Rattle.std.proofs.Common.{◌≡◌, ℕ, zero, suc, ◌+◌, ◌-◌, ◌<◌, ◌≤◌, Bool, true, false, cond, ◌&&◌, ◌||◌, ◌==◌, ltb, List, [], ◌∷◌, ◌++◌, refl, ◌∙◌, sym, ap, ap₂, arith, inl, inr}
+use Rattle.std.specs.List.{count_by, list_any, AllByRecursion as Each}
+use Rattle.std.proofs.lemmas.Bool.{cases_Bool, ltb-true, and_parts, eq-eqb, lt-ltb}
+use Rattle.std.proofs.lemmas.Bool.Decides.{nat_tests}
+use Rattle.std.proofs.lemmas.List.Sums.{sum_by-append}
+use Rattle.ctt_text.specs.Belonging.{curricula_of}
+use Rattle.ctt_text.specs.Lists.{has, below, Pairwise}
+use Rattle.ctt_text.specs.Problem.{Problem, curriculum_count, slot_count, members, mates, clash, period_of}
+use Rattle.ctt_text.specs.Timetable.{before}
+use Rattle.ctt_text.specs.declared.placed.Placed.{Placed}
+use Rattle.ctt_text.proofs.TimetableLemmas.{Each-at, Each-map}
+use Rattle.ctt_rules.specs.Hard.{Lawful, conflicts}
+use Rattle.ctt_rules.proofs.SumLemmas.{count_by-cons}
+use Rattle.ctt_board.proofs.MoreLemmas.{IsMore, counted_more}
+use Rattle.ctt_grid.specs.Joining.{in_slot, by_slot, alone_at, stands_alone, count_before, count_after}
+use Rattle.ctt_grid.specs.Seen.{Sees, seen_curriculum, NoneThere, OneThere}
+use Rattle.ctt_grid.specs.Tables.{at}
+use Rattle.ctt_grid.specs.declared.later.Later.{Later}
+use Rattle.ctt_grid.proofs.SeenLemmas.{curriculum_is}
+use Rattle.ctt_grid.proofs.SlotFacts.{later_slot}
+
+-- by the counts of the slots beside
+module _ (i : Problem) (f : ℕ → ℕ) (s : ℕ) where
+  pub stands_is : (n : ℕ) → n ≡ count_before i f s + count_after i f s → cond (ltb 0 n) 0 1 ≡ stands_alone i f s
+  stands_is n e = ap (λ m. cond {A = ℕ} (ltb 0 m) 0 1) e ∙ by (ltb 0 (period_of i s)) (ltb (period_of i s + 1) i.periods) (f (s - 1)) (f (s + 1))
+    where
+      by : (a b : Bool) (m n : ℕ) → cond (ltb 0 (cond a m 0 + cond b n 0)) 0 1 ≡ cond {A = ℕ} ((a && ltb 0 m) || (b && ltb 0 n)) 0 1
+      by true true m n = grind (arith, nat_tests)
+      by true false m n = grind (arith, nat_tests)
+      by false true m n = grind (arith, nat_tests)
+      by false false m n = refl
+
+  module _ (own : f s ≡ 0) where
+    -- some there, so that there is such a slot
+    pub some_before : (n : ℕ) → n ≡ count_before i f s → 0 < n → 0 < period_of i s
+    some_before n e some = elim (cases_Bool (ltb 0 (period_of i s))) [
+      | inl y ↦ ltb-true 0 (period_of i s) y
+      | inr no' ↦ absurd (let z : n ≡ 0 = (rw no' at e) in omega (arith, z, some))
+    ]
+
+    pub some_after : (n : ℕ) → n ≡ count_after i f s → 0 < n → period_of i s + 1 < i.periods
+    some_after n e some = elim (cases_Bool (ltb (period_of i s + 1) i.periods)) [
+      | inl y ↦ ltb-true (period_of i s + 1) i.periods y
+      | inr no' ↦ absurd (let z : n ≡ 0 = (rw no' at e) in omega (arith, z, some))
+    ]
+
+    pub alone_before_is : (n m : ℕ) → n ≡ count_before i f s → 0 < n → m ≡ count_before i f (s - 1) → cond (ltb 0 m) 0 n ≡ cond (ltb 0 (period_of i s)) (alone_at i f (s - 1)) 0
+    alone_before_is n m e some is =
+        let first : 0 < period_of i s = some_before n e some in
+        let there : ltb 0 (period_of i s) ≡ true = lt-ltb 0 (period_of i s) first in
+        let count : n ≡ f (s - 1) = (rw there at e) in
+        let back : f (s - 1 + 1) ≡ 0 = ap f (let one : 1 ≤ s = later_slot i s first in omega arith) ∙ own in
+        rw there (ap₂ (λ a b. cond a 0 b) (ap (ltb 0) is ∙ by (ltb 0 (period_of i (s - 1))) (ltb (period_of i (s - 1) + 1) i.periods) (f (s - 1 - 1)) (f (s - 1 + 1)) back) count)
+      where
+        by : (a b : Bool) (x y : ℕ) → y ≡ 0 → ltb 0 (cond a x 0) ≡ ((a && ltb 0 x) || (b && ltb 0 y))
+        by true true x y z = rw z (or_false (ltb 0 x))
+          where
+            or_false : (b : Bool) → b ≡ (b || false)
+            or_false true = refl
+            or_false false = refl
+        by true false x y z = or_false (ltb 0 x)
+          where
+            or_false : (b : Bool) → b ≡ (b || false)
+            or_false true = refl
+            or_false false = refl
+        by false true x y z = rw z refl
+        by false false x y z = refl
+
+    pub alone_after_is : (n m : ℕ) → n ≡ count_after i f s → 0 < n → m ≡ count_after i f (s + 1) → cond (ltb 0 m) 0 n ≡ cond (ltb (period_of i s + 1) i.periods) (alone_at i f (s + 1)) 0
+    alone_after_is n m e some is =
+        let there : ltb (period_of i s + 1) i.periods ≡ true = lt-ltb (period_of i s + 1) i.periods (some_after n e some) in
+        let count : n ≡ f (s + 1) = (rw there at e) in
+        let back : f (s + 1 - 1) ≡ 0 = ap f (omega arith) ∙ own in
+        rw there (ap₂ (λ a b. cond a 0 b) (ap (ltb 0) is ∙ by (ltb 0 (period_of i (s + 1))) (ltb (period_of i (s + 1) + 1) i.periods) (f (s + 1 - 1)) (f (s + 1 + 1)) back) count)
+      where
+        by : (a b : Bool) (x y : ℕ) → x ≡ 0 → ltb 0 (cond b y 0) ≡ ((a && ltb 0 x) || (b && ltb 0 y))
+        by true true x y z = rw z refl
+        by true false x y z = rw z refl
+        by false true x y z = refl
+        by false false x y z = refl
+
+-- of elements of which no two pass there is at most one that passes
+none_counted : {X : Type 0} (p : X → Bool) (xs : List X) → Each (λ x. p x ≡ false) xs → count_by p xs ≡ 0
+none_counted p [] h = refl
+none_counted p (x ∷ xs) h = omega (arith, count_by-cons p x xs, ap (λ b. cond {A = ℕ} b 1 0) h.0, none_counted p xs h.1)
+
+one_most : {X : Type 0} (p : X → Bool) (xs : List X) → Pairwise (λ a b. p a ≡ true → p b ≡ false) xs → count_by p xs ≤ 1
+one_most p [] h = omega arith
+one_most p (x ∷ xs) h = elim (cases_Bool (p x)) [
+  | inl y ↦ omega (arith, count_by-cons p x xs, ap (λ b. cond {A = ℕ} b 1 0) y, none_counted p xs (Each-map (λ b. p x ≡ true → p b ≡ false) (λ b. p b ≡ false) (λ b k. k y) xs h.0))
+  | inr n ↦ omega (arith, count_by-cons p x xs, ap (λ b. cond {A = ℕ} b 1 0) n, one_most p xs h.1)
+]
+
+Each-both : {X : Type 0} (P Q R : X → Type 0) → ((x : X) → P x → Q x → R x) → (xs : List X) → Each P xs → Each Q xs → Each R xs
+Each-both P Q R f [] h k = tt
+Each-both P Q R f (x ∷ xs) h k = (f x h.0 k.0, Each-both P Q R f xs h.1 k.1)
+
+Pairwise-both : {X : Type 0} (P Q R : X → X → Type 0) → ((a b : X) → P a b → Q a b → R a b) → (xs : List X) → Pairwise P xs → Pairwise Q xs → Pairwise R xs
+Pairwise-both P Q R f [] h k = tt
+Pairwise-both P Q R f (x ∷ xs) h k = (Each-both (P x) (Q x) (R x) (f x) xs h.0 k.0, Pairwise-both P Q R f xs h.1 k.1)
+
+any_none : {X : Type 0} (p : X → Bool) (xs : List X) → list_any p xs ≡ false → Each (λ x. p x ≡ false) xs
+any_none p [] h = tt
+any_none p (x ∷ xs) h = elim (cases_Bool (p x)) [
+  | inl b ↦ (let h' : true ≡ false = rw b at h in cc)
+  | inr b ↦ (let h' : list_any p xs ≡ false = rw b at h in (b, any_none p xs h'))
+]
+
+-- courses that do not clash share no curriculum
+share_none : (i : Problem) (c d q : ℕ) → (c == d) ≡ false → clash i c d ≡ false → q < curriculum_count i → (has c (members i q) && has d (members i q)) ≡ false
+share_none i c d q other clear known = Each-at (λ m. (has c m && has d m) ≡ false) i.curricula (any_none (λ m. has c m && has d m) i.curricula no_mates) q [] known
+  where
+    by : (x y : Bool) → (x || y) ≡ false → y ≡ false
+    by true y h = cc
+    by false y h = h
+
+    no_mates : mates i c d ≡ false
+    no_mates = by _ (mates i c d) (rw other at clear)
+
+-- two lectures of one curriculum in one slot would conflict
+apart : (i : Problem) (q s : ℕ) (a b : Placed) → q < curriculum_count i → conflicts i a b ≡ false → before a b ≡ true → in_slot (members i q) s a ≡ true → in_slot (members i q) s b ≡ false
+apart i q s a b known none order here = elim (cases_Bool (in_slot (members i q) s b)) [
+  | inr n ↦ n
+  | inl y ↦ (
+      let first = and_parts (has a.course (members i q)) (a.slot == s) here in
+      let second = and_parts (has b.course (members i q)) (b.slot == s) y in
+      let same : (a.slot == b.slot) ≡ true = grind (arith, nat_tests, first.1, second.1) in
+      let other : (a.course == b.course) ≡ false = grind (arith, nat_tests, same, order) in
+      let no_clash : clash i a.course b.course ≡ false = (rw same at none) in
+      let not_both = share_none i a.course b.course q other no_clash known in
+      absurd (let z : true ≡ false = sym (ap₂ (λ x y. x && y) first.0 second.0) ∙ not_both in cc))
+]
+
+pub one_there : (i : Problem) (t : List Placed) (q s : ℕ) → Lawful i t → q < curriculum_count i → by_slot (members i q) t s ≤ 1
+one_there i t q s h known = one_most (in_slot (members i q) s) t (Pairwise-both (λ a b. conflicts i a b ≡ false) (λ a b. before a b ≡ true) (λ a b. in_slot (members i q) s a ≡ true → in_slot (members i q) s b ≡ false) (λ a b c o. apart i q s a b known c o) t h.conflict_free h.timetable.ascending)
+
+-- what holds of each number that passes
+below_each : (P : ℕ → Type 0) (p : ℕ → Bool) (n : ℕ) → ((k : ℕ) → k < n → p k ≡ true → P k) → Each P (below p n)
+below_each P p zero h = tt
+below_each P p (suc n) h = both (below p n) (below_each P p n (λ k lt y. h k (omega (arith, lt)) y)) (p n) refl
+  where
+    both : (xs : List ℕ) → Each P xs → (b : Bool) → p n ≡ b → Each P (xs ++ cond b (n ∷ []) [])
+    both [] e true y = (h n (omega arith) y, tt)
+    both [] e false y = tt
+    both (x ∷ xs) e b y = (e.0, both xs e.1 b y)
+
+-- of each curriculum of a course
+pub of_course : (i : Problem) (c : ℕ) (P : ℕ → Type 0) → ((q : ℕ) → q < curriculum_count i → has c (members i q) ≡ true → P q) → Each P (curricula_of i c)
+of_course i c P h = below_each P (λ q. has c (members i q)) (curriculum_count i) h
+
+module _ (i : Problem) (l : Placed) where
+  pub mine : (q : ℕ) → has l.course (members i q) ≡ true → in_slot (members i q) l.slot l ≡ true
+  mine q y = rw (y, eq-eqb l.slot l.slot refl) refl
+
+  -- a lecture that can come, and one that is there
+  pub none_yet : (t u : List Placed) (v : Later) → IsMore l t u → Lawful i t → Lawful i u → Sees i v t → NoneThere i v l
+  none_yet t u v more lt lu sees = of_course i l.course (λ q. seen_curriculum i v q l.slot ≡ 0) (λ q known y. omega (arith, curriculum_is i v t sees lt.timetable.fits q known l.slot, one_there i u q l.slot lu known, counted_more l t u more (in_slot (members i q) l.slot), ap (λ b. cond {A = ℕ} b 1 0) (mine q y)))
+
+  pub one_seen : (t : List Placed) (v : Later) → Lawful i t → Sees i v t → OneThere i v l
+  one_seen t v lt sees = of_course i l.course (λ q. seen_curriculum i v q l.slot ≤ 1) (λ q known y. omega (arith, curriculum_is i v t sees lt.timetable.fits q known l.slot, one_there i t q l.slot lt known))
+
+  -- it leaves
+  pub left_none : (v w : Later) → w.counts.now ≡ v.counts.now → w.added.items ≡ v.added.items → w.removed.items ≡ v.removed.items ++ l ∷ [] → OneThere i v l → NoneThere i w l
+  left_none v w counts added removed one = step (curricula_of i l.course) one (of_course i l.course (λ q. in_slot (members i q) l.slot l ≡ true) (λ q known y. mine q y))
+    where
+      each : (q : ℕ) → seen_curriculum i v q l.slot ≤ 1 → in_slot (members i q) l.slot l ≡ true → seen_curriculum i w q l.slot ≡ 0
+      each q few here = by (ltb l.slot (slot_count i)) few
+        where
+          p : Placed → Bool
+          p = in_slot (members i q) l.slot
+
+          gone : count_by p w.removed.items ≡ count_by p v.removed.items + 1
+          gone = ap (count_by p) removed ∙ sum_by-append (λ x. cond (p x) 1 0) v.removed.items (l ∷ []) ∙ ap (λ n. count_by p v.removed.items + n) (count_by-cons p l [] ∙ ap (λ b. cond {A = ℕ} b 1 0 + 0) here)
+
+          by : (b : Bool) → cond b ((at v.counts.now.curricula q l.slot 0 + count_by p v.added.items) - count_by p v.removed.items) 0 ≤ 1 → cond b ((at w.counts.now.curricula q l.slot 0 + count_by p w.added.items) - count_by p w.removed.items) 0 ≡ 0
+          by true k = omega (arith, k, gone, ap (count_by p) added, ap (λ c. at c.curricula q l.slot 0) counts)
+          by false k = refl
+
+      step : (qs : List ℕ) → Each (λ q. seen_curriculum i v q l.slot ≤ 1) qs → Each (λ q. in_slot (members i q) l.slot l ≡ true) qs → Each (λ q. seen_curriculum i w q l.slot ≡ 0) qs
+      step [] h k = tt
+      step (q ∷ qs) h k = (each q h.0 k.0, step qs h.1 k.1)

@@ -1,0 +1,25 @@
+use Rattle.std.proofs.Common.{rules, ◌≡◌, ◌==◌, ◌&&◌, cond, Some, None, ◌∙◌, ap, ap₂, subst₂, arith, true}
+use Rattle.ctt_grid.specs.Tables.{at}
+use Rattle.ctt_text.specs.BitRows.{SetsMark}
+use Rattle.ctt_grid.proofs.StandingLemmas.{standing_after_cell}
+use Rattle.ctt_grid.proofs.GridLemmas.{WroteRoom, with_rooms}
+use Rattle.ctt_grid.proofs.HolderLemmas.{WroteCourse, holders_with}
+use Rattle.ctt_grid.proofs.tables.Tables.lay.Goals as goal
+
+pub returns-clause-places : goal.returns-clause-places
+returns-clause-places c = λ t are empty lawful.
+    let i = c.args.instance.now in
+    let l = c.args.lecture.now in
+    let g = c.args.self.now in
+    let course : c.get-course.result ≡ l.course = search rules in
+    let slot : c.get-slot.result ≡ l.slot = search rules in
+    let room : c.get-room.result ≡ l.room = search rules in
+    let wrote : WroteRoom i g.rooms c.set.new.self l.course l.slot (Some l.room) =
+    λ d e lt. c.set.ensures.cells d e None (omega (arith, lt, c.requires.sizes.rooms.1)) ∙ ap (λ v. cond (d == c.get-course.result && e == c.get-slot.result) v (at g.rooms d e None)) c.of_room.ensures ∙ ap₂ (λ a b. cond (d == a && e == b) (Some l.room) (at g.rooms d e None)) course slot in
+    let wrote' : WroteCourse i g.courses c.set-2.new.self l.slot l.room (Some l.course) =
+    λ d e lt. c.set-2.ensures.cells d e None (omega (arith, lt, c.requires.sizes.courses.1)) ∙ ap (λ v. cond (d == c.get-slot.result && e == c.get-room.result) v (at g.courses d e None)) c.of_course.ensures ∙ ap₂ (λ a b. cond (d == a && e == b) (Some l.course) (at g.courses d e None)) slot room in
+    record {
+      rooms_are = with_rooms i t g.rooms c.set.new.self l are.rooms_are c.set.ensures.rows c.set.ensures.width wrote empty;
+      courses_are = holders_with i l t g.courses c.set-2.new.self are.courses_are c.set-2.ensures.rows c.set-2.ensures.width wrote' lawful;
+      standing_are = standing_after_cell i t g.standing c.mark.new.self l.course l.slot (Some l.room) are.standing_are (subst₂ (λ s k. SetsMark g.standing c.mark.new.self s k true) slot course c.mark.ensures) empty;
+    }

@@ -1,5 +1,0 @@
-pub mod EscapeLemmas
-pub mod WeekLemmas
-pub mod TextLemmas
-pub mod FoundLemmas
-pub mod StandingLemmas

@@ -1,0 +1,51 @@
+-- The answers to planners, and the report of a crew.
+use Rattle.std.specs.Prelude.{ℕ, ◌+◌, List, [], ◌∷◌, ◌++◌, codes, length}
+use Rattle.std.specs.Fmt.{decimal}
+use Rattle.ctt_text.specs.Problem.{Problem}
+use Rattle.ctt_text.specs.declared.placed.Placed.{Placed}
+use Rattle.ctt_rules.specs.Penalty.{penalty}
+use Rattle.ctt_rules.specs.declared.cost.Cost.{Cost}
+use Rattle.ctt_core.specs.Runs.{after}
+use Rattle.ctt_core.specs.declared.journal.JournalEntry.{JournalEntry}
+use Rattle.ctt_core.specs.declared.answer.Answer.TheVariants.{NoMemory as OutOfMemory, Stale as StaleAnswer}
+use Rattle.ctt_desk.specs.declared.shared_fault.SharedFault.{SharedFault}
+use Rattle.ctt_desk.specs.declared.shared_fault.SharedFault.TheVariants.{Unlawful, NoPlace as Unplaced, NoMemory}
+use Rattle.ctt_script.specs.AnswerText.{answer_words}
+use Rattle.ctt_script.specs.Entries.{AnswerFits}
+use Rattle.ctt_line.specs.Lines.{line}
+use Rattle.ctt_script.specs.WrittenWords.{cost_words}
+use Rattle.ctt_seat.specs.declared.seat.Told.{Told}
+use Rattle.ctt_seat.specs.declared.seat.Told.TheVariants.{Answer as Answered, NotYours, NoPlace, Stale}
+
+-- an answer that can be written
+abbrev pub ToldFits : Problem → Told → Type 0
+ToldFits i (Answered answer) = AnswerFits i answer
+ToldFits i (Stale row asked) = AnswerFits i (StaleAnswer row)
+ToldFits i (NotYours n) = Unit {0}
+ToldFits i NoPlace = Unit {0}
+
+-- the answer to a planner who could not read: that he got no place, or that memory ran out
+abbrev pub told_unread : SharedFault → Told
+told_unread (Unlawful at f) = Answered OutOfMemory
+told_unread Unplaced = NoPlace
+told_unread NoMemory = Answered OutOfMemory
+
+-- the words of the line that answers a planner
+abbrev pub told_words : Problem → Told → List (List ℕ)
+told_words i (Answered answer) = answer_words i answer
+told_words i (Stale row asked) = answer_words i (StaleAnswer row)
+told_words i (NotYours n) = codes "not" ∷ codes "yours" ∷ decimal n ∷ []
+told_words i NoPlace = codes "no" ∷ codes "place" ∷ []
+
+-- the answers of the planners from number p on, each after a heading
+abbrev pub planners_text : ℕ → List (List ℕ) → List ℕ
+planners_text p [] = []
+planners_text p (answers ∷ more) = line (codes "planner" ∷ decimal p ∷ []) ++ (answers ++ planners_text (p + 1) more)
+
+-- the report: the answers of all planners, how many drafts were accepted, and the costs
+abbrev pub crew_text : List (List ℕ) → ℕ → Cost → List ℕ
+crew_text answers entries cost = planners_text 0 answers ++ (line (codes "journal" ∷ decimal entries ∷ []) ++ line (cost_words cost))
+
+-- the report for a desk with this opening and this history
+abbrev pub closing_text : Problem → List Placed → List (List ℕ) → List JournalEntry → List ℕ
+closing_text problem opening answers history = crew_text answers (length history) (penalty problem (after problem opening history))

@@ -1,0 +1,3 @@
+pub mod Attended
+pub mod CrewText
+pub mod Seats

@@ -1,0 +1,302 @@
+//! A planner at his seat, with or without an open draft, and the answers that he gets.
+
+ghost use Rattle.std.specs.Prelude.{ℕ, ◌≡◌, ◌++◌, IfErr, OnOk, string_bytes};
+ghost use Rattle.ctt_edits.specs.Calls.{CallFits};
+ghost use Rattle.ctt_edits.specs.Looks.{LookFits};
+ghost use Rattle.ctt_core.specs.Runs.{EventFits};
+ghost use Rattle.ctt_seat.specs.CrewText.{ToldFits, told_unread};
+ghost use Rattle.ctt_seat.specs.Attended.{leaver};
+ghost use Rattle.ctt_seat.specs.Seats.{Abandons, Asks, Commits, Opens, Peeks, Refreshes, Shows, States, Takes, Views, draft_text, open_entry, told_of};
+
+use ctt_board::{Sheet, Timetable};
+use ctt_core::{Answer, Event};
+use ctt_desk::{
+    Drafting, Naming, Planner, Receipt, RefreshRefusal, Refusal, SharedDesk, SharedFault,
+};
+use ctt_draft::AskedCalls;
+use ctt_edits::{Call, Look, Row};
+use ctt_script::write_entry;
+use ctt_text::{NoMemory, let_go};
+use std::sync::Wait;
+
+/// A planner at work.
+#[derive(Drop)]
+pub enum Seat<'i, S: Timetable, J: Naming> {
+    /// No draft is open.
+    Free(Planner<S, J>),
+    /// A draft is open.
+    Drafting(Drafting<'i, S, J>),
+}
+
+/// The answer to a planner.
+#[derive(Drop)]
+pub enum Told {
+    /// An answer that a single-threaded desk gives as well.
+    Answer(Answer),
+    /// The draft was refused because this row has changed. It has ended; its calls are returned
+    /// with their replies.
+    Stale(Row, AskedCalls),
+    /// The length of the journal, if the planner has seen more drafts than that; otherwise the
+    /// number of his drafts in the journal, which is not the number that he committed.
+    NotYours(u64),
+    /// `left_right` refused to enter.
+    NoPlace,
+}
+
+/// Returns the answer to a planner who could not read the published timetable.
+fn say_unread<J: Naming>(fault: SharedFault) -> Told
+    ensures fits { ToldFits J.problem result }
+    ensures told { result ≡ told_unread fault }
+{
+    match fault {
+        SharedFault::NoPlace => Told::NoPlace,
+        _ => Told::Answer(Answer::NoMemory),
+    }
+}
+
+/// Returns the answer to a commit: how many drafts were then accepted, or why it was refused.
+fn told_of<J: Naming>(outcome: Result<Receipt<J>, Told>) -> Told
+    ensures fits { IfErr outcome (ToldFits J.problem) → ToldFits J.problem result }
+    ensures told { result ≡ told_of outcome }
+{
+    match outcome {
+        Ok(receipt) => Told::Answer(Answer::Committed(receipt.number())),
+        Err(told) => told,
+    }
+}
+
+/// Appends the entry of a draft, as written in a journal.
+fn write_draft<'i, S: Sheet<'i>, J: Naming>(
+    drafting: &Drafting<'i, S, J>,
+    text: &mut String,
+) -> Result<(), NoMemory>
+    ensures { OnOk result (string_bytes text.new
+        ≡ string_bytes text.old ++ draft_text J.problem drafting.now) }
+{
+    let instance = drafting.instance();
+    let entry = drafting.entry()?;
+    let written = write_entry(text, instance, entry.planner, entry.asked.as_slice());
+    let_go(entry);
+    Ok(written?)
+}
+
+impl<'i, S: Sheet<'i>, J: Naming> Seat<'i, S, J> {
+    /// Opens a draft.
+    fn open(self) -> (Self, Told)
+        ensures fits { ToldFits J.problem result.1 }
+        ensures opens { Opens J.problem J.opening self.entry result.0 result.1 }
+    {
+        match self {
+            Seat::Free(planner) => match planner.open() {
+                Ok(drafting) => (Seat::Drafting(drafting), Told::Answer(Answer::Opened)),
+                Err((planner, fault)) => (Seat::Free(planner), say_unread::<J>(fault)),
+            },
+            Seat::Drafting(drafting) => {
+                (Seat::Drafting(drafting), Told::Answer(Answer::AlreadyOpen))
+            }
+        }
+    }
+
+    /// Makes a call in the draft. As the most frequent event, it changes the seat in place.
+    #[inline(always)]
+    pub fn ask(&mut self, call: Call) -> Told
+        requires { CallFits J.problem call }
+        ensures fits { ToldFits J.problem result }
+        ensures asks { Asks J.problem call self.old self.new result }
+    {
+        match self {
+            Seat::Free(_) => Told::Answer(Answer::NoDraft),
+            Seat::Drafting(drafting) => match drafting.call(call) {
+                Ok(reply) => Told::Answer(Answer::Replied(reply)),
+                Err(_) => Told::Answer(Answer::NoMemory),
+            },
+        }
+    }
+
+    /// Answers a look at the draft. A look is not a call: nothing of it is stored.
+    fn peek(&self, look: &Look) -> Told
+        requires { LookFits J.problem look.now }
+        ensures fits { ToldFits J.problem result }
+        ensures peeks { Peeks J.problem look.now self.now result }
+    {
+        match self {
+            Seat::Free(_) => Told::Answer(Answer::NoDraft),
+            Seat::Drafting(drafting) => match drafting.peek(look) {
+                Ok(reply) => Told::Answer(Answer::Replied(reply)),
+                Err(_) => Told::Answer(Answer::NoMemory),
+            },
+        }
+    }
+
+    /// Returns how the draft stands. This is not a call: the draft is unchanged.
+    pub fn status(&mut self) -> Told
+        ensures fits { ToldFits J.problem result }
+        ensures states { States J.problem J.opening self.old self.new result }
+    {
+        match self {
+            Seat::Free(_) => Told::Answer(Answer::NoDraft),
+            Seat::Drafting(drafting) => match drafting.status() {
+                Ok(standing) => Told::Answer(Answer::Draft(standing)),
+                Err(fault) => say_unread::<J>(fault),
+            },
+        }
+    }
+
+    /// Commits the draft. Returns the receipt if it is accepted, or else the answer to the planner.
+    pub fn commit<R: Wait>(
+        self,
+        rt: &R,
+        desk: &SharedDesk<S, J>,
+    ) -> (Self, Result<Receipt<J>, Told>)
+        ensures fits { IfErr result.1 (ToldFits J.problem) }
+        ensures commits { Commits J.problem J.opening self.entry result.0 result.1 }
+    {
+        match self {
+            Seat::Free(planner) => (Seat::Free(planner), Err(Told::Answer(Answer::NoDraft))),
+            Seat::Drafting(drafting) => match drafting.commit(rt, desk) {
+                Ok((planner, receipt)) => (Seat::Free(planner), Ok(receipt)),
+                Err(Refusal::Stale(planner, row, asked)) => {
+                    (Seat::Free(planner), Err(Told::Stale(row, asked)))
+                }
+                Err(Refusal::NotYours(planner, count)) => {
+                    (Seat::Free(planner), Err(Told::NotYours(count)))
+                }
+                Err(Refusal::NoMemory(drafting)) => {
+                    (
+                        Seat::Drafting(drafting),
+                        Err(Told::Answer(Answer::NoMemory)),
+                    )
+                }
+            },
+        }
+    }
+
+    /// Refreshes the draft.
+    fn refresh(self) -> (Self, Told)
+        ensures fits { ToldFits J.problem result.1 }
+        ensures refreshes { Refreshes J.problem J.opening self.entry result.0 result.1 }
+    {
+        match self {
+            Seat::Free(planner) => (Seat::Free(planner), Told::Answer(Answer::NoDraft)),
+            Seat::Drafting(drafting) => match drafting.refresh() {
+                Ok(drafting) => (Seat::Drafting(drafting), Told::Answer(Answer::Refreshed)),
+                Err(RefreshRefusal::Stale(planner, row, asked)) => {
+                    (Seat::Free(planner), Told::Stale(row, asked))
+                }
+                Err(RefreshRefusal::NoPlace(drafting)) => (Seat::Drafting(drafting), Told::NoPlace),
+                Err(RefreshRefusal::NoMemory(drafting)) => {
+                    (Seat::Drafting(drafting), Told::Answer(Answer::NoMemory))
+                }
+            },
+        }
+    }
+
+    /// Abandons the draft.
+    fn abandon(self) -> (Self, Told)
+        ensures fits { ToldFits J.problem result.1 }
+        ensures abandons { Abandons self.entry result.0 result.1 }
+    {
+        match self {
+            Seat::Free(planner) => (Seat::Free(planner), Told::Answer(Answer::NoDraft)),
+            Seat::Drafting(drafting) => (
+                Seat::Free(drafting.abandon()),
+                Told::Answer(Answer::Abandoned),
+            ),
+        }
+    }
+
+    /// Looks at the latest published timetable, if no draft is open.
+    fn show(self, look: &Look) -> (Self, Told)
+        requires { LookFits J.problem look.now }
+        ensures fits { ToldFits J.problem result.1 }
+        ensures shows { Shows J.problem J.opening look.now self.entry result.0 result.1 }
+    {
+        match self {
+            Seat::Free(planner) => {
+                let mut planner = planner;
+                let shown = planner.view(look);
+                match shown {
+                    Ok(reply) => {
+                        let answer = Answer::Replied(reply);
+                        (Seat::Free(planner), Told::Answer(answer))
+                    }
+                    Err(fault) => (Seat::Free(planner), say_unread::<J>(fault)),
+                }
+            }
+            Seat::Drafting(drafting) => {
+                (Seat::Drafting(drafting), Told::Answer(Answer::AlreadyOpen))
+            }
+        }
+    }
+
+    /// Looks at the latest published timetable. An open draft is unchanged.
+    pub fn view(&mut self, look: &Look) -> Told
+        requires { LookFits J.problem look.now }
+        ensures fits { ToldFits J.problem result }
+        ensures views { Views J.problem J.opening look.now self.old self.new result }
+    {
+        let seen = match self {
+            Seat::Free(planner) => planner.view(look),
+            Seat::Drafting(drafting) => drafting.view(look),
+        };
+        match seen {
+            Ok(reply) => Told::Answer(Answer::Replied(reply)),
+            Err(fault) => say_unread::<J>(fault),
+        }
+    }
+
+    /// Handles an event, and returns the seat that it leaves with the answer.
+    pub fn take<R: Wait>(self, rt: &R, desk: &SharedDesk<S, J>, event: Event) -> (Self, Told)
+        requires fits { (n : ℕ) × EventFits J.problem n event }
+        ensures fits { ToldFits J.problem result.1 }
+        ensures takes { Takes J.problem J.opening event self.entry result.0 result.1 }
+    {
+        match event {
+            Event::Open(_) => self.open(),
+            Event::Ask(_, call) => {
+                let mut seat = self;
+                let told = seat.ask(call);
+                (seat, told)
+            }
+            Event::Peek(_, look) => {
+                let told = self.peek(&look);
+                (self, told)
+            }
+            Event::Status(_) => {
+                let mut seat = self;
+                let told = seat.status();
+                (seat, told)
+            }
+            Event::Commit(_) => {
+                let (seat, outcome) = self.commit(rt, desk);
+                (seat, told_of(outcome))
+            }
+            Event::Refresh(_) => self.refresh(),
+            Event::Abandon(_) => self.abandon(),
+            Event::Show(look) => self.show(&look),
+        }
+    }
+
+    /// Returns the planner, and abandons an open draft. Allocates nothing.
+    pub fn leave(self) -> Planner<S, J>
+        ensures { result ≡ leaver self.entry }
+    {
+        match self {
+            Seat::Free(planner) => planner,
+            Seat::Drafting(drafting) => drafting.abandon(),
+        }
+    }
+}
+
+impl<'i, S: Sheet<'i>, J: Naming> Seat<'i, S, J> {
+    /// Appends the entry of the open draft, as written in a journal, if a draft is open.
+    pub fn write_entry(&self, text: &mut String) -> Result<(), NoMemory>
+        ensures { OnOk result (string_bytes text.new
+            ≡ string_bytes text.old ++ open_entry J.problem self.now) }
+    {
+        match self {
+            Seat::Free(_) => Ok(()),
+            Seat::Drafting(drafting) => write_draft(drafting, text),
+        }
+    }
+}

@@ -1,0 +1,12 @@
+use Rattle.std.proofs.Common.{ap, string_bytes}
+use Rattle.ctt_views.specs.GridTexts.{grid_text}
+use Rattle.ctt_views.specs.declared.grid.Grid.TheVariants.{Curriculum}
+use Rattle.ctt_views.proofs.TextLemmas.{goes_on}
+use Rattle.ctt_views.proofs.grids.push_curricula.Goals as goal
+
+pub loop-number-preserved : goal.loop-number-preserved
+loop-number-preserved c =
+    let i = c.args.instance.now in
+    let w = c.args.week.now in
+    goes_on (λ n. grid_text i w (Curriculum n)) c.loop-number.number (string_bytes c.args.page.now) (string_bytes c.loop-number.page) (string_bytes c.push_grid.new.page) (grid_text i w (Curriculum c.new.result))
+    c.loop-number.invariant c.in_ok-push_grid.ensures (ap (λ n. grid_text i w (Curriculum n)) c.new.ensures)

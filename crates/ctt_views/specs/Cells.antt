@@ -1,0 +1,37 @@
+-- The cells of grids, and the lectures in them.
+use Rattle.std.specs.Prelude.{ℕ, ◌++◌, List, [], Some, codes, cond, filter, flat_map, slice_index_or}
+use Rattle.ctt_text.specs.Problem.{Problem}
+use Rattle.ctt_text.specs.declared.placed.Placed.{Placed}
+use Rattle.ctt_views.specs.Escape.{escaped}
+use Rattle.ctt_views.specs.Grids.{is_of, place_id}
+use Rattle.ctt_views.specs.Signs.{signs}
+use Rattle.ctt_views.specs.Weeks.{lectures_in}
+use Rattle.ctt_views.specs.declared.grid.Grid.{Grid}
+
+-- the names of a lecture's course and room
+unfoldable pub names_text : Problem → Placed → List ℕ
+names_text i l = codes "<p><bdi>"
+    ++ (escaped (slice_index_or i.course_names l.course [])
+    ++ (codes "</bdi> <small><bdi>"
+    ++ (escaped (slice_index_or i.room_names l.room [])
+    ++ codes "</bdi></small>")))
+
+-- a lecture as a grid shows it: its names and its signs
+unfoldable pub lecture_text : Problem → List (List Placed) → Grid → Placed → List ℕ
+lecture_text i w g l = names_text i l ++ (signs i w g l ++ codes "</p>")
+
+-- a lecture, if it belongs to the grid
+abbrev pub shown_text : Problem → List (List Placed) → Grid → Placed → List ℕ
+shown_text i w g l = cond (is_of i g l) (lecture_text i w g l) []
+
+-- the lectures of the cell of a slot: those in the slot that belong to the grid
+abbrev pub cell_lectures : Problem → List (List Placed) → Grid → ℕ → List Placed
+cell_lectures i w g s = filter (is_of i g) (lectures_in w s)
+
+-- the cell of a slot
+unfoldable pub cell : Problem → List (List Placed) → Grid → ℕ → List ℕ
+cell i w g s = codes "<td id='"
+    ++ (place_id g (Some s)
+    ++ (codes "'>"
+    ++ (flat_map (lecture_text i w g) (cell_lectures i w g s)
+    ++ codes "</td>")))

@@ -1,0 +1,12 @@
+pub mod Week
+pub mod Escape
+pub mod Weeks
+pub mod Grids
+pub mod Signs
+pub mod Cells
+pub mod GridTexts
+pub mod Report
+pub mod Sections
+pub mod Style
+pub mod Page
+pub mod Laws

@@ -1,0 +1,42 @@
+-- The signs of a lecture that breaks a rule or costs points.
+use Rattle.std.specs.Prelude.{ℕ, Bool, false, ◌==◌, ◌&&◌, ◌++◌, not, nat_lt, List, [], codes, if◌then◌else◌}
+use Rattle.std.specs.List.{list_any}
+use Rattle.ctt_text.specs.Problem.{Problem, capacity_of, clash, course_of, is_barred, is_unavailable}
+use Rattle.ctt_text.specs.declared.placed.Placed.{Placed}
+use Rattle.ctt_rules.specs.Neighbours.{is_beside}
+use Rattle.ctt_views.specs.Grids.{is_of}
+use Rattle.ctt_views.specs.Weeks.{lectures_in}
+use Rattle.ctt_views.specs.declared.grid.Grid.{Grid}
+use Rattle.ctt_views.specs.declared.grid.Grid.TheVariants.{Curriculum, Teacher, Room}
+
+-- one of the lectures is of a course that clashes with this one's
+abbrev pub clashes : Problem → List Placed → Placed → Bool
+clashes i row l = list_any (λ m. clash i l.course m.course) row
+
+-- one of the lectures is of another course, but in this one's room
+abbrev pub shares_room : List Placed → Placed → Bool
+shares_room row l = list_any (λ m. m.room == l.room && not (m.course == l.course)) row
+
+-- a lecture of a grid is in a slot
+abbrev pub stands_in : Problem → List (List Placed) → Grid → ℕ → Bool
+stands_in i w g s = list_any (is_of i g) (lectures_in w s)
+
+-- no lecture of the curriculum is in the slot before or after, on the same day; false in other
+-- grids
+abbrev pub is_alone : Problem → List (List Placed) → Grid → Placed → Bool
+is_alone i w (Curriculum q) l = not (is_beside i (stands_in i w (Curriculum q)) l.slot)
+is_alone i w (Teacher n) l = false
+is_alone i w (Room r) l = false
+
+-- the text of a sign if it is shown, or else an empty text
+unfoldable pub sign : Bool → List ℕ → List ℕ
+sign shown text = if shown then text else []
+
+-- the signs of the rules that a lecture breaks, and of what it costs
+unfoldable pub signs : Problem → List (List Placed) → Grid → Placed → List ℕ
+signs i w g l = sign (clashes i (lectures_in w l.slot) l) (codes " <b>&#9650; conflict</b>")
+    ++ (sign (is_unavailable i l.course l.slot) (codes " <b>&#9660; unavailable</b>")
+    ++ (sign (shares_room (lectures_in w l.slot) l) (codes " <b>&#9670; room taken</b>")
+    ++ (sign (is_barred i l.course l.room) (codes " <b>&#9632; barred</b>")
+    ++ (sign (nat_lt (capacity_of i l.room) (course_of i l.course).students) (codes " <i>&#9679; too small</i>")
+    ++ sign (is_alone i w g l) (codes " <i>&#9675; alone</i>")))))

@@ -1,0 +1,119 @@
+//! The cells of a grid, and the lectures in them.
+
+ghost use Rattle.std.specs.Prelude.{◌≡◌, ◌<◌, ◌++◌, OnOk, filter, flat_map, string_bytes};
+ghost use Rattle.std.specs.List.{AllByRecursion as Each};
+ghost use Rattle.ctt_text.specs.Problem.{slot_count};
+ghost use Rattle.ctt_text.specs.Timetable.{Fits};
+ghost use Rattle.ctt_views.specs.Cells.{cell, lecture_text, names_text, shown_text};
+ghost use Rattle.ctt_views.specs.Grids.{GridFits, is_of};
+ghost use Rattle.ctt_views.specs.Weeks.{WeekFits};
+
+use crate::escape::Escaped;
+use crate::grid::{Grid, Place, is_of};
+use crate::signs::push_signs;
+use crate::week::Week;
+use ctt_text::{Instance, Placed, SlotNo};
+use std::alloc::AllocError;
+use std::fmt::Write;
+
+/// Adds the names of a lecture's course and room.
+#[tactic(auto, unfolding(crate::specs::Cells::names_text))]
+fn push_names(page: &mut String, instance: &Instance, lecture: &Placed) -> Result<(), AllocError>
+    requires { Fits instance.now lecture.now }
+    ensures { OnOk result (string_bytes page.new
+        ≡ string_bytes page.old ++ names_text instance.now lecture.now) }
+{
+    let course = Escaped(instance.course_name(lecture.course));
+    let room = Escaped(instance.room_name(lecture.room));
+    write!(
+        page,
+        "<p><bdi>{course}</bdi> <small><bdi>{room}</bdi></small>"
+    )
+}
+
+/// Adds a lecture as a grid shows it: its names and its signs.
+#[tactic(auto, unfolding(crate::specs::Cells::lecture_text))]
+fn push_lecture(
+    page: &mut String,
+    instance: &Instance,
+    week: &Week,
+    grid: &Grid,
+    lecture: &Placed,
+) -> Result<(), AllocError>
+    requires week { WeekFits instance.now week.now }
+    requires grid { GridFits instance.now grid.now }
+    requires lecture { Fits instance.now lecture.now }
+    ensures { OnOk result (string_bytes page.new
+        ≡ string_bytes page.old ++ lecture_text instance.now week.now grid.now lecture.now) }
+{
+    push_names(page, instance, lecture)?;
+    push_signs(page, instance, week, grid, lecture)?;
+    page.push_str("</p>")
+}
+
+/// Adds a lecture, if it belongs to the grid.
+fn push_shown(
+    page: &mut String,
+    instance: &Instance,
+    week: &Week,
+    grid: &Grid,
+    lecture: &Placed,
+) -> Result<(), AllocError>
+    requires week { WeekFits instance.now week.now }
+    requires grid { GridFits instance.now grid.now }
+    requires lecture { Fits instance.now lecture.now }
+    ensures { OnOk result (string_bytes page.new
+        ≡ string_bytes page.old ++ shown_text instance.now week.now grid.now lecture.now) }
+{
+    if is_of(instance, grid, lecture) {
+        push_lecture(page, instance, week, grid, lecture)
+    } else {
+        Ok(())
+    }
+}
+
+/// Adds those of the lectures that belong to the grid.
+fn push_lectures(
+    page: &mut String,
+    instance: &Instance,
+    week: &Week,
+    grid: &Grid,
+    row: &[Placed],
+) -> Result<(), AllocError>
+    requires week { WeekFits instance.now week.now }
+    requires grid { GridFits instance.now grid.now }
+    requires row { Each (Fits instance.now) row.now }
+    ensures { OnOk result (string_bytes page.new
+        ≡ string_bytes page.old
+        ++ flat_map (lecture_text instance.now week.now grid.now)
+        (filter (is_of instance.now grid.now) row.now)) }
+{
+    for lecture in row {
+        push_shown(page, instance, week, grid, lecture)?;
+    }
+    Ok(())
+}
+
+/// Adds the cell of a slot in a grid.
+#[tactic(auto, unfolding(crate::specs::Cells::cell))]
+pub(crate) fn push_cell(
+    page: &mut String,
+    instance: &Instance,
+    week: &Week,
+    grid: &Grid,
+    slot: SlotNo,
+) -> Result<(), AllocError>
+    requires week { WeekFits instance.now week.now }
+    requires grid { GridFits instance.now grid.now }
+    requires slot { slot < slot_count instance.now }
+    ensures { OnOk result (string_bytes page.new
+        ≡ string_bytes page.old ++ cell instance.now week.now grid.now slot) }
+{
+    let place = Place {
+        grid: *grid,
+        slot: Some(slot),
+    };
+    write!(page, "<td id='{place}'>")?;
+    push_lectures(page, instance, week, grid, week.row(instance, slot))?;
+    page.push_str("</td>")
+}

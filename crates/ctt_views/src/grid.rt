@@ -1,0 +1,100 @@
+//! The grids of the page.
+
+ghost use Rattle.std.specs.Prelude.{◌≡◌, Some};
+ghost use Rattle.ctt_text.specs.Timetable.{Fits};
+ghost use Rattle.ctt_views.specs.Grids.{GridFits, grid_id, is_of, name_of, place_id, word_of};
+
+use ctt_text::{CurriculumNo, Instance, Placed, RoomNo, SlotNo, TeacherNo};
+use std::fmt;
+
+/// The curriculum, teacher or room whose lectures a grid shows. Displayed as the id of the grid.
+#[derive(Clone, Copy, PartialEq, Eq)]
+pub enum Grid {
+    /// The lectures of a curriculum's members.
+    Curriculum(CurriculumNo),
+    /// The lectures of a teacher's courses.
+    Teacher(TeacherNo),
+    /// The lectures in a room.
+    Room(RoomNo),
+}
+
+/// Returns whether a lecture belongs to a grid.
+pub(crate) fn is_of(instance: &Instance, grid: &Grid, lecture: &Placed) -> bool
+    requires grid { GridFits instance.now grid.now }
+    requires lecture { Fits instance.now lecture.now }
+    ensures { result ≡ is_of instance.now grid.now lecture.now }
+{
+    match grid {
+        Grid::Curriculum(curriculum) => instance.members(*curriculum).contains(&lecture.course),
+        Grid::Teacher(teacher) => instance.teacher(lecture.course) == *teacher,
+        Grid::Room(room) => lecture.room == *room,
+    }
+}
+
+/// Returns the word for what a grid shows.
+pub(crate) fn word_of(grid: &Grid) -> &'static str
+    ensures { result.now ≡ word_of grid.now }
+{
+    match grid {
+        Grid::Curriculum(_) => "Curriculum",
+        Grid::Teacher(_) => "Teacher",
+        Grid::Room(_) => "Room",
+    }
+}
+
+/// Returns the name of what a grid shows.
+pub(crate) fn name_of<'i>(instance: &'i Instance, grid: &Grid) -> &'i str
+    requires { GridFits instance.now grid.now }
+    ensures { result.now ≡ name_of instance.now grid.now }
+{
+    match grid {
+        Grid::Curriculum(curriculum) => instance.curriculum_name(*curriculum),
+        Grid::Teacher(teacher) => instance.teacher_name(*teacher),
+        Grid::Room(room) => instance.room_name(*room),
+    }
+}
+
+impl fmt::Display for Grid {
+    ghost output = { λ grid. Some (grid_id grid) };
+
+    #[tactic(auto, unfolding(crate::specs::Grids::grid_id))]
+    fn fmt<W: fmt::Write>(&self, f: &mut fmt::Formatter<W>) -> fmt::Result {
+        match self {
+            Grid::Curriculum(curriculum) => {
+                let number = curriculum.get();
+                write!(f, "c{number}")
+            }
+            Grid::Teacher(teacher) => {
+                let number = teacher.get();
+                write!(f, "t{number}")
+            }
+            Grid::Room(room) => {
+                let number = room.get();
+                write!(f, "r{number}")
+            }
+        }
+    }
+}
+
+/// A grid, or the cell of a slot in it. Displayed as its id.
+#[derive(Clone, Copy)]
+pub(crate) struct Place {
+    pub(crate) grid: Grid,
+    pub(crate) slot: Option<SlotNo>,
+}
+
+impl fmt::Display for Place {
+    ghost output = { λ place. Some (place_id place.grid place.slot) };
+
+    #[tactic(auto, unfolding(crate::specs::Grids::place_id))]
+    fn fmt<W: fmt::Write>(&self, f: &mut fmt::Formatter<W>) -> fmt::Result {
+        let grid = self.grid;
+        match self.slot {
+            Some(slot) => {
+                let number = slot.get();
+                write!(f, "{grid}-{number}")
+            }
+            None => write!(f, "{grid}"),
+        }
+    }
+}

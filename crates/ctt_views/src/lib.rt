@@ -1,0 +1,24 @@
+//! Views of a timetable: its weeks as plain text, and the whole as one self-contained HTML page.
+#![tactic(auto)]
+
+mod cell;
+mod cells;
+mod column;
+mod columns;
+mod escape;
+mod grid;
+mod grids;
+pub mod laws;
+mod page;
+mod report;
+mod sections;
+mod selection;
+mod signs;
+mod style;
+mod table;
+mod week;
+
+pub use grid::Grid;
+pub use page::page_text;
+pub use selection::Selection;
+pub use table::week_text;

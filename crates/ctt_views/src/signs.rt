@@ -1,0 +1,136 @@
+//! The signs of a lecture that breaks a rule or costs points: a shape and a word each.
+
+ghost use Rattle.std.specs.Prelude.{◌≡◌, ◌<◌, ◌++◌, OnOk, string_bytes};
+ghost use Rattle.std.specs.List.{AllByRecursion as Each, list_any};
+ghost use Rattle.ctt_text.specs.Problem.{slot_count};
+ghost use Rattle.ctt_text.specs.Timetable.{Fits};
+ghost use Rattle.ctt_rules.specs.Neighbours.{is_beside};
+ghost use Rattle.ctt_views.specs.Grids.{GridFits, is_of};
+ghost use Rattle.ctt_views.specs.Signs.{clashes, is_alone, shares_room, sign, signs, stands_in};
+ghost use Rattle.ctt_views.specs.Weeks.{WeekFits};
+
+use crate::grid::{Grid, is_of};
+use crate::week::Week;
+use ctt_text::{Instance, Placed, SlotNo};
+use std::alloc::AllocError;
+use std::fmt::Write;
+
+/// Returns whether one of the lectures is of a course that clashes with this lecture's.
+fn clashes(instance: &Instance, row: &[Placed], lecture: &Placed) -> bool
+    requires row { Each (Fits instance.now) row.now }
+    requires lecture { Fits instance.now lecture.now }
+    ensures { result ≡ clashes instance.now row.now lecture.now }
+{
+    for other in row {
+        if instance.clash(lecture.course, other.course) {
+            return true;
+        }
+    }
+    false
+}
+
+/// Returns whether one of the lectures is of another course, but in this lecture's room.
+fn shares_room(row: &[Placed], lecture: &Placed) -> bool
+    ensures { result ≡ shares_room row.now lecture.now }
+{
+    row.iter().any(|other| other.room == lecture.room && other.course != lecture.course)
+}
+
+/// Returns whether one of the lectures belongs to a grid.
+fn has_any_of(instance: &Instance, grid: &Grid, row: &[Placed]) -> bool
+    requires grid { GridFits instance.now grid.now }
+    requires row { Each (Fits instance.now) row.now }
+    ensures { result ≡ list_any (is_of instance.now grid.now) row.now }
+{
+    for lecture in row {
+        if is_of(instance, grid, lecture) {
+            return true;
+        }
+    }
+    false
+}
+
+/// Returns whether a lecture of a grid is in a slot; false if the instance has no such slot.
+fn stands_in(instance: &Instance, week: &Week, grid: &Grid, slot: SlotNo) -> bool
+    requires week { WeekFits instance.now week.now }
+    requires grid { GridFits instance.now grid.now }
+    ensures { result ≡ stands_in instance.now week.now grid.now slot }
+{
+    if slot.get() >= instance.slots() {
+        return false;
+    }
+    has_any_of(instance, grid, week.row(instance, slot))
+}
+
+/// Returns whether a lecture of a grid is in the slot before or after, on the same day.
+fn is_beside(instance: &Instance, week: &Week, grid: &Grid, slot: SlotNo) -> bool
+    requires week { WeekFits instance.now week.now }
+    requires grid { GridFits instance.now grid.now }
+    requires slot { slot < slot_count instance.now }
+    ensures { result
+        ≡ is_beside instance.now (stands_in instance.now week.now grid.now) slot }
+{
+    instance.limits_hold();
+    let period = instance.period_of(slot);
+    let number = slot.get();
+    (period > 0 && stands_in(instance, week, grid, SlotNo::new(number - 1)))
+        || (period + 1 < instance.periods()
+            && stands_in(instance, week, grid, SlotNo::new(number + 1)))
+}
+
+/// Returns whether a lecture is isolated in the curriculum of a grid; false in other grids.
+fn is_alone(instance: &Instance, week: &Week, grid: &Grid, lecture: &Placed) -> bool
+    requires week { WeekFits instance.now week.now }
+    requires grid { GridFits instance.now grid.now }
+    requires lecture { Fits instance.now lecture.now }
+    ensures { result ≡ is_alone instance.now week.now grid.now lecture.now }
+{
+    match grid {
+        Grid::Curriculum(_) => !is_beside(instance, week, grid, lecture.slot),
+        Grid::Teacher(_) => false,
+        Grid::Room(_) => false,
+    }
+}
+
+/// Returns the text of a sign if it is shown, or else an empty text.
+#[tactic(auto, unfolding(crate::specs::Signs::sign))]
+fn sign(shown: bool, text: &'static str) -> &'static str
+    ensures { result.now ≡ sign shown text.now }
+{
+    if shown { text } else { "" }
+}
+
+/// Adds the signs of the rules that a lecture breaks, and of what it costs.
+#[tactic(auto, unfolding(crate::specs::Signs::signs))]
+pub(crate) fn push_signs(
+    page: &mut String,
+    instance: &Instance,
+    week: &Week,
+    grid: &Grid,
+    lecture: &Placed,
+) -> Result<(), AllocError>
+    requires week { WeekFits instance.now week.now }
+    requires grid { GridFits instance.now grid.now }
+    requires lecture { Fits instance.now lecture.now }
+    ensures { OnOk result (string_bytes page.new
+        ≡ string_bytes page.old ++ signs instance.now week.now grid.now lecture.now) }
+{
+    let row = week.row(instance, lecture.slot);
+    let is_small = instance.students(lecture.course) > instance.capacity(lecture.room);
+    let conflict = sign(clashes(instance, row, lecture), " <b>&#9650; conflict</b>");
+    let unavailable = sign(
+        instance.unavailable(lecture.course, lecture.slot),
+        " <b>&#9660; unavailable</b>",
+    );
+    let taken = sign(shares_room(row, lecture), " <b>&#9670; room taken</b>");
+    let barred = sign(
+        instance.barred(lecture.course, lecture.room),
+        " <b>&#9632; barred</b>",
+    );
+    let small = sign(is_small, " <i>&#9679; too small</i>");
+    let alone = sign(
+        is_alone(instance, week, grid, lecture),
+        " <i>&#9675; alone</i>",
+    );
+    write!(page, "{conflict}{unavailable}{taken}{barred}{small}{alone}")
+}

@@ -1,6 +1,0 @@
-use Rattle.std.proofs.Common.{◌≡◌, ◌++◌, string_bytes}
-use Rattle.ctt_week.specs.Week.{blanks}
-use Rattle.ctt_week.proofs.column.push_blanks.Given as goal
-
-abbrev pub invariant-loop : goal.invariant-loop
-invariant-loop l = string_bytes l.line ≡ string_bytes l.initial.line ++ blanks l.counter
