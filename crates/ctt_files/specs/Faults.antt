@@ -1,11 +1,14 @@
 -- The faults of the program, with their exit statuses and lines.
-use Rattle.std.specs.Prelude.{◌≡◌, ◌++◌, ℕ, List, codes, if◌then◌else◌}
+use Rattle.std.specs.Prelude.{◌≡◌, ◌++◌, ◌∷◌, [], ℕ, List, codes, if◌then◌else◌}
+use Rattle.std.specs.Fmt.{decimal}
 use Rattle.std.specs.Global.{Global}
 use Rattle.std.specs.String.{string_bytes}
 use Rattle.std.specs.declared.string.String.{String}
 use Rattle.ctt_files.specs.declared.input.InputFault.{InputFault}
 use Rattle.ctt_files.specs.declared.input.InputFault.TheVariants as input
+use Rattle.ctt_line.specs.Lines.{line}
 use Rattle.ctt_text.specs.BarredPlaces as barred
+use Rattle.ctt_text.specs.FaultCodes.{barred_at, barred_code, instance_at, instance_code, solution_at, solution_code}
 use Rattle.ctt_text.specs.InstancePlaces as instance
 use Rattle.ctt_text.specs.SolutionPlaces.{lacks_memory}
 use Rattle.ctt_text.specs.declared.fault.BarredFault.{BarredFault}
@@ -72,10 +75,17 @@ MayHaveWritten _ = ⊥
 abbrev pub EndsLine : List ℕ → Type 0
 EndsLine bytes = (front : List ℕ) × (bytes ≡ front ++ codes "\n")
 
--- what is reported of a fault: the texts of Words and Opening unchanged, a fixed line if memory ran
--- out, and otherwise a text that ends with a line feed
+-- the line of a text that is refused: what was refused, the code of the fault, and the word or byte
+abbrev pub place_line : List ℕ → List ℕ → ℕ → List ℕ
+place_line what code at = line (codes "timedesk: " ++ what ∷ code ∷ decimal at ∷ [])
+
+-- what is reported of a fault: the texts of Words and Opening unchanged, the line of a text that is
+-- refused, a fixed line if memory ran out, and otherwise a text that ends with a line feed
 abbrev pub IsLineOf : Fault → List ℕ → Type 0
 IsLineOf (Words text) bytes = bytes ≡ string_bytes text
 IsLineOf (Opening text) bytes = bytes ≡ string_bytes text
 IsLineOf NoMemory bytes = bytes ≡ codes "timedesk: no memory\n"
+IsLineOf (Instance met) bytes = bytes ≡ place_line (codes "instance") (instance_code met) (instance_at met)
+IsLineOf (Solution met) bytes = bytes ≡ place_line (codes "solution") (solution_code met) (solution_at met)
+IsLineOf (Barred met) bytes = bytes ≡ place_line (codes "barred") (barred_code met) (barred_at met)
 IsLineOf _ bytes = EndsLine bytes

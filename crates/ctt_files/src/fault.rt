@@ -1,10 +1,13 @@
 //! The faults of the program.
 
-ghost use Rattle.std.specs.Prelude.{◌≡◌, ◌++◌, IfOk, codes};
+ghost use Rattle.std.specs.Prelude.{◌≡◌, ◌++◌, ◌∷◌, [], IfOk, codes};
+ghost use Rattle.std.specs.Fmt.{decimal};
 ghost use Rattle.std.specs.String.{string_bytes};
+ghost use Rattle.ctt_line.specs.Lines.{line};
 ghost use Rattle.ctt_files.specs.Faults.{IsLineOf, fault_of_barred, fault_of_instance, fault_of_solution, status_of};
 ghost use Rattle.ctt_files.specs.declared.fault.Fault.TheVariants.{NoMemory};
 
+use ctt_line::{Word, push_line};
 use ctt_text::{BarredFault, ReadFault, SolutionFault};
 use std::alloc::{AllocError, AllocFailed, Global};
 use thiserror::Error;
@@ -89,6 +92,19 @@ fn end_line(mut text: String) -> Result<String, AllocError>
     Ok(text)
 }
 
+/// Returns a line of what is refused, the code of the fault, and the word or byte.
+fn place_line(alloc: Global, what: &str, code: &str, at: u64) -> Result<String, AllocError>
+    ensures { IfOk result (λ text.
+        string_bytes text ≡ line (what.now ∷ code.now ∷ decimal at ∷ [])) }
+{
+    let mut text = String::new_in(alloc);
+    push_line(
+        &mut text,
+        &[Word::text(what), Word::text(code), Word::number(at)],
+    )?;
+    Ok(text)
+}
+
 impl Fault {
     /// Returns the exit status of the program.
     pub fn status(&self) -> u8
@@ -123,6 +139,15 @@ impl Fault {
         match self {
             Fault::Words(text) | Fault::Opening(text) => text.clone(),
             Fault::NoMemory => String::from_str(alloc, NO_MEMORY),
+            Fault::Instance(fault) => {
+                place_line(alloc, "timedesk: instance", fault.code(), fault.at())
+            }
+            Fault::Solution(fault) => {
+                place_line(alloc, "timedesk: solution", fault.code(), fault.at())
+            }
+            Fault::Barred(fault) => {
+                place_line(alloc, "timedesk: barred", fault.code(), fault.at())
+            }
             _ => end_line(self.to_string(alloc)?),
         }
     }

@@ -5,6 +5,7 @@ mod bit_rows;
 mod compact;
 mod course_facts;
 mod fault;
+mod fault_codes;
 mod fits;
 mod ids;
 mod instance;
