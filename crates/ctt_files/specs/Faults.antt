@@ -77,7 +77,7 @@ EndsLine bytes = (front : List ℕ) × (bytes ≡ front ++ codes "\n")
 
 -- the line of a text that is refused: what was refused, the code of the fault, and the word or byte
 abbrev pub place_line : List ℕ → List ℕ → ℕ → List ℕ
-place_line what code at = line (codes "timedesk: " ++ what ∷ code ∷ decimal at ∷ [])
+place_line what code at = line ((codes "timedesk: " ++ what) ∷ code ∷ decimal at ∷ [])
 
 -- what is reported of a fault: the texts of Words and Opening unchanged, the line of a text that is
 -- refused, a fixed line if memory ran out, and otherwise a text that ends with a line feed

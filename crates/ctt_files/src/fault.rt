@@ -97,7 +97,7 @@ fn place_line(alloc: Global, what: &str, code: &str, at: u64) -> Result<String, 
     ensures { IfOk result (λ text.
         string_bytes text ≡ line (what.now ∷ code.now ∷ decimal at ∷ [])) }
 {
-    let mut text = String::new_in(alloc);
+    let mut text = String::new(alloc);
     push_line(
         &mut text,
         &[Word::text(what), Word::text(code), Word::number(at)],
