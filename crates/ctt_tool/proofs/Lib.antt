@@ -1,8 +1,0 @@
-pub mod Plain
-pub mod Known
-pub mod Causes
-pub mod Desks
-pub mod Ends
-pub mod Audited
-pub mod Offices
-pub mod Delivered

@@ -1,0 +1,4 @@
+pub mod Plain
+pub mod Causes
+pub mod Openings
+pub mod Audited

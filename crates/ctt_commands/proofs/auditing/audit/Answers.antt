@@ -1,0 +1,24 @@
+use Rattle.std.proofs.Common.{inl, rules, subst}
+use Rattle.std.proofs.Crossing.{crosses}
+use denote.Param.Send.{sendable}
+use Rattle.ctt_text.proofs.SharingLemmas.{instance_shared}
+use Rattle.std.proofs.lemmas.Result.{IfErr-weaker}
+use Rattle.ctt_text.specs.Problem.{Problem}
+use Rattle.ctt_files.proofs.Plain.{behind_instance}
+use Rattle.ctt_commands.specs.Audits.{AuditsOn}
+use Rattle.ctt_commands.specs.Refusals.{IsOfAudited}
+use Rattle.ctt_commands.proofs.Plain.{both_ok}
+use Rattle.ctt_commands.proofs.auditing.audit.Goals as goal
+
+pub audit_on-audited-requires : goal.audit_on-audited-requires
+audit_on-audited-requires g c κs = (search (instance_shared, sendable, crosses) depth 60 fits 20000, (search (instance_shared, sendable, crosses) depth 60 fits 20000, search rules))
+
+pub returns-clause-audits : goal.returns-clause-audits
+returns-clause-audits g c =
+    let problem : Problem = c.in_ok-instance.instance in
+    both_ok c.audit_on-audited.result _ _ _ c.audit_on-audited.ensures.audits c.audit_on-audited.ensures.alone
+    (λ p audits alone. ((problem, c.in_ok-instance.ensures.spelled, subst (λ held. AuditsOn problem c.args.journal c.args.start held p) c.in_ok-instance.ensures.kept audits), alone))
+
+pub returns-clause-cause : goal.returns-clause-cause
+returns-clause-cause g c =
+    IfErr-weaker c.audit_on-audited.result _ _ (λ fault is. behind_instance (IsOfAudited c.args.journal c.args.start) _ _ c.args.instance c.args.barred c.in_ok-instance.instance fault c.in_ok-instance.ensures.spelled c.in_ok-instance.ensures.kept is) c.audit_on-audited.ensures.cause

@@ -1,0 +1,192 @@
+-- What holds if bytes are known.
+use Rattle.std.proofs.Common.{◌≡◌, ◌<◌, ◌⊎◌, ⊎_elim, length, arith, inl, inr, ap, ℕ, Bool, true, List, refl, sym, subst, Option}
+use Rattle.std.specs.Global.{Global}
+use Rattle.std.specs.Io.KnownBytes.{Appends}
+use Rattle.std.specs.declared.string.String.{String}
+use Rattle.ctt_words.specs.Jobs.{AreRefused, IsFaultOf, IsJobOf, IsRequest, faults_of}
+use Rattle.ctt_words.specs.declared.job.Job.{Job}
+use Rattle.ctt_words.specs.declared.job.Task.{Task}
+use Rattle.ctt_words.specs.declared.job.Task.TheVariants.{Audit, Crew, Desk, Journal as Journals, Listing, Mending, Run, Show}
+use Rattle.ctt_words.specs.declared.job.WordsFault.{WordsFault}
+use Rattle.ctt_words.specs.declared.job.WordsFault.TheVariants as no
+use Rattle.ctt_words.specs.declared.job.WordsFault.TheVariants.{Help, Refused}
+use Rattle.ctt_files.specs.Faults.{IfUnwritten, IsLineOf, status_of}
+use Rattle.ctt_files.specs.Texts.{Held}
+use Rattle.ctt_files.specs.declared.fault.Fault.{Fault}
+use Rattle.ctt_files.specs.declared.fault.Fault.TheVariants.{BadSeats, Barred, CannotRead, CannotWrite, Instance, Journal, MinutesExist, NoCourse, NoCurriculum, NoMemory, NoPlace, NoRoom, NoTeacher, NoThread, NotYours, Opening, Solution, TooLong, TooManyScripts, Words, WordsNotText}
+use Rattle.ctt_files.specs.Refusals.{IsOfSolution}
+use Rattle.ctt_files.proofs.Plain.{IsPlain, behind_plain, solution_file_plain}
+use Rattle.ctt_reports.specs.Showings.{whose_of}
+use Rattle.ctt_reports.proofs.LookLemmas.{look_plain}
+use Rattle.ctt_commands.specs.Faults.{KeptUnless}
+use Rattle.ctt_program.specs.Reporting.{SaysFault}
+use Rattle.ctt_program.specs.Jobs.{HasBadSeats, Storing, scripts_of}
+use Rattle.ctt_commands.specs.Refusals.{IsOfAudited, IsOfScript, IsOfScripts}
+use Rattle.ctt_program.specs.Refusals.{IsOfMinutes, IsOfSeats}
+use Rattle.ctt_program.specs.Work.{AsksForBadSeats, AsksForRefusedText, AsksForTooMany, GivesHelp, HasCause, IsOfHelp, IsOfJob, IsOfTask}
+use Rattle.ctt_commands.proofs.Plain.{audited_plain, script_plain, scripts_plain}
+use Rattle.ctt_program.proofs.Plain.{minutes_plain, seats_plain}
+
+-- what is written completely, if the device has not failed, is the line of a fault
+pub says_fault : (M U : Type 0) (C : Fault → Type 0) (fault : Fault) (old new : Option (List ℕ)) (bytes : List ℕ) → C fault → IsLineOf fault bytes → M ⊎ (U × Appends old new bytes)
+    → M ⊎ SaysFault C (status_of fault) old new
+says_fault M U C fault old new bytes has line (inl marked) = inl marked
+says_fault M U C fault old new bytes has line (inr said) = inr (fault, has, refl, (bytes, line, said.1))
+
+pub says_weaker : (M : Type 0) (C D : Fault → Type 0) (status : ℕ) (old new : Option (List ℕ)) → ((fault : Fault) → C fault → D fault) → M ⊎ SaysFault C status old new
+    → M ⊎ SaysFault D status old new
+says_weaker M C D status old new more (inl marked) = inl marked
+says_weaker M C D status old new more (inr said) = inr (said.0, more said.0 said.1, said.2, said.3)
+
+-- the reported fault is this one, or that memory ran out, which needs no cause
+pub says_caused : (M : Type 0) (D : Fault → Type 0) (fault : Fault) (status : ℕ) (old new : Option (List ℕ)) → D fault → D NoMemory
+    → M ⊎ SaysFault (λ told. (told ≡ fault) ⊎ (told ≡ NoMemory)) status old new → M ⊎ SaysFault D status old new
+says_caused M D fault status old new has memory said =
+    says_weaker M (λ told. (told ≡ fault) ⊎ (told ≡ NoMemory)) D status old new (λ told is. ⊎_elim (λ same. subst D (sym same) has) (λ same. subst D (sym same) memory) is) said
+
+-- the words are refused
+abbrev IsWord : Fault → Type 0
+IsWord (Words text) = Unit {0}
+IsWord WordsNotText = Unit {0}
+IsWord _ = ⊥
+
+-- a fault of a job is a plain one, except for too many scripts, which only a crew has, and for the
+-- seats of a desk
+abbrev pub IsSpecial : Task → Fault → Type 0
+IsSpecial task fault = ((fault ≡ TooManyScripts) × (64 < length (scripts_of task))) ⊎ ((fault ≡ BadSeats) × HasBadSeats task)
+
+pub task_plain : (instance : String Global) (barred : Option (String Global)) (task : Task) (held : Held) (fault : Fault) → IsOfTask instance barred task held fault
+    → IsPlain fault ⊎ IsSpecial task fault
+task_plain instance barred (Show solution showing) held fault is = inl (look_plain held instance barred (whose_of showing) solution fault is)
+task_plain instance barred (Run script start journal) held fault is = inl (behind_plain (IsOfScript script start) (script_plain script start) held instance barred fault is)
+task_plain instance barred (Audit journal start) held fault is = inl (behind_plain (IsOfAudited journal start) (audited_plain journal start) held instance barred fault is)
+task_plain instance barred (Crew scripts) held fault (inl many) = inr (inl many)
+task_plain instance barred (Crew scripts) held fault (inr other) = inl (behind_plain (IsOfScripts scripts.items) (scripts_plain scripts.items) held instance barred fault other)
+task_plain instance barred (Desk seats start minutes) held fault (inl (inl bad)) = inr (inr bad)
+task_plain instance barred (Desk seats start minutes) held fault (inl (inr exist)) = inl (subst IsPlain (sym exist.2) tt)
+task_plain instance barred (Desk seats start minutes) held fault (inr other) = inl (behind_plain (IsOfSeats seats.items start) (seats_plain seats.items start) held instance barred fault other)
+task_plain instance barred (Journals minutes) held fault is = inl (behind_plain (IsOfMinutes minutes) (minutes_plain minutes) held instance barred fault is)
+task_plain instance barred (Listing journal start) held fault is = inl (behind_plain (IsOfAudited journal start) (audited_plain journal start) held instance barred fault is)
+task_plain instance barred (Mending solution) held fault is = inl (behind_plain (IsOfSolution solution) (solution_file_plain solution) held instance barred fault is)
+
+job_plain : (job : Job) (held : Held) (fault : Fault) → IsOfJob job held fault → IsPlain fault ⊎ IsSpecial job.task fault
+job_plain job held fault is = task_plain job.instance job.barred job.task held fault is
+
+-- no job refuses the words that ask for it
+not_special : {C : Type 0} (task : Task) (fault : Fault) → IsWord fault → IsSpecial task fault → C
+not_special task fault word (inl many) = absurd (subst IsWord many.0 word)
+not_special task fault word (inr bad) = absurd (subst IsWord bad.0 word)
+
+job_words : {C : Type 0} (job : Job) (held : Held) (fault : Fault) → IsWord fault → (IsPlain fault → C) → IsOfJob job held fault → C
+job_words job held fault word plain is = ⊎_elim plain (λ special. not_special job.task fault word special) (job_plain job held fault is)
+
+-- the cause of a fault of a job
+pub job_caused : (words : List (List ℕ)) (held : Held) (failed : Bool) (job : Job) (U : Type 0) (fault : Fault) → IsJobOf words job → IfUnwritten fault ((failed ≡ true) ⊎ Storing job.task) (IsOfJob job held fault × U) → HasCause words held failed fault
+job_caused words held failed job U (Instance met) is cause = (job, is, cause.0)
+job_caused words held failed job U (Solution met) is cause = (job, is, cause.0)
+job_caused words held failed job U (Barred met) is cause = (job, is, cause.0)
+job_caused words held failed job U (Journal number at) is cause = (job, is, cause.0)
+job_caused words held failed job U (Opening text) is cause = (job, is, cause.0)
+job_caused words held failed job U (CannotRead name) is cause = (job, is, cause.0)
+job_caused words held failed job U (TooLong name) is cause = (job, is, cause.0)
+job_caused words held failed job U CannotWrite is cause = ⊎_elim inl (λ storing. inr (job, is, storing)) cause
+job_caused words held failed job U NoMemory is cause = tt
+job_caused words held failed job U (Words text) is cause = job_words job held (Words text) tt (λ plain. absurd plain) cause.0
+job_caused words held failed job U WordsNotText is cause = job_words job held WordsNotText tt (λ plain. absurd plain) cause.0
+job_caused words held failed job U TooManyScripts is cause = (job, is, cause.0)
+job_caused words held failed job U NoThread is cause = (job, is, cause.0)
+job_caused words held failed job U NotYours is cause = (job, is, cause.0)
+job_caused words held failed job U NoPlace is cause = (job, is, cause.0)
+job_caused words held failed job U BadSeats is cause = (job, is, cause.0)
+job_caused words held failed job U (MinutesExist name) is cause = (job, is, cause.0)
+job_caused words held failed job U (NoCurriculum name) is cause = (job, is, cause.0)
+job_caused words held failed job U (NoTeacher name) is cause = (job, is, cause.0)
+job_caused words held failed job U (NoCourse name) is cause = (job, is, cause.0)
+job_caused words held failed job U (NoRoom name) is cause = (job, is, cause.0)
+
+abbrev is_many : Fault → ℕ
+is_many TooManyScripts = 1
+is_many _ = 0
+
+one_is_none : {C : Type 0} → ◌≡◌ {A = ℕ} 1 0 → C
+one_is_none e = absurd (omega (arith, e))
+
+-- words are refused for their faults, for too many scripts, or for the seats of a desk
+pub refused_two : (words : List (List ℕ)) (held : Held) (failed : Bool) (fault : Fault) → HasCause words held failed fault → status_of fault ≡ 2 → AreRefused words ⊎ (AsksForTooMany words ⊎ AsksForBadSeats words)
+refused_two words held failed (Instance met) has two = absurd (omega (arith, two))
+refused_two words held failed (Solution met) has two = absurd (omega (arith, two))
+refused_two words held failed (Barred met) has two = absurd (omega (arith, two))
+refused_two words held failed (Journal number at) has two = absurd (omega (arith, two))
+refused_two words held failed (Opening text) has two = absurd (omega (arith, two))
+refused_two words held failed (CannotRead name) has two = absurd (omega (arith, two))
+refused_two words held failed (TooLong name) has two = absurd (omega (arith, two))
+refused_two words held failed CannotWrite has two = absurd (omega (arith, two))
+refused_two words held failed NoMemory has two = absurd (omega (arith, two))
+refused_two words held failed (Words text) has two = inl (⊎_elim inl (λ several. inr several.0) has)
+refused_two words held failed WordsNotText has two = absurd has
+refused_two words held failed TooManyScripts has two = inr (inl (has.0, has.1, many_of has.0.task (job_plain has.0 held TooManyScripts has.2)))
+  where
+    many_of : (task : Task) → IsPlain TooManyScripts ⊎ IsSpecial task TooManyScripts → 64 < length (scripts_of task)
+    many_of task (inl plain) = absurd plain
+    many_of task (inr (inl many)) = many.1
+    many_of task (inr (inr bad)) = one_is_none (ap is_many bad.0)
+refused_two words held failed NoThread has two = absurd (omega (arith, two))
+refused_two words held failed NotYours has two = absurd (omega (arith, two))
+refused_two words held failed NoPlace has two = absurd (omega (arith, two))
+refused_two words held failed (MinutesExist name) has two = absurd (omega (arith, two))
+refused_two words held failed (NoCurriculum name) has two = absurd (omega (arith, two))
+refused_two words held failed (NoTeacher name) has two = absurd (omega (arith, two))
+refused_two words held failed (NoCourse name) has two = absurd (omega (arith, two))
+refused_two words held failed (NoRoom name) has two = absurd (omega (arith, two))
+refused_two words held failed BadSeats has two = inr (inr (has.0, has.1, seats_of has.0.task (job_plain has.0 held BadSeats has.2)))
+  where
+    seats_of : (task : Task) → IsPlain BadSeats ⊎ IsSpecial task BadSeats → HasBadSeats task
+    seats_of task (inl plain) = absurd plain
+    seats_of task (inr (inl many)) = one_is_none (sym (ap is_many many.0))
+    seats_of task (inr (inr bad)) = bad.1
+
+-- a text is refused by a job that the words ask for
+pub asked_one : (words : List (List ℕ)) (held : Held) (failed : Bool) (fault : Fault) → HasCause words held failed fault → status_of fault ≡ 1 → AsksForRefusedText words held
+asked_one words held failed (Instance met) has one = ((Instance met), one, has)
+asked_one words held failed (Solution met) has one = ((Solution met), one, has)
+asked_one words held failed (Barred met) has one = ((Barred met), one, has)
+asked_one words held failed (Journal number at) has one = ((Journal number at), one, has)
+asked_one words held failed (Opening text) has one = ((Opening text), one, has)
+asked_one words held failed (CannotRead name) has one = absurd (omega (arith, one))
+asked_one words held failed (TooLong name) has one = absurd (omega (arith, one))
+asked_one words held failed CannotWrite has one = absurd (omega (arith, one))
+asked_one words held failed NoMemory has one = absurd (omega (arith, one))
+asked_one words held failed (Words text) has one = absurd (omega (arith, one))
+asked_one words held failed WordsNotText has one = absurd (omega (arith, one))
+asked_one words held failed TooManyScripts has one = absurd (omega (arith, one))
+asked_one words held failed NoThread has one = absurd (omega (arith, one))
+asked_one words held failed NotYours has one = absurd (omega (arith, one))
+asked_one words held failed NoPlace has one = absurd (omega (arith, one))
+asked_one words held failed BadSeats has one = absurd (omega (arith, one))
+asked_one words held failed (MinutesExist name) has one = absurd (omega (arith, one))
+asked_one words held failed (NoCurriculum name) has one = ((NoCurriculum name), one, has)
+asked_one words held failed (NoTeacher name) has one = ((NoTeacher name), one, has)
+asked_one words held failed (NoCourse name) has one = ((NoCourse name), one, has)
+asked_one words held failed (NoRoom name) has one = ((NoRoom name), one, has)
+
+-- ---- the answer to words that ask for no job
+
+pub help_asked : (words : List (List ℕ)) (fault : WordsFault) → IsFaultOf words fault → GivesHelp fault → IsRequest (faults_of words)
+help_asked words (Help text) is helps = is
+help_asked words (Refused text) is helps = absurd helps
+help_asked words no.NoMemory is helps = absurd helps
+
+pub help_caused : (words : List (List ℕ)) (held : Held) (failed : Bool) (fault : WordsFault) (told : Fault) → IsFaultOf words fault → IsOfHelp fault failed told → HasCause words held failed told
+help_caused words held failed (Help text) told is of = subst (HasCause words held failed) (sym of.0) (inl of.1)
+help_caused words held failed (Refused text) told is of = subst (HasCause words held failed) (sym of) is
+help_caused words held failed no.NoMemory told is of = subst (HasCause words held failed) (sym of) tt
+
+pub help_kept : (fault : WordsFault) (failed : Bool) (told : Fault) (S K : Type 0) → IsOfHelp fault failed told → K → KeptUnless told S K
+help_kept (Help text) failed told S K of kept = subst (λ f. KeptUnless f S K) (sym of.0) (inl kept)
+help_kept (Refused text) failed told S K of kept = subst (λ f. KeptUnless f S K) (sym of) kept
+help_kept no.NoMemory failed told S K of kept = subst (λ f. KeptUnless f S K) (sym of) kept
+
+pub help_not_one : (fault : WordsFault) (failed : Bool) (told : Fault) (P : Type 0) → IsOfHelp fault failed told → status_of told ≡ 1 → P
+help_not_one (Help text) failed told P of one = absurd (omega (arith, ap status_of of.0, one))
+help_not_one (Refused text) failed told P of one = absurd (omega (arith, ap status_of of, one))
+help_not_one no.NoMemory failed told P of one = absurd (omega (arith, ap status_of of, one))

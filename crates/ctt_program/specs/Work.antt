@@ -1,0 +1,175 @@
+-- What the program has done if it succeeds, and the cause if it does not.
+use Rattle.std.specs.Prelude.{◌≡◌, ◌⊎◌, ◌<◌, ℕ, Bool, true, List, [], Option, is_some, length, map}
+use Rattle.std.specs.Borrow.{Bor}
+use Rattle.std.specs.Global.{Global}
+use Rattle.std.specs.Io.KnownBytes.{Appends}
+use Rattle.std.specs.String.{string_bytes}
+use Rattle.std.specs.declared.string.String.{String}
+use Rattle.ctt_words.specs.Jobs.{AreRefused, IsFaultOf, IsJobOf, IsRequest, faults_of}
+use Rattle.ctt_words.specs.declared.job.WordsFault.{WordsFault}
+use Rattle.ctt_words.specs.declared.job.WordsFault.TheVariants as no
+use Rattle.ctt_words.specs.declared.job.WordsFault.TheVariants.{Help, Refused}
+use Rattle.ctt_words.specs.declared.job.Job.{Job}
+use Rattle.ctt_words.specs.declared.job.Task.{Task}
+use Rattle.ctt_words.specs.declared.job.Task.TheVariants.{Audit, Crew, Desk, Journal, Listing, Mending, Run, Show}
+use Rattle.ctt_words.specs.declared.job.Showing.TheVariants.{Report}
+use Rattle.ctt_reports.specs.Checks.{ExplainsSolution}
+use Rattle.ctt_reports.specs.Showings.{IsOfShowing, ShowsSolution}
+use Rattle.ctt_files.specs.Answers.{Prints, Reports}
+use Rattle.ctt_files.specs.Faults.{status_of}
+use Rattle.ctt_files.specs.Outcomes.{outcome_status}
+use Rattle.ctt_files.specs.Storing.{KeepOthers}
+use Rattle.ctt_files.specs.Texts.{Held}
+use Rattle.ctt_files.specs.declared.fault.Fault.{Fault}
+use Rattle.ctt_files.specs.declared.fault.Fault.TheVariants.{CannotWrite, NoMemory, Words, WordsNotText}
+use Rattle.ctt_files.specs.declared.outcome.Outcome.{Outcome}
+use Rattle.ctt_files.specs.declared.outcome.Outcome.TheVariants.{Done}
+use Rattle.ctt_files.specs.declared.printed.Printed.{Printed}
+use Rattle.ctt_commands.specs.Audits.{AuditsJournal}
+use Rattle.ctt_commands.specs.Crews.{WritesCrew}
+use Rattle.ctt_program.specs.Desks.{PrintsLast, SaysLast, Warns}
+use Rattle.ctt_program.specs.Jobs.{HasBadSeats, Saying, Storing, Warning, scripts_of, stored_by}
+use Rattle.ctt_commands.specs.Lists.{ListsJournal}
+use Rattle.ctt_program.specs.Recoveries.{RecoversJournal}
+use Rattle.ctt_commands.specs.Mends.{MendsSolution}
+use Rattle.ctt_commands.specs.Refusals.{IsOfAudit, IsOfCrew, IsOfMending, IsOfRun}
+use Rattle.ctt_program.specs.Refusals.{IsOfDesk, IsOfRecovery}
+use Rattle.ctt_commands.specs.Runs.{RunsScript}
+
+-- what the task answers, unless it streams its answer
+abbrev pub IsAnswer : String Global → Option (String Global) → Task → Held → Printed → Type 0
+IsAnswer instance barred (Show solution showing) held p = ShowsSolution showing instance barred solution held p
+IsAnswer instance barred (Audit journal start) held p = AuditsJournal instance barred journal start held p
+IsAnswer instance barred (Crew scripts) held p = WritesCrew instance barred scripts.items held p
+IsAnswer instance barred (Journal minutes) held p = RecoversJournal instance barred minutes held p
+IsAnswer instance barred (Listing journal start) held p = ListsJournal instance barred journal start held p
+IsAnswer instance barred (Mending solution) held p = MendsSolution instance barred solution held p
+IsAnswer instance barred task held p = ⊥
+
+-- the task is done with this instance and these files, as far as their bytes are known; its answer
+-- is printed, with this outcome
+abbrev pub DoesTask : String Global → Option (String Global) → Task → Outcome → Held → Held → Option (List ℕ) → Option (List ℕ) → Type 0
+DoesTask instance barred (Show solution (Report json true strict)) outcome before after old new = (after ≡ before)
+    × ExplainsSolution json strict instance barred solution outcome before old new
+DoesTask instance barred (Run script start journal) outcome before after old new = (outcome ≡ Done)
+    × RunsScript instance barred script start journal before after old new
+DoesTask instance barred (Desk seats start minutes) outcome before after old new = (outcome ≡ Done)
+    × (after ≡ before) × PrintsLast instance barred seats.items start before old new
+DoesTask instance barred task outcome before after old new = (after ≡ before)
+    × Prints (IsAnswer instance barred task before) outcome old new
+
+-- the same for a job
+abbrev pub DoesJob : Job → Outcome → Held → Held → Option (List ℕ) → Option (List ℕ) → Type 0
+DoesJob job outcome before after old new = DoesTask job.instance job.barred job.task outcome before after old new
+
+-- what is written to standard error if the task is done: the warning and the last lines of a desk,
+-- an incomplete entry, or the lectures set aside, and else nothing
+abbrev pub SaysOfTask : String Global → Option (String Global) → Task → Held → Option (List ℕ) → Option (List ℕ) → Type 0
+SaysOfTask instance barred (Desk seats start minutes) held old new = SaysLast instance barred seats.items start minutes held old new
+SaysOfTask instance barred (Journal minutes) held old new = Reports (RecoversJournal instance barred minutes held) old new
+SaysOfTask instance barred (Mending solution) held old new = Reports (MendsSolution instance barred solution held) old new
+SaysOfTask instance barred task held old new = new ≡ old
+
+-- the contents of borrowed words
+abbrev pub texts : List (Bor (List ℕ)) → List (List ℕ)
+texts words = map (λ word. word.now) words
+
+-- the words ask for help or the version, or they have no fault and ask for a job that is done
+abbrev pub DoesAsAsked : List (List ℕ) → Outcome → Held → Held → Option (List ℕ) → Option (List ℕ) → Type 0
+DoesAsAsked words outcome before after old new = (IsRequest (faults_of words) × (outcome ≡ Done) × (after ≡ before))
+    ⊎ ((faults_of words ≡ []) × ((job : Job) × IsJobOf words job × DoesJob job outcome before after old new))
+
+-- the exit status of the words is that of an outcome with which they are done
+abbrev pub EndsAsDone : List (List ℕ) → ℕ → Held → Held → Option (List ℕ) → Option (List ℕ) → Type 0
+EndsAsDone words status before after old new = (outcome : Outcome) × (outcome_status outcome ≡ status) × DoesAsAsked words outcome before after old new
+
+-- a fault that the task may meet with these files, as far as their bytes are known, other than an
+-- output that cannot be written
+abbrev pub IsOfTask : String Global → Option (String Global) → Task → Held → Fault → Type 0
+IsOfTask instance barred (Show solution showing) held fault = IsOfShowing showing held instance barred solution fault
+IsOfTask instance barred (Run script start journal) held fault = IsOfRun held instance barred script start fault
+IsOfTask instance barred (Audit journal start) held fault = IsOfAudit held instance barred journal start fault
+IsOfTask instance barred (Crew scripts) held fault = IsOfCrew held instance barred scripts.items fault
+IsOfTask instance barred (Desk seats start minutes) held fault = IsOfDesk held instance barred seats.items start minutes fault
+IsOfTask instance barred (Journal minutes) held fault = IsOfRecovery held instance barred minutes fault
+IsOfTask instance barred (Listing journal start) held fault = IsOfAudit held instance barred journal start fault
+IsOfTask instance barred (Mending solution) held fault = IsOfMending held instance barred solution fault
+
+-- the same for a job
+abbrev pub IsOfJob : Job → Held → Fault → Type 0
+IsOfJob job held fault = IsOfTask job.instance job.barred job.task held fault
+
+-- the words ask for a job that meets this fault
+abbrev pub AsksFor : List (List ℕ) → Held → Fault → Type 0
+AsksFor words held fault = (job : Job) × IsJobOf words job × IsOfJob job held fault
+
+-- the words ask for a job one of whose texts is refused
+abbrev pub AsksForRefusedText : List (List ℕ) → Held → Type 0
+AsksForRefusedText words held = (fault : Fault) × (status_of fault ≡ 1) × AsksFor words held fault
+
+-- the words ask for a job that stores a file
+abbrev pub AsksToStore : List (List ℕ) → Type 0
+AsksToStore words = (job : Job) × IsJobOf words job × Storing job.task
+
+-- all files are unchanged, except the one that the words ask to store, if they do
+abbrev pub KeepAsAsked : List (List ℕ) → Held → Held → Type 0
+KeepAsAsked words before after = (after ≡ before) ⊎ ((job : Job) × IsJobOf words job × KeepOthers (stored_by job.task) before after)
+
+-- the words ask for a crew of more than 64 scripts
+abbrev pub AsksForTooMany : List (List ℕ) → Type 0
+AsksForTooMany words = (job : Job) × IsJobOf words job × (64 < length (scripts_of job.task))
+
+-- the words ask for a desk whose seats are refused
+abbrev pub AsksForBadSeats : List (List ℕ) → Type 0
+AsksForBadSeats words = (job : Job) × IsJobOf words job × HasBadSeats job.task
+
+-- the words are refused: by `clap`, or for the number of scripts or the seats that they ask for
+abbrev pub AreTurnedDown : List (List ℕ) → Type 0
+AreTurnedDown words = AreRefused words ⊎ (AsksForTooMany words ⊎ AsksForBadSeats words)
+
+-- the words ask for a job that may write to standard error when it is done
+abbrev pub AsksToSay : List (List ℕ) → Type 0
+AsksToSay words = (job : Job) × IsJobOf words job × Saying job.task
+
+-- the words ask for a job that may warn
+abbrev pub AsksToWarn : List (List ℕ) → Type 0
+AsksToWarn words = (job : Job) × IsJobOf words job × Warning job.task
+
+-- nothing is written to standard error, or what the job writes that the words ask for
+abbrev pub SaysAsAsked : List (List ℕ) → Held → Option (List ℕ) → Option (List ℕ) → Type 0
+SaysAsAsked words held old new = (new ≡ old) ⊎ ((job : Job) × IsJobOf words job × SaysOfTask job.instance job.barred job.task held old new)
+
+-- what is written to standard error if the task is not done: the warning of a desk without minutes,
+-- and else nothing
+abbrev pub WarnsOfTask : Task → Option (List ℕ) → Option (List ℕ) → Type 0
+WarnsOfTask (Desk seats start minutes) old new = Warns (is_some minutes) old new
+WarnsOfTask task old new = new ≡ old
+
+-- nothing is written so, or what the job writes that the words ask for
+abbrev pub WarnsAsAsked : List (List ℕ) → Option (List ℕ) → Option (List ℕ) → Type 0
+WarnsAsAsked words old new = (new ≡ old) ⊎ ((job : Job) × IsJobOf words job × WarnsOfTask job.task old new)
+
+-- the words ask for help or the version
+abbrev pub GivesHelp : WordsFault → Type 0
+GivesHelp (Help text) = Unit {0}
+GivesHelp _ = ⊥
+
+-- the text of the help is printed
+abbrev pub PrintsHelp : WordsFault → Option (List ℕ) → Option (List ℕ) → Type 0
+PrintsHelp (Help text) old new = Appends old new (string_bytes text)
+PrintsHelp _ old new = ⊥
+
+-- the fault if help is not given: the words are refused, memory ran out, or standard output failed
+abbrev pub IsOfHelp : WordsFault → Bool → Fault → Type 0
+IsOfHelp (Help text) failed told = (told ≡ CannotWrite) × (failed ≡ true)
+IsOfHelp (Refused text) failed told = told ≡ Words text
+IsOfHelp no.NoMemory failed told = told ≡ NoMemory
+
+-- the cause of a fault, by the words, the files, and whether standard output failed; running out of
+-- memory has none, and words that are given are UTF-8
+abbrev pub HasCause : List (List ℕ) → Held → Bool → Fault → Type 0
+HasCause words held failed CannotWrite = (failed ≡ true) ⊎ AsksToStore words
+HasCause words held failed NoMemory = Unit {0}
+HasCause words held failed (Words text) = IsFaultOf words (Refused text)
+HasCause words held failed WordsNotText = ⊥
+HasCause words held failed fault = AsksFor words held fault

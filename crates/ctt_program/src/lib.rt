@@ -1,0 +1,13 @@
+//! The program, a job for each command: from the words of the command line to the exit status.
+#![tactic(auto)]
+
+mod desk;
+mod jobs;
+mod journal;
+mod office;
+mod printed;
+mod words;
+
+pub use jobs::program;
+pub use office::{Office, SystemOffice};
+pub use words::serve;
