@@ -1,0 +1,76 @@
+//! The calls of the program.
+
+use crate::office::FULL;
+use crate::room::CAPACITY;
+
+/// A call of the program.
+pub(crate) struct Call {
+    /// The words of the command line, the first of which is the program's name.
+    pub(crate) words: &'static [&'static str],
+    /// How many bytes standard output takes.
+    pub(crate) room: usize,
+}
+
+/// Builds a list of calls, each from its words, and one with the bytes that its output takes.
+macro_rules! calls {
+    ($([$($word:expr),* $(,)?] $(in $room:expr)?),* $(,)?) => {
+        &[$(Call {
+            words: &["timedesk", $($word),*],
+            room: calls!(@room $($room)?),
+        }),*]
+    };
+    (@room) => { CAPACITY };
+    (@room $room:expr) => { $room };
+}
+
+/// A crew of one script more than a desk has planners.
+const CROWD: &[&str] = &[
+    "timedesk", "crew", "small.ctt",
+    "s", "s", "s", "s", "s", "s", "s", "s", "s", "s", "s", "s", "s",
+    "s", "s", "s", "s", "s", "s", "s", "s", "s", "s", "s", "s", "s",
+    "s", "s", "s", "s", "s", "s", "s", "s", "s", "s", "s", "s", "s",
+    "s", "s", "s", "s", "s", "s", "s", "s", "s", "s", "s", "s", "s",
+    "s", "s", "s", "s", "s", "s", "s", "s", "s", "s", "s", "s", "s",
+];
+
+/// All calls.
+pub(crate) const CALLS: &[Call] = calls![
+    ["--version"],
+    ["check"],
+    ["check", "small.ctt", "s.sol"],
+    ["check", "small.ctt", "s.sol", "--json"],
+    ["check", "small.ctt", "s.sol", "--explain"],
+    ["check", "small.ctt", "s.sol", "--strict"],
+    ["check", "small.ctt", "part.sol", "--strict"],
+    ["check", "small.ctt", "clash.sol", "--strict"],
+    ["check", "small.ctt", "s.sol"] in 5,
+    ["check", "small.ctt", "s.sol", "--explain"] in 5,
+    ["check", "none.ctt", "s.sol"],
+    ["check", "cut.ctt", "s.sol"],
+    ["check", "small.ctt", "none.sol"],
+    ["check", "small.ctt", "word.sol"],
+    ["check", "small.ctt", "s.sol", "--barred", "none.barred"],
+    ["check", "small.ctt", "s.sol", "--barred", "room.barred"],
+    ["check", "small.ctt", "s.sol", "--barred", "ok.barred"],
+    ["week", "small.ctt", "s.sol", "--curriculum", "q1"],
+    ["week", "small.ctt", "s.sol", "--curriculum", "q2"],
+    ["week", "small.ctt", "s.sol", "--teacher", "t3"],
+    ["week", "small.ctt", "s.sol", "--course", "top2"],
+    ["week", "small.ctt", "s.sol", "--room", "C"],
+    ["run", "small.ctt", "script", "--start", "part.sol", "--journal", "run.journal"],
+    ["run", "small.ctt", "script", "--start", "clash.sol"],
+    ["run", "small.ctt", "none", "--start", "part.sol"],
+    ["run", "small.ctt", "script"] in 5,
+    ["audit", "small.ctt", "agrees.journal"],
+    ["audit", "small.ctt", "differs.journal"],
+    ["audit", "small.ctt", "cut.journal"],
+    ["audit", "small.ctt", "agrees.journal", "--start", "clash.sol"],
+    ["list", "small.ctt", "agrees.journal", "--start", "part.sol"],
+    ["list", "small.ctt", "differs.journal"],
+    ["mend", "small.ctt", "clash.sol"],
+    ["mend", "small.ctt", "clash.sol"] in 5,
+    ["journal", "small.ctt", "torn.minutes"],
+    ["journal", "small.ctt", "cut.journal"],
+    ["desk", "small.ctt", "anna", "anna"],
+    ["desk", "small.ctt", "anna", "--minutes", FULL],
+];
