@@ -28,7 +28,7 @@ finds_in problem journal start held lectures entries verdict is_journal is_start
 
 -- a verdict that is not printed has a fault of the audit
 pub verdict_refused : (problem : Problem) (journal : String Global) (start : Option (String Global)) (held : Held) (verdict : Verdict) (fault : Fault) → FindsIn problem journal start held verdict → IsVerdictFault problem verdict fault → IsOfAudited journal start held problem fault
-verdict_refused problem journal start held found.Agrees fault finds is = absurd is
+verdict_refused problem journal start held found.Agrees fault finds is = inl (inl (memory_of_file held journal fault is))
 verdict_refused problem journal start held (found.Differs entry call) fault finds is = inl (inl (memory_of_file held journal fault is))
 verdict_refused problem journal start held (found.BadOpening at why) fault finds is =
     inr (finds.entries, finds.is_journal, inr (at, why, record { lectures = finds.lectures; is_start = finds.is_start; refused = finds.found }, is))

@@ -12,9 +12,8 @@ use Rattle.ctt_files.proofs.Plain.{IsPlain, file_text_plain, files_plain, start_
 use Rattle.ctt_commands.specs.Faults.{IsOpeningFault, fault_of_journal, KeptUnless}
 use Rattle.ctt_commands.specs.Refusals.{IsOfAudited, IsOfJournal, IsOfOpening, IsOfScript, IsOfScripts, IsOfCrewWork, IsOfWork}
 use Rattle.ctt_files.specs.declared.fault.Fault.TheVariants.{NoMemory}
-use Rattle.ctt_commands.proofs.Plain.{audited_plain, script_plain, scripts_plain}
 
-journal_plain : (met : JournalFault) → IsPlain (fault_of_journal met)
+pub journal_plain : (met : JournalFault) → IsPlain (fault_of_journal met)
 journal_plain (journal.NotText byte) = tt
 journal_plain (journal.Missing word) = tt
 journal_plain (journal.BadWord word) = tt
@@ -26,7 +25,7 @@ journal_file_plain name held problem fault is = file_text_plain fault_of_journal
 pub refused_plain : (problem : Problem) (at : ℕ) (found : EditFault) (fault : Fault) → IsOpeningFault problem at found fault → IsPlain fault
 refused_plain problem at found fault is = ⊎_elim (λ line. subst IsPlain (sym line.1) tt) (λ same. subst IsPlain (sym same) tt) is
 
-opening_plain : (start : Option (String Global)) (held : Held) (problem : Problem) (fault : Fault) → IsOfOpening start held problem fault → IsPlain fault
+pub opening_plain : (start : Option (String Global)) (held : Held) (problem : Problem) (fault : Fault) → IsOfOpening start held problem fault → IsPlain fault
 opening_plain start held problem fault is = ⊎_elim (λ of_start. start_plain start held problem fault of_start) (λ refused. refused_plain problem refused.0 refused.1 fault refused.3) is
 
 pub script_plain : (script : String Global) (start : Option (String Global)) (held : Held) (problem : Problem) (fault : Fault) → IsOfScript script start held problem fault → IsPlain fault
@@ -38,7 +37,7 @@ script_plain script start held problem fault (inr (inr (lectures, is_start, (ope
 pub audited_plain : (journal : String Global) (start : Option (String Global)) (held : Held) (problem : Problem) (fault : Fault) → IsOfAudited journal start held problem fault → IsPlain fault
 audited_plain journal start held problem fault is = ⊎_elim (λ none. journal_file_plain journal held problem fault none) (λ opens. opening_plain start held problem fault opens.2) is
 
-work_plain : (fault : Fault) → IsOfWork fault → IsPlain fault
+pub work_plain : (fault : Fault) → IsOfWork fault → IsPlain fault
 work_plain fault is = ⊎_elim (λ same. subst IsPlain (sym same) tt) (λ other. ⊎_elim (λ same. subst IsPlain (sym same) tt) (λ same. subst IsPlain (sym same) tt) other) is
 
 crew_work_plain : (fault : Fault) → IsOfCrewWork fault → IsPlain fault

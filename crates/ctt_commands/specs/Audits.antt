@@ -33,7 +33,7 @@ VerdictFits problem _ = Unit {0}
 
 -- why a verdict is not shown: the opening is refused, or memory runs out
 abbrev pub IsVerdictFault : Problem → Verdict → Fault → Type 0
-IsVerdictFault problem found.Agrees fault = ⊥
+IsVerdictFault problem found.Agrees fault = fault ≡ NoMemory
 IsVerdictFault problem (found.Differs entry call) fault = fault ≡ NoMemory
 IsVerdictFault problem (found.BadOpening at why) fault = IsOpeningFault problem at why fault
 

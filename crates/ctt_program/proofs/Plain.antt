@@ -8,6 +8,7 @@ use Rattle.ctt_files.specs.Texts.{Held}
 use Rattle.ctt_files.specs.declared.fault.Fault.{Fault}
 use Rattle.ctt_files.proofs.Plain.{IsPlain, file_text_plain, plain_written}
 use Rattle.ctt_commands.specs.Faults.{fault_of_journal}
+use Rattle.ctt_commands.proofs.Plain.{journal_plain, opening_plain, work_plain}
 use Rattle.ctt_program.specs.Refusals.{IsOfMinutes, IsOfSeats, IsUnread}
 
 pub minutes_plain : (minutes : String Global) (held : Held) (problem : Problem) (fault : Fault) → IsOfMinutes minutes held problem fault → IsPlain fault
