@@ -1,5 +1,5 @@
 -- What is done if the answer of a task is delivered.
-use Rattle.std.proofs.Common.{◌≡◌, ◌≢◌, ◌⊎◌, ◌∙◌, ap, sym, subst, inl, inr, ⊎_elim, true≢false, ℕ, Bool, true, false, List, [], Option, None}
+use Rattle.std.proofs.Common.{◌≡◌, ◌≢◌, ◌⊎◌, ◌∙◌, ap, sym, subst, inl, inr, ⊎_elim, true≢false, ℕ, Bool, true, false, List, [], Option, None, Result, Ok, Err, IfOk, OnOk}
 use Rattle.std.specs.Global.{Global}
 use Rattle.std.specs.Io.KnownBytes.{Appends}
 use Rattle.std.specs.String.{string_bytes}
@@ -19,6 +19,15 @@ use Rattle.ctt_files.proofs.Plain.{IsPlain, plain_written}
 use Rattle.ctt_program.specs.Jobs.{Saying, Warning, stored_by, streams}
 use Rattle.ctt_program.specs.Work.{DoesTask, IsAnswer, IsOfTask, SaysOfTask}
 use Rattle.ctt_program.proofs.Known.{IsSpecial, task_plain}
+
+-- what holds of a success with what is known of its value
+pub so_ok : {T E : Type 0} (r : Result T E) (P : T → Type 0) (Q : Type 0) (R : T → Type 0) → IfOk r P → OnOk r Q → ((x : T) → P x → Q → R x) → IfOk r R
+so_ok (Ok x) P Q R is holds gives = gives x is holds
+so_ok (Err e) P Q R is holds gives = tt
+
+pub both_on : {T E : Type 0} (r : Result T E) (P Q : Type 0) → OnOk r P → OnOk r Q → OnOk r (P × Q)
+both_on (Ok x) P Q p q = (p, q)
+both_on (Err e) P Q p q = tt
 
 -- the fault of a task is not that something could not be written
 pub task_written : (instance : String Global) (barred : Option (String Global)) (task : Task) (held : Held) (fault : Fault) (P U : Type 0) → IsOfTask instance barred task held fault → U

@@ -11,6 +11,7 @@ use Rattle.ctt_files.specs.Refusals.{IsNoText, IsOfInstanceOr, IsOfText}
 use Rattle.ctt_files.specs.Texts.{Held}
 use Rattle.ctt_files.specs.declared.fault.Fault.{Fault}
 use Rattle.ctt_files.specs.declared.fault.Fault.TheVariants.{BadSeats, CannotRead, CannotWrite, MinutesExist, NoMemory, NoPlace, NoThread}
+use Rattle.ctt_commands.specs.Refusals.{IsOfOpening, IsOfWork}
 use Rattle.ctt_commands.specs.Faults.{fault_of_journal}
 use Rattle.ctt_program.specs.Seats.{AreBadSeats}
 

@@ -1,5 +1,6 @@
-use Rattle.std.proofs.Common.{◌≡◌, ◌⊎◌, inl, inr, refl, subst, sym, true, ⊎_elim}
+use Rattle.std.proofs.Common.{◌≡◌, ◌∙◌, ◌⊎◌, ap, inl, inr, refl, subst, sym, true, ⊎_elim}
 use Rattle.std.proofs.lemmas.Result.{IfErr-weaker}
+use Rattle.ctt_words.specs.declared.job.Task.TheVariants.{Show}
 use Rattle.ctt_files.specs.Faults.{IfUnwritten}
 use Rattle.ctt_program.specs.Jobs.{Saying, Storing, Warning, stored_by}
 use Rattle.ctt_files.specs.Storing.{KeepOthers}
@@ -10,10 +11,10 @@ use Rattle.ctt_program.proofs.Ends.{done_so, on_err_weaker, on_ok_too}
 use Rattle.ctt_commands.proofs.Plain.{kept_weaker}
 use Rattle.ctt_program.proofs.jobs.stream.Goals as goal
 
-pub returns-in-Show-clause-cause : goal.returns-in-Show-clause-cause
-returns-in-Show-clause-cause g c =
+pub returns-in-Report-clause-cause : goal.returns-in-Report-clause-cause
+returns-in-Report-clause-cause g c =
     let held = g.F.Files.held c.args.files.now in
-    IfErr-weaker c.explain.result _ _ (λ fault is. unwritten_more fault _ _ _ _ inl (λ why. (subst (λ task. IsOfTask c.args.instance c.args.barred task held fault) (sym c.in-Show.is) why.0, why.1)) is) c.explain.ensures.cause
+    IfErr-weaker c.explain.result _ _ (λ fault is. unwritten_more fault _ _ _ _ inl (λ why. (subst (λ task. IsOfTask c.args.instance c.args.barred task held fault) (sym (c.in-Show.is ∙ ap (Show c.in-Show.solution) c.in-Report.is)) why.0, why.1)) is) c.explain.ensures.cause
 
 pub returns-in-Run-clause-cause : goal.returns-in-Run-clause-cause
 returns-in-Run-clause-cause g c =
@@ -42,8 +43,8 @@ returns-in-Desk-clause-quiet g c = done_so c.desk.result _ _ c.desk.ensures.done
 pub returns-in-Run-clause-unstored : goal.returns-in-Run-clause-unstored
 returns-in-Run-clause-unstored g c = IfErr-weaker c.run.result _ _ (λ fault kept. kept_weaker fault _ _ _ _ (λ stored. (stored.0, subst Storing (sym c.in-Run.is) stored.1)) (λ same. same) kept) c.run.ensures.unstored
 
-pub returns-in-Show-clause-others : goal.returns-in-Show-clause-others
-returns-in-Show-clause-others g c = all_kept (stored_by c.args.task) _ _ c.explain.ensures.kept
+pub returns-in-Report-clause-others : goal.returns-in-Report-clause-others
+returns-in-Report-clause-others g c = all_kept (stored_by c.args.task) _ _ c.explain.ensures.kept
 
 pub returns-in-Desk-clause-others : goal.returns-in-Desk-clause-others
 returns-in-Desk-clause-others g c = all_kept (stored_by c.args.task) _ _ c.desk.ensures.kept
@@ -51,8 +52,8 @@ returns-in-Desk-clause-others g c = all_kept (stored_by c.args.task) _ _ c.desk.
 pub returns-in-Run-clause-others : goal.returns-in-Run-clause-others
 returns-in-Run-clause-others g c = subst (λ task. KeepOthers (stored_by task) (g.F.Files.held c.args.files.now) (g.F.Files.held c.run.new.files)) (sym c.in-Run.is) c.run.ensures.others
 
-pub returns-in-Show-clause-says : goal.returns-in-Show-clause-says
-returns-in-Show-clause-says g c = on_ok_too c.explain.result _ (inr (subst (λ task. SaysOfTask c.args.instance c.args.barred task (g.F.Files.held c.args.files.now) (g.V.Sink.taken c.args.err.now) (g.V.Sink.taken c.args.err.now)) (sym c.in-Show.is) refl))
+pub returns-in-Report-clause-says : goal.returns-in-Report-clause-says
+returns-in-Report-clause-says g c = on_ok_too c.explain.result _ (inr (subst (λ task. SaysOfTask c.args.instance c.args.barred task (g.F.Files.held c.args.files.now) (g.V.Sink.taken c.args.err.now) (g.V.Sink.taken c.args.err.now)) (sym (c.in-Show.is ∙ ap (Show c.in-Show.solution) c.in-Report.is)) refl))
 
 pub returns-in-Run-clause-says : goal.returns-in-Run-clause-says
 returns-in-Run-clause-says g c = on_ok_too c.run.result _ (inr (subst (λ task. SaysOfTask c.args.instance c.args.barred task (g.F.Files.held c.args.files.now) (g.V.Sink.taken c.args.err.now) (g.V.Sink.taken c.args.err.now)) (sym c.in-Run.is) refl))

@@ -11,21 +11,21 @@ use Rattle.ctt_program.proofs.journal.recover_on.Goals as goal
 
 pub returns-clause-recovers : goal.returns-clause-recovers
 returns-clause-recovers g c =
-    let found = c.in_ok-recover.ensures.journal in
+    let found = c.in_ok-text.ensures.journal in
     record {
       entries = found.entries;
-      torn = c.in_ok-recover.torn;
-      is_recovered = IfSome_then _ c.in_ok-bytes.ensures.all (λ text same. subst (λ bytes. IsRecovered c.args.instance.now bytes found.entries (is_some c.in_ok-recover.torn)) (c.deref.ensures.value ∙ same) found.is_recovered);
+      torn = c.in_ok-text.torn;
+      is_recovered = IfSome_then _ c.in_ok-bytes.ensures.all (λ text same. subst (λ bytes. IsRecovered c.args.instance.now bytes found.entries (is_some c.in_ok-text.torn)) (c.deref.ensures.value ∙ same) found.is_recovered);
       is_behind = found.is_behind;
       text = found.is;
       aside = c.in_ok-torn_line.ensures.text;
     }
 
-pub returns-in_err-recover-clause-cause : goal.returns-in_err-recover-clause-cause
-returns-in_err-recover-clause-cause g c =
+pub returns-in_err-text-clause-cause : goal.returns-in_err-text-clause-cause
+returns-in_err-text-clause-cause g c =
     let problem = c.args.instance.now in
     let held : Held = g.F.Files.held c.args.files.now in
     let text = c.deref.result.now in
-    let fault = c.in_err-recover.field-0.0 in
-    passed_on c.from_residual-in_err-recover.result fault (IsOfMinutes c.args.minutes held problem) c.from_residual-in_err-recover.ensures.1
-    (minutes_in problem c.args.minutes held text fault (told_of (held (string_bytes c.args.minutes)) text c.in_ok-bytes.bytes.items c.deref.ensures.value c.in_ok-bytes.ensures.all) c.in_err-recover.ensures.cause)
+    let fault = c.in_err-text.field-0.0 in
+    passed_on c.from_residual-in_err-text.result fault (IsOfMinutes c.args.minutes held problem) c.from_residual-in_err-text.ensures.1
+    (minutes_in problem c.args.minutes held text fault (told_of (held (string_bytes c.args.minutes)) text c.in_ok-bytes.bytes.items c.deref.ensures.value c.in_ok-bytes.ensures.all) c.in_err-text.ensures.cause)
