@@ -77,7 +77,8 @@ fn stream<R: Threads + Wait + Sync, F: Files, O: Office, W: Sink, V: Sink>(
     out: &mut W,
     err: &mut V,
 ) -> Result<Outcome, Fault>
-    requires { streams task ≡ true }
+    requires scripts { HasScripts task }
+    requires streaming { streams task ≡ true }
     ensures done { IfOk result (λ outcome. DoesTask instance barred task outcome
         (F.held files.old) (F.held files.new) (W.taken out.old) (W.taken out.new)) }
     ensures unmarked { OnOk result (W.has_failed out.new ≡ W.has_failed out.old) }
