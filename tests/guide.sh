@@ -80,5 +80,16 @@ for name in "${names[@]}"; do
     equals "the options of $name" "$room/found" "$room/wanted"
 done
 
+# and those of office
+sed -n 's/^\.B office //p' "$page" | sort -u >"$room/wanted"
+"$here/office" --help | sed -n 's/^    \([a-z][a-z]*\)  .*/\1/p' | sort >"$room/found"
+equals 'the commands of office in the man page' "$room/found" "$room/wanted"
+mapfile -t names <"$room/found"
+for name in "${names[@]}"; do
+    sed -n "0,/^\.SH DESC/{/^\.B office $name\$/,/^\.\(br\|SH\)/p}" "$page" | sed 's,\\,,g' | grep -o -e '--[a-z]*' | sort >"$room/wanted"
+    "$here/office" "$name" --help | sed -n '/^option/,$s/^  \(--[a-z]*\).*/\1/p' | sort >"$room/found"
+    equals "the options of office $name" "$room/found" "$room/wanted"
+done
+
 echo "$passed passed, $failed failed"
 [ "$failed" = 0 ]
