@@ -4,8 +4,8 @@ ghost use Rattle.std.specs.Prelude.{◌≡◌, ◌≤◌, ◌⊎◌, ℕ, List, 
 ghost use Rattle.ctt_files.specs.declared.fault.Fault.TheVariants.{NoMemory, WordsNotText};
 ghost use Rattle.ctt_program.specs.Served.{IsServed, IsUnserved};
 
-use crate::office::Office;
 use crate::jobs::{fail_with, program};
+use crate::office::Office;
 use ctt_files::{Fault, Files, Sink};
 use std::alloc::AllocError;
 use std::marker::Sync;

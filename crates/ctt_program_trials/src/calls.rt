@@ -11,13 +11,20 @@ pub(crate) struct Call {
     pub(crate) room: usize,
 }
 
-/// Builds a list of calls, each from its words, and one with the bytes that its output takes.
+/// Builds a list of calls, the first from all its words, and each other from the words after the
+/// program's name. After `in` stands how many bytes the output takes.
 macro_rules! calls {
-    ($([$($word:expr),* $(,)?] $(in $room:expr)?),* $(,)?) => {
-        &[$(Call {
-            words: &["timedesk", $($word),*],
-            room: calls!(@room $($room)?),
-        }),*]
+    ($first:expr, $([$($word:expr),* $(,)?] $(in $room:expr)?),* $(,)?) => {
+        &[
+            Call {
+                words: $first,
+                room: CAPACITY,
+            },
+            $(Call {
+                words: &["timedesk", $($word),*],
+                room: calls!(@room $($room)?),
+            }),*
+        ]
     };
     (@room) => { CAPACITY };
     (@room $room:expr) => { $room };
@@ -25,16 +32,79 @@ macro_rules! calls {
 
 /// A crew of one script more than a desk has planners.
 const CROWD: &[&str] = &[
-    "timedesk", "crew", "small.ctt",
-    "s", "s", "s", "s", "s", "s", "s", "s", "s", "s", "s", "s", "s",
-    "s", "s", "s", "s", "s", "s", "s", "s", "s", "s", "s", "s", "s",
-    "s", "s", "s", "s", "s", "s", "s", "s", "s", "s", "s", "s", "s",
-    "s", "s", "s", "s", "s", "s", "s", "s", "s", "s", "s", "s", "s",
-    "s", "s", "s", "s", "s", "s", "s", "s", "s", "s", "s", "s", "s",
+    "timedesk",
+    "crew",
+    "small.ctt",
+    "s",
+    "s",
+    "s",
+    "s",
+    "s",
+    "s",
+    "s",
+    "s",
+    "s",
+    "s",
+    "s",
+    "s",
+    "s",
+    "s",
+    "s",
+    "s",
+    "s",
+    "s",
+    "s",
+    "s",
+    "s",
+    "s",
+    "s",
+    "s",
+    "s",
+    "s",
+    "s",
+    "s",
+    "s",
+    "s",
+    "s",
+    "s",
+    "s",
+    "s",
+    "s",
+    "s",
+    "s",
+    "s",
+    "s",
+    "s",
+    "s",
+    "s",
+    "s",
+    "s",
+    "s",
+    "s",
+    "s",
+    "s",
+    "s",
+    "s",
+    "s",
+    "s",
+    "s",
+    "s",
+    "s",
+    "s",
+    "s",
+    "s",
+    "s",
+    "s",
+    "s",
+    "s",
+    "s",
+    "s",
+    "s",
 ];
 
 /// All calls.
 pub(crate) const CALLS: &[Call] = calls![
+    CROWD,
     ["--version"],
     ["check"],
     ["check", "small.ctt", "s.sol"],

@@ -32,17 +32,29 @@ END.
 const FILES: &[(&str, &str)] = &[
     ("small.ctt", SMALL),
     ("cut.ctt", "Name: Small Courses: 3 Rooms: 2 Days: 2"),
-    ("s.sol", "alg A 0 0\nalg B 1 0\ngeo A 0 1\ngeo A 1 2\ntop B 0 2\n"),
+    (
+        "s.sol",
+        "alg A 0 0\nalg B 1 0\ngeo A 0 1\ngeo A 1 2\ntop B 0 2\n",
+    ),
     ("part.sol", "alg A 0 0\nalg B 1 0\n"),
     ("clash.sol", "alg A 0 0\ntop B 0 0\n"),
     ("word.sol", "alg A 0 0\nalg B one 0\n"),
     ("ok.barred", "Barred: 1\ntop A\nEND.\n"),
     ("room.barred", "Barred: 1\ntop C\nEND.\n"),
     ("script", "1 open\n1 place top B 0 2\n1 commit\n"),
-    ("agrees.journal", "journal 1\nentry 0 1\nplace top B 0 2\nplaced\nEND.\n"),
-    ("differs.journal", "journal 1\nentry 0 1\nplace top B 0 2\nrefused roomtaken geo\nEND.\n"),
+    (
+        "agrees.journal",
+        "journal 1\nentry 0 1\nplace top B 0 2\ndone\nEND.\n",
+    ),
+    (
+        "differs.journal",
+        "journal 1\nentry 0 1\nplace top B 0 2\nrefused roomtaken geo\nEND.\n",
+    ),
     ("cut.journal", "journal 1\nentry 0 1\n"),
-    ("torn.minutes", ""),
+    (
+        "torn.minutes",
+        "entry 1 1\nplace top B 0 2\ndone\nentry 1 1\nplace",
+    ),
 ];
 
 /// The files, one of which can be stored.

@@ -72,6 +72,15 @@ fn call_twice<R: AllocGlobal + Threads + Wait + Sync>(
     (status, false)
 }
 
+/// Writes a text, and a line feed if it does not end with one.
+fn put_lines<W: Sink>(out: &mut W, text: &[u8]) -> Result<(), Failed> {
+    put_all(out, text)?;
+    match text.last() {
+        Some(b'\n') | None => Ok(()),
+        Some(_) => put_all(out, b"\n"),
+    }
+}
+
 /// Writes the words of a call, its status and what it left.
 fn report<W: Sink>(out: &mut W, call: &Call, status: u8, rooms: &Rooms) -> Result<(), Failed> {
     for word in call.words {
@@ -80,9 +89,9 @@ fn report<W: Sink>(out: &mut W, call: &Call, status: u8, rooms: &Rooms) -> Resul
     }
     put_all(out, b"= ")?;
     put_all(out, &[b'0' + status.min(9), b'\n'])?;
-    put_all(out, rooms.out.text())?;
-    put_all(out, rooms.err.text())?;
-    put_all(out, rooms.stored.text())
+    put_lines(out, rooms.out.text())?;
+    put_lines(out, rooms.err.text())?;
+    put_lines(out, rooms.stored.text())
 }
 
 /// Makes all calls, and writes what each left and how many were repeated.
