@@ -24,10 +24,11 @@
 #
 # Desks with seats are played so by `tests/seats.py`.
 #
-# It needs a C compiler. TRIALS and PROGRAM name other builds. The last line is 'N passed, M failed', of runs that met a refusal.
+# It needs a C compiler. TRIALS, PROGRAM_TRIALS and PROGRAM name other builds. The last line is 'N passed, M failed', of runs that met a refusal.
 set -u
 here=$(CDPATH='' cd -- "$(dirname -- "${BASH_SOURCE[0]}")/.." && pwd) || exit 1
 trials=${TRIALS:-$here/crates/ctt_trials/out/ctt_trials}
+program_trials=${PROGRAM_TRIALS:-$here/crates/ctt_program_trials/out/ctt_program_trials}
 program=${PROGRAM:-$here/crates/ctt_tool/out/ctt_tool}
 room=$(mktemp -d) || exit 1
 trap 'rm -rf -- "$room"' EXIT
@@ -44,8 +45,6 @@ slice_size=16
 letter_size=4
 lecture_size=6
 call_size=64
-# the solutions that the trials read to their end
-solutions=0
 head -n 4 s.sol >s0.sol
 printf '%s\n' 'journal 1' 'entry 0 2' 'place top A 0 1' 'refused roomtaken geo' 'slot 0 0' 'lectures 1 alg A 0 0' END. >told
 echo 'Barred: 2 alg A top A END.' >barred
@@ -120,26 +119,37 @@ dispensable() {
 # How many runs were noted as this.
 noted() { cat lane.* | grep -c "$@"; }
 
-wanted=$("$trials")
-wanted=${wanted%again *}
-if [ -z "$wanted" ]; then
-    echo 'the trials print nothing'
-    exit 1
-fi
-for ((first = 1; first <= lanes; first++)); do
-    lane "$first" >"lane.$first" &
-done
-wait
-cat lane.* | grep FAILED | head -n 20
-passed=$(noted -v FAILED)
-failed=$(noted FAILED)
-if [ "$(noted collected)" != "$solutions" ]; then
-    failed=$((failed + 1))
-    echo "FAILED: the trials read $solutions solutions, and $(noted collected) lists of lectures were made in another way"
-fi
-echo "the trials met $((passed + failed)) refusals: \
-$(noted again) calls were made again, $(noted cut) lists of calls were not cut, $(noted collected) were made in another way"
+passed=0
+failed=0
 
+# Tries these trials, which read so many solutions to their end.
+try_trials() {
+    local name=$1 solutions=$3 now
+    trials=$2
+    wanted=$("$trials")
+    wanted=${wanted%again *}
+    if [ -z "$wanted" ]; then
+        echo "$name print nothing"
+        exit 1
+    fi
+    for ((first = 1; first <= lanes; first++)); do
+        lane "$first" >"lane.$first" &
+    done
+    wait
+    cat lane.* | grep FAILED | head -n 20
+    now=$(noted '')
+    failed=$((failed + $(noted FAILED)))
+    passed=$((passed + $(noted -v FAILED)))
+    if [ "$(noted collected)" != "$solutions" ]; then
+        failed=$((failed + 1))
+        echo "FAILED: $name read $solutions solutions, and $(noted collected) lists of lectures were made in another way"
+    fi
+    echo "$name met $now refusals: \
+$(noted again) calls were made again, $(noted cut) lists of calls were not cut, $(noted collected) were made in another way"
+}
+
+try_trials 'the trials' "$trials" 23
+try_trials 'the trials of the program' "$program_trials" 18
 of_trials=$((passed + failed))
 done_without=0
 made_again=0
