@@ -17,7 +17,8 @@ nav a { margin-right: 0.6rem; }
 input { font: inherit; max-width: 12rem; }
 h2, h3, h4 { scroll-margin-top: 4rem; }
 @media (max-width: 40rem) { h2, h3, h4 { scroll-margin-top: 7rem; } }
-summary h2, summary h4 { display: inline-block; margin: 0.4rem 0; }
+summary { margin: 0.8rem 0 0.4rem; }
+summary h2, summary h4 { display: inline; }
 summary + ul { margin-top: 0.2rem; }
 article { display: grid; gap: 0 2rem; grid-template-columns: repeat(auto-fill, minmax(min(100%, 38rem), 1fr)); }
 section { break-inside: avoid; min-width: 0; }
@@ -35,17 +36,18 @@ b, i { color: var(--broken); font-style: normal; }
 i { color: var(--costs); font-weight: bold; }
 p b, p i { display: block; font-size: 0.9em; font-weight: bold; }
 ul { columns: 26rem; column-gap: 2rem; padding-left: 1.2rem; }
-ul#entries { columns: 11rem; }
+ul#entries { columns: 9rem; column-gap: 1rem; }
 li { break-inside: avoid; }
 ul:not(:has(li))::after, ol:not(:has(li))::after { content: 'none'; }
 h3:target, td:target { outline: 3px solid LinkText; }
 td:target { outline-offset: -3px; scroll-margin: 40vh 7rem; }
 @media print {
-  body { max-width: none; padding: 0; }
+  body { max-width: none; padding: 0 2px; }
   nav, details:has(#index) { display: none; }
   article { display: block; }
   ul { columns: 16rem; }
-  section div { overflow: visible; }
+  section div { font-size: 0.8em; overflow: visible; }
+  section td { min-width: 0; }
 }
 ";
 

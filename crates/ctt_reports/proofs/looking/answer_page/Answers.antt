@@ -9,7 +9,7 @@ returns-clause-shows g c =
     let days = names_of c.args.days in
     let page = string_bytes c.in_ok-text.field-0 in
     let bytes : c.new.result.text.items ≡ page = ap (λ text. text.items) (c.new.ensures.text ∙ c.into_bytes.ensures.value) in
-    let name : c.as_str-name.result.now ≡ string_bytes c.args.solution = c.as_str-name.ensures.value ∙ c.in_ok-copy.ensures ∙ c.as_str-given.ensures.value in
+    let name : c.as_str-name.result.now ≡ string_bytes c.args.solution = c.as_str-name.ensures.value ∙ c.in_ok-copy.ensures.ok ∙ c.as_str-given.ensures.value in
     record {
       problem = subject.instance;
       is_instance = c.in_ok-subject.ensures.instance;
