@@ -47,7 +47,8 @@ _timedesk_options() {
     run) options='--barred --journal --start' ;;
     audit | list) options='--barred --start' ;;
     desk) options='--barred --minutes --start' ;;
-    page | crew | journal | mend) options='--barred' ;;
+    page) options='--barred --days' ;;
+    crew | journal | mend) options='--barred' ;;
     '') options='--version' ;;
     esac
     for option in $options --help; do
@@ -85,6 +86,7 @@ _timedesk() {
     case $command:${option:-$place} in
     *:--course | *:--curriculum | *:--room | *:--teacher) _timedesk_names "$typed" "$option" "$instance" ;;
     :1 | help:1) _timedesk_words "$typed" check week page run crew desk journal audit list mend help ;;
+    *:--days) _timedesk_words "$typed" mon,tue,wed,thu,fri ;;
     help:*) ;;
     *:1) _timedesk_files "$typed" .ctt ;;
     *:--start | check:2 | week:2 | page:2 | mend:2) _timedesk_files "$typed" .sol ;;

@@ -67,7 +67,8 @@ offers $'--barred\n--help\n--strict' timedesk check small.ctt --json monday.sol 
 offers $'--explain' timedesk check --e
 offers $'--barred\n--course\n--curriculum\n--help\n--room\n--teacher' timedesk week small.ctt monday.sol --
 offers $'--barred\n--help' timedesk week small.ctt monday.sol --room A --
-offers $'--barred\n--help' timedesk page small.ctt monday.sol --
+offers $'--barred\n--days\n--help' timedesk page small.ctt monday.sol --
+offers 'mon,tue,wed,thu,fri' timedesk page small.ctt monday.sol --days ''
 offers $'--barred\n--help\n--journal\n--start' timedesk run small.ctt day.txt --
 offers $'--help\n--journal' timedesk run --start monday.sol --barred barred small.ctt day.txt -
 offers $'--barred\n--help' timedesk crew --

@@ -175,6 +175,7 @@ Arguments:
 
 Options:
       --barred <FILE>  The file of the rooms that are barred for courses; without it none are
+      --days <NAMES>   The names of the days, with commas between them; a day without a name has its number
   -h, --help           Print help
 
 Example: timedesk page comp07.ctt comp07.sol >comp07.html

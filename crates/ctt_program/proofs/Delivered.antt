@@ -62,7 +62,7 @@ pub does_printed : (instance : String Global) (barred : Option (String Global)) 
 does_printed instance barred (Show solution (Report json true strict)) outcome before after old new p whole is kept ends prints = absurd (true≢false whole)
 does_printed instance barred (Show solution (Report json false strict)) outcome before after old new p whole is kept ends prints = (kept, (p, is, ends, prints))
 does_printed instance barred (Show solution (Week whose)) outcome before after old new p whole is kept ends prints = (kept, (p, is, ends, prints))
-does_printed instance barred (Show solution Page) outcome before after old new p whole is kept ends prints = (kept, (p, is, ends, prints))
+does_printed instance barred (Show solution (Page days)) outcome before after old new p whole is kept ends prints = (kept, (p, is, ends, prints))
 does_printed instance barred (Run script start journal) outcome before after old new p whole is kept ends prints = absurd is
 does_printed instance barred (Audit journal start) outcome before after old new p whole is kept ends prints = (kept, (p, is, ends, prints))
 does_printed instance barred (Crew scripts) outcome before after old new p whole is kept ends prints = (kept, (p, is, ends, prints))

@@ -127,7 +127,7 @@ task_kept : (instance : String Global) (barred : Option (String Global)) (task :
 task_kept instance barred (Show solution (Report json true strict)) outcome before after old new does other = does.0
 task_kept instance barred (Show solution (Report json false strict)) outcome before after old new does other = does.0
 task_kept instance barred (Show solution (Week whose)) outcome before after old new does other = does.0
-task_kept instance barred (Show solution Page) outcome before after old new does other = does.0
+task_kept instance barred (Show solution (Page days)) outcome before after old new does other = does.0
 task_kept instance barred (Run script start journal) outcome before after old new does other = absurd (other does.0)
 task_kept instance barred (Audit journal start) outcome before after old new does other = does.0
 task_kept instance barred (Crew scripts) outcome before after old new does other = does.0

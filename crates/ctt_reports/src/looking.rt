@@ -1,16 +1,18 @@
 //! The commands `week` and `page`.
 
-ghost use Rattle.std.specs.Prelude.{◌≡◌, None, IfOk, IfErr};
+ghost use Rattle.std.specs.Prelude.{◌≡◌, None, IfOk, IfErr, string_bytes};
+ghost use Rattle.ctt_text.specs.Timetable.{IsTimetable};
 ghost use Rattle.ctt_files.specs.Answers.{IsTextAlone};
 ghost use Rattle.ctt_files.specs.declared.outcome.Outcome.TheVariants.{Done};
 ghost use Rattle.ctt_views.specs.Page.{IsPage};
 ghost use Rattle.ctt_views.specs.Week.{week};
 ghost use Rattle.ctt_reports.specs.Refusals.{IsOfPage, IsOfWeek};
+ghost use Rattle.ctt_reports.specs.Showings.{names_of};
 ghost use Rattle.ctt_reports.specs.Subjects.{Shows};
 
-use crate::subject::fetch_subject;
+use crate::subject::{Subject, fetch_subject};
 use ctt_files::{Fault, Files, Outcome, Printed};
-use ctt_text::let_go;
+use ctt_text::{NoMemory, let_go};
 use ctt_views::{page_text, week_text};
 use ctt_words::Whose;
 use std::alloc::Global;
@@ -43,6 +45,33 @@ pub(crate) fn answer_week<F: Files>(
     Ok(Printed::new(alloc, text?.into_bytes(), Outcome::Done))
 }
 
+/// Returns the names of days as one text, which is empty if there are none.
+fn names_of(days: &Option<String>) -> &str
+    ensures { result.now ≡ names_of days.now }
+{
+    match days {
+        Some(names) => names.as_str(),
+        None => "",
+    }
+}
+
+/// Returns the page on what was read from a file of this name.
+fn page_of(
+    alloc: Global,
+    subject: &Subject,
+    solution: &str,
+    days: &Option<String>,
+) -> Result<String, NoMemory>
+    requires { IsTimetable subject.now.instance subject.now.timetable.items }
+    ensures { IfOk result (λ page.
+        IsPage solution.now (names_of days.now) subject.now.instance subject.now.timetable.items
+        (string_bytes page)) }
+{
+    let names = names_of(days);
+    let timetable = subject.timetable.as_slice();
+    page_text(alloc, &subject.instance, timetable, solution, names)
+}
+
 /// Returns the page on a solution of an instance, for a browser. Files are given by name.
 pub(crate) fn answer_page<F: Files>(
     alloc: Global,
@@ -50,16 +79,21 @@ pub(crate) fn answer_page<F: Files>(
     instance: String,
     barred: Option<String>,
     solution: String,
+    days: Option<String>,
 ) -> Result<Printed, Fault>
     ensures shows { IfOk result (λ p.
-        Shows (λ i selection t. IsPage i t p.text.items × (p.outcome ≡ Done))
+        Shows (λ i selection t.
+        IsPage (string_bytes solution) (names_of days) i t p.text.items × (p.outcome ≡ Done))
         instance barred None solution (F.held files.old)) }
     ensures alone { IfOk result IsTextAlone }
     ensures kept { F.held files.new ≡ F.held files.old }
     ensures cause { IfErr result (IsOfPage (F.held files.old) instance barred solution) }
 {
+    let given = solution.as_str();
+    let copy = String::from_str(alloc, given)?;
     let subject = fetch_subject(alloc, files, instance, barred, None, solution)?;
-    let text = page_text(alloc, &subject.instance, &subject.timetable);
+    let name = copy.as_str();
+    let text = page_of(alloc, &subject, name, &days);
     let_go(subject);
     Ok(Printed::new(alloc, text?.into_bytes(), Outcome::Done))
 }

@@ -31,6 +31,6 @@ pub fn show<F: Files>(
             answer_report(alloc, files, instance, barred, solution, json, strict)
         }
         Showing::Week(whose) => answer_week(alloc, files, instance, barred, solution, whose),
-        Showing::Page => answer_page(alloc, files, instance, barred, solution),
+        Showing::Page(days) => answer_page(alloc, files, instance, barred, solution, days),
     }
 }

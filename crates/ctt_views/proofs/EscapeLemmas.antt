@@ -4,11 +4,10 @@ use Rattle.std.specs.List.{list_any}
 use Rattle.std.proofs.StrCases.{chars_of_empty}
 use Rattle.std.proofs.lemmas.Bool.{cases_Bool, eqb-true, eq-eqb}
 use Rattle.std.proofs.lemmas.List.{append-nil, get_or_default}
-use Rattle.std.proofs.lemmas.List.Concat.{flat_map-append}
 use Rattle.std.proofs.lemmas.List.Folds.{list_any-append, list_any_none}
-use Rattle.std.proofs.lemmas.Str.{chars-append, chars_past_char, inside_one}
-use Rattle.ctt_views.specs.Escape.{escaped, escaped_char, line_char, words_apart}
-use Rattle.ctt_views.specs.Laws.{NamesHoldNoTag, WordsAreEscaped}
+use Rattle.std.proofs.lemmas.Str.{chars_past_char, inside_one}
+use Rattle.ctt_views.specs.Escape.{escaped, escaped_char}
+use Rattle.ctt_views.specs.Laws.{NamesHoldNoTag}
 
 -- a text that is written character by character
 pub text_step : (f : ℕ → List ℕ) (text rest : List ℕ) (c : ℕ) → IsUtf8 text → text ≡ encode_utf8 c ++ rest → flat_map f (chars text) ≡ f c ++ flat_map f (chars rest)
@@ -60,30 +59,6 @@ all_have_none (c ∷ cs) = list_any-append is_tag (escaped_char c) (flat_map esc
 pub names_have_none : NamesHoldNoTag
 unfolding escaped
 names_have_none name = all_have_none (chars name)
-
--- a character that is not a blank, and a word without blanks
-plain_char : (c : ℕ) → (c == 32) ≡ false → line_char c ≡ escaped_char c
-unfolding line_char
-plain_char c other = rw other refl
-
--- if neither of two tests holds, each of them fails
-none_first : (a b : Bool) → (a || b) ≡ false → a ≡ false
-none_first true b h = h
-none_first false b h = refl
-
-none_behind : (a b : Bool) → (a || b) ≡ false → b ≡ false
-none_behind true b h = let z : true ≡ false = h in cc
-none_behind false b h = h
-
-plain_chars : (cs : List ℕ) → list_any (λ c. c == 32) cs ≡ false → flat_map line_char cs ≡ flat_map escaped_char cs
-plain_chars [] none = refl
-plain_chars (c ∷ cs) none =
-    ap₂ (λ a b. a ++ b) (plain_char c (none_first (c == 32) (list_any (λ d. d == 32) cs) none)) (plain_chars cs (none_behind (c == 32) (list_any (λ d. d == 32) cs) none))
-
-pub words_are_escaped : WordsAreEscaped
-unfolding escaped words_apart
-words_are_escaped word rest utf8 none =
-    ap (λ cs. flat_map line_char cs) (chars-append word rest utf8) ∙ flat_map-append line_char (chars word) (chars rest) ∙ ap (λ xs. xs ++ flat_map line_char (chars rest)) (plain_chars (chars word) none)
 
 -- what replaces each character
 pub and_is : escaped_char 38 ≡ codes "&amp;"

@@ -1,16 +1,21 @@
--- The text that a listener has written, by the findings that it has heard.
-use Rattle.std.proofs.Common.{◌≡◌, ℕ, List, [], ◌∷◌, ◌++◌, ◌∙◌, sym, ap, ap₂, append_assoc, append-nil}
-use Rattle.std.specs.List.{flat_map}
+-- The findings that a listener has collected.
+use Rattle.std.proofs.Common.{◌≡◌, List, [], ◌∷◌, ◌++◌, ◌∙◌, sym, ap, append_assoc, append-nil}
+use Rattle.std.specs.List.{AllByRecursion as Each}
 use Rattle.ctt_findings.specs.Hearing.{Hears}
 use Rattle.ctt_findings.specs.declared.finding.Finding.{Finding}
 
-module _ {L K : Type 0} (R : L → Finding → L → Type 0) (kind : L → K) (text : L → List ℕ) (item : K → Finding → List ℕ) (each : (a : L) (f : Finding) (b : L) → R a f b → (kind b ≡ kind a) × (text b ≡ text a ++ item (kind a) f)) where
-  heard : (a : L) (fs : List Finding) (b : L) → Hears R a fs b → text b ≡ text a ++ flat_map (item (kind a)) fs
-  heard a [] b h = ap text h ∙ sym (append-nil (text a))
-  heard a (f ∷ fs) b h =
-      let one = each a f h.0 h.1 in
-      heard h.0 fs b h.2 ∙ ap₂ (λ t k. t ++ flat_map (item k) fs) one.1 one.0 ∙ append_assoc (text a) (item (kind a) f) (flat_map (item (kind a)) fs)
+module _ {L : Type 0} (R : L → Finding → L → Type 0) (list : L → List Finding) (P : Finding → Type 0) (each : (a : L) (f : Finding) (b : L) → R a f b → (list b ≡ list a ++ f ∷ []) × P f) where
+  heard : (a : L) (fs : List Finding) (b : L) → Hears R a fs b → list b ≡ list a ++ fs
+  heard a [] b h = ap list h ∙ sym (append-nil (list a))
+  heard a (f ∷ fs) b h = heard h.0 fs b h.2 ∙ ap (λ xs. xs ++ fs) (each a f h.0 h.1).0 ∙ append_assoc (list a) (f ∷ []) fs
 
-pub heard_texts : {L K : Type 0} {R : L → Finding → L → Type 0} (a b : L) (fs : List Finding) → Hears R a fs b → (kind : L → K) (text : L → List ℕ) (item : K → Finding → List ℕ)
-    → ((a : L) (f : Finding) (b : L) → R a f b → (kind b ≡ kind a) × (text b ≡ text a ++ item (kind a) f)) → text b ≡ text a ++ flat_map (item (kind a)) fs
-heard_texts {R = R} a b fs h kind text item each = heard R kind text item each a fs b h
+  fit : (a : L) (fs : List Finding) (b : L) → Hears R a fs b → Each P fs
+  fit a [] b h = tt
+  fit a (f ∷ fs) b h = ((each a f h.0 h.1).1, fit h.0 fs b h.2)
+
+module _ {L : Type 0} {R : L → Finding → L → Type 0} (a b : L) (fs : List Finding) (h : Hears R a fs b) (list : L → List Finding) (P : Finding → Type 0) (each : (a : L) (f : Finding) (b : L) → R a f b → (list b ≡ list a ++ f ∷ []) × P f) where
+  pub heard_list : list b ≡ list a ++ fs
+  heard_list = heard R list P each a fs b h
+
+  pub heard_fit : Each P fs
+  heard_fit = fit R list P each a fs b h

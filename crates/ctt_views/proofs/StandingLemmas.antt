@@ -13,7 +13,7 @@ use Rattle.ctt_views.specs.Grids.{is_of}
 use Rattle.ctt_views.specs.Laws.{LecturesStandOnce, times}
 use Rattle.ctt_views.specs.Weeks.{by_slot}
 use Rattle.ctt_views.specs.declared.grid.Grid.{Grid}
-use Rattle.ctt_views.specs.declared.grid.Grid.TheVariants.{Curriculum, Room, Teacher}
+use Rattle.ctt_views.specs.declared.grid.Grid.TheVariants.{Course, Curriculum, Room, Teacher}
 use Rattle.ctt_views.proofs.BySlotLemmas.{row_at}
 
 -- one filter after another
@@ -77,6 +77,7 @@ same_place i g s l m h =
     by (Curriculum q) c r = ap (λ k. has k (members i q)) c
     by (Teacher n) c r = ap (λ k. (course_of i k).teacher == n) c
     by (Room k) c r = ap (λ n. n == k) r
+    by (Course k) c r = ap (λ n. n == k) c
 
 -- a lecture occurs once in a timetable
 none_behind : (l x : Placed) (xs : List Placed) → is_same l x ≡ true → Each (λ y. before x y ≡ true) xs → times l xs ≡ 0

@@ -1,6 +1,7 @@
 -- Texts that grow piece by piece.
 use Rattle.std.proofs.Common.{◌≡◌, ℕ, ◌+◌, ◌<◌, Bool, true, false, cond, ◌||◌, List, [], ◌∷◌, ◌++◌, take, length, get_or, flat_map, Result, Ok, Err, OnOk, is_ok, if◌then◌else◌, refl, ◌∙◌, sym, ap, ap₂, subst, add-one, append_assoc, append-nil}
 use Rattle.std.specs.List.{filter, list_any}
+use Rattle.std.proofs.lemmas.List.{take_more}
 use Rattle.std.proofs.lemmas.List.Concat.{flat_map-append}
 use Rattle.std.proofs.lemmas.List.Elements.{filter_more}
 use Rattle.std.proofs.lemmas.List.Folds.{list_any_at, list_any_more}
@@ -28,6 +29,14 @@ module _ {X : Type 0} (p : X → Bool) (f : X → List ℕ) (xs : List X) (k : �
   pub passes_on : (old now new : List ℕ) → now ≡ old ++ flat_map f (filter p (take k xs)) → new ≡ now ++ cond (p x) (f x) [] → new ≡ old ++ flat_map f (filter p (take (k + 1) xs))
   passes_on old now new so_far more =
       more ∙ ap (λ ys. ys ++ cond (p x) (f x) []) so_far ∙ append_assoc old (flat_map f (filter p (take k xs))) (cond (p x) (f x) []) ∙ ap (λ ys. old ++ ys) (sym next)
+
+-- the text with one more element
+pub item_on : {X : Type 0} (f : X → List ℕ) (xs : List X) (k : ℕ) (x : X) → k < length xs → x ≡ get_or xs k x → (old now new : List ℕ)
+    → now ≡ old ++ flat_map f (take k xs) → new ≡ now ++ f x → new ≡ old ++ flat_map f (take (k + 1) xs)
+item_on f xs k x lt at old now new so_far more =
+    let next : flat_map f (take (k + 1) xs) ≡ flat_map f (take k xs) ++ f x =
+    ap (flat_map f) (take_more xs k x lt ∙ ap (λ y. take k xs ++ y ∷ []) (sym at)) ∙ flat_map-append f (take k xs) (x ∷ []) ∙ ap (λ ys. flat_map f (take k xs) ++ ys) (append-nil (f x)) in
+    more ∙ ap (λ ys. ys ++ f x) so_far ∙ append_assoc old (flat_map f (take k xs)) (f x) ∙ ap (λ ys. old ++ ys) (sym next)
 
 -- a text in which a piece is replaced by an equal one
 pub piece_is : {T E : Type 0} (r : Result T E) (old new more other : List ℕ) → more ≡ other → OnOk r (new ≡ old ++ more) → OnOk r (new ≡ old ++ other)

@@ -1,9 +1,9 @@
 -- The cells of grids, and the lectures in them.
-use Rattle.std.specs.Prelude.{ℕ, ◌++◌, List, [], Some, codes, cond, filter, flat_map, slice_index_or}
+use Rattle.std.specs.Prelude.{ℕ, ◌++◌, Bool, List, [], Some, codes, cond, filter, flat_map, if◌then◌else◌, slice_index_or}
 use Rattle.ctt_text.specs.Problem.{Problem}
 use Rattle.ctt_text.specs.declared.placed.Placed.{Placed}
 use Rattle.ctt_views.specs.Escape.{escaped}
-use Rattle.ctt_views.specs.Grids.{is_of, place_id}
+use Rattle.ctt_views.specs.Grids.{is_closed, is_of, place_id}
 use Rattle.ctt_views.specs.Signs.{signs}
 use Rattle.ctt_views.specs.Weeks.{lectures_in}
 use Rattle.ctt_views.specs.declared.grid.Grid.{Grid}
@@ -28,10 +28,16 @@ shown_text i w g l = cond (is_of i g l) (lecture_text i w g l) []
 abbrev pub cell_lectures : Problem → List (List Placed) → Grid → ℕ → List Placed
 cell_lectures i w g s = filter (is_of i g) (lectures_in w s)
 
+-- the mark of a slot in which the course of a grid is unavailable
+unfoldable pub mark : Bool → List ℕ
+mark closed = if closed then codes "<em>closed</em>" else []
+
+-- the beginning of the cell of a slot
+unfoldable pub cell_start : Problem → Grid → ℕ → List ℕ
+cell_start i g s = codes "<td id='" ++ (place_id g (Some s) ++ (codes "'>" ++ mark (is_closed i g s)))
+
 -- the cell of a slot
 unfoldable pub cell : Problem → List (List Placed) → Grid → ℕ → List ℕ
-cell i w g s = codes "<td id='"
-    ++ (place_id g (Some s)
-    ++ (codes "'>"
+cell i w g s = cell_start i g s
     ++ (flat_map (lecture_text i w g) (cell_lectures i w g s)
-    ++ codes "</td>")))
+    ++ codes "</td>")

@@ -13,12 +13,3 @@ escaped_char c = if c == 38 then codes "&amp;"
 -- a text, escaped character by character
 unfoldable pub escaped : List ℕ → List ℕ
 escaped text = flat_map escaped_char (chars text)
-
--- a character of a line; a blank closes the element of a word, and opens that of the next
-unfoldable pub line_char : ℕ → List ℕ
-line_char c = if c == 32 then codes "</bdi> <bdi>" else escaped_char c
-
--- the content of an element that holds a line; each word has an element of its own, so that none
--- affects the direction of another
-unfoldable pub words_apart : List ℕ → List ℕ
-words_apart line = flat_map line_char (chars line)

@@ -1,11 +1,11 @@
 -- What holds of the page.
-use Rattle.std.specs.Prelude.{◌≡◌, ◌≤◌, ◌<◌, ◌==◌, ◌&&◌, ◌++◌, ℕ, false, List, IsUtf8, chars, cond, count_by, filter}
+use Rattle.std.specs.Prelude.{◌≡◌, ◌≤◌, ◌<◌, ◌==◌, ◌&&◌, ℕ, false, List, cond, count_by, filter}
 use Rattle.std.specs.List.{list_any}
 use Rattle.ctt_text.specs.Problem.{Problem, slot_count}
 use Rattle.ctt_text.specs.Timetable.{IsTimetable}
 use Rattle.ctt_text.specs.declared.placed.Placed.{Placed}
 use Rattle.ctt_views.specs.Cells.{cell_lectures}
-use Rattle.ctt_views.specs.Escape.{escaped, words_apart}
+use Rattle.ctt_views.specs.Escape.{escaped}
 use Rattle.ctt_views.specs.Grids.{is_of}
 use Rattle.ctt_views.specs.Weeks.{by_slot}
 use Rattle.ctt_views.specs.declared.grid.Grid.{Grid}
@@ -13,10 +13,6 @@ use Rattle.ctt_views.specs.declared.grid.Grid.{Grid}
 -- an escaped name has no `<`
 abbrev pub NamesHoldNoTag : Type 0
 NamesHoldNoTag = (name : List ℕ) → list_any (λ b. b == 60) (escaped name) ≡ false
-
--- within a line, a word without blanks is escaped like a name, whatever follows
-abbrev pub WordsAreEscaped : Type 0
-WordsAreEscaped = (word rest : List ℕ) → IsUtf8 word → list_any (λ c. c == 32) (chars word) ≡ false → words_apart (word ++ rest) ≡ escaped word ++ words_apart rest
 
 -- how often a lecture occurs in a list
 abbrev pub times : Placed → List Placed → ℕ

@@ -1,11 +1,17 @@
 pub mod Week
 pub mod Escape
+pub mod Phrases
 pub mod Weeks
 pub mod Grids
 pub mod Signs
 pub mod Cells
+pub mod Headings
 pub mod GridTexts
+pub mod Parts
+pub mod Script
 pub mod Report
+pub mod Sentences
+pub mod Ranking
 pub mod Sections
 pub mod Style
 pub mod Page

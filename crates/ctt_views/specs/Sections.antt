@@ -1,47 +1,38 @@
--- The findings, kind by kind, each with a link to its grid or cell.
-use Rattle.std.specs.Prelude.{ℕ, ◌++◌, List, [], Option, Some, None, codes, flat_map, if◌then◌else◌}
+-- The findings: the first to mend, and all of them kind by kind, each with a link to its grid or
+-- cell.
+use Rattle.std.specs.Prelude.{ℕ, ◌++◌, Bool, List, Option, Some, None, codes, filter, flat_map, take}
 use Rattle.std.specs.Str.{bytes_eq}
-use Rattle.ctt_text.specs.Problem.{Problem, course_of}
-use Rattle.ctt_text.specs.declared.placed.Placed.{Placed}
-use Rattle.ctt_findings.specs.Findings.{findings}
-use Rattle.ctt_findings.specs.Lines.{line}
+use Rattle.ctt_text.specs.Problem.{Problem}
+use Rattle.ctt_rules.specs.Penalty.{total}
+use Rattle.ctt_rules.specs.declared.cost.Cost.{Cost}
+use Rattle.ctt_rules.specs.declared.hard.Hard.{Hard}
 use Rattle.ctt_findings.specs.declared.finding.Cause.{Cause}
 use Rattle.ctt_findings.specs.declared.finding.Cause.TheVariants.{Teacher as HasTeacher, Curriculum as HasCurriculum}
 use Rattle.ctt_findings.specs.declared.finding.Finding.{Finding}
 use Rattle.ctt_findings.specs.declared.finding.Finding.TheVariants.{Lectures, Conflict, Availability, Occupancy, Barred, Capacity, Days, Compactness, Stability}
-use Rattle.ctt_views.specs.Escape.{words_apart}
 use Rattle.ctt_views.specs.Grids.{place_id}
+use Rattle.ctt_views.specs.Phrases.{amount, price}
+use Rattle.ctt_views.specs.Ranking.{kind_word, points}
+use Rattle.ctt_views.specs.Sentences.{sentence}
 use Rattle.ctt_views.specs.declared.grid.Grid.{Grid}
-use Rattle.ctt_views.specs.declared.grid.Grid.TheVariants.{Curriculum, Room, Teacher}
-
--- the word that names the kind of a finding
-abbrev pub kind_word : Finding → List ℕ
-kind_word (Lectures c placed stated) = codes "lectures"
-kind_word (Conflict c d s why) = codes "conflict"
-kind_word (Availability l) = codes "availability"
-kind_word (Occupancy l) = codes "occupancy"
-kind_word (Barred l) = codes "barred"
-kind_word (Capacity l n) = codes "capacity"
-kind_word (Days c days minimum n) = codes "days"
-kind_word (Compactness q l n) = codes "compactness"
-kind_word (Stability c rooms n) = codes "stability"
+use Rattle.ctt_views.specs.declared.grid.Grid.TheVariants.{Course, Curriculum, Room, Teacher}
 
 -- the grid of what two courses have in common
 abbrev pub cause_grid : Cause → Grid
 cause_grid (HasTeacher n) = Teacher n
 cause_grid (HasCurriculum q) = Curriculum q
 
--- the grid that shows a finding; for one on a course as a whole it is that of its teacher
-abbrev pub grid_at : Problem → Finding → Grid
-grid_at i (Lectures c placed stated) = Teacher (course_of i c).teacher
-grid_at i (Conflict c d s why) = cause_grid why
-grid_at i (Availability l) = Teacher (course_of i l.course).teacher
-grid_at i (Occupancy l) = Room l.room
-grid_at i (Barred l) = Room l.room
-grid_at i (Capacity l n) = Room l.room
-grid_at i (Days c days minimum n) = Teacher (course_of i c).teacher
-grid_at i (Compactness q l n) = Curriculum q
-grid_at i (Stability c rooms n) = Teacher (course_of i c).teacher
+-- the grid that shows a finding; for one on a course alone it is that of the course
+abbrev pub grid_at : Finding → Grid
+grid_at (Lectures c placed stated) = Course c
+grid_at (Conflict c d s why) = cause_grid why
+grid_at (Availability l) = Course l.course
+grid_at (Occupancy l) = Room l.room
+grid_at (Barred l) = Room l.room
+grid_at (Capacity l n) = Room l.room
+grid_at (Days c days minimum n) = Course c
+grid_at (Compactness q l n) = Curriculum q
+grid_at (Stability c rooms n) = Course c
 
 -- the slot of a finding; one on a course as a whole has none
 abbrev pub slot_at : Finding → Option ℕ
@@ -55,47 +46,61 @@ slot_at (Days c days minimum n) = None
 slot_at (Compactness q l n) = Some l.slot
 slot_at (Stability c rooms n) = None
 
--- a line of text as a link to a grid, or to the cell of a slot in it
-unfoldable pub link : Grid → Option ℕ → List ℕ → List ℕ
-link g s text = codes "<li><a href='#"
-    ++ (place_id g s
-    ++ (codes "'><bdi>"
-    ++ (words_apart text
-    ++ codes "</bdi></a></li>\n")))
+-- the beginning of an item: its points, and the link to a grid or to the cell of a slot in it
+unfoldable pub item_start : Grid → Option ℕ → ℕ → List ℕ
+item_start g s n = codes "<li>" ++ (price n ++ (codes "<a href='#" ++ (place_id g s ++ codes "'>")))
 
--- a finding: its line, as a link to the grid or cell that shows it
-unfoldable pub finding_item : Problem → Finding → List ℕ
-finding_item i f = link (grid_at i f) (slot_at f) (line i f)
+-- a finding: its points, and a sentence as a link to the grid or cell that shows it
+unfoldable pub finding_item : Problem → List ℕ → Finding → List ℕ
+finding_item i days f = item_start (grid_at f) (slot_at f) (points f) ++ (sentence i days f ++ codes "</a></li>\n")
 
--- a finding, if it is of this kind
-abbrev pub item_of : Problem → List ℕ → Finding → List ℕ
-item_of i kind f = if bytes_eq (kind_word f) kind then finding_item i f else []
-
--- the section of a kind; the word that names the kind is also the id of the section
-unfoldable pub section : Problem → List Placed → List ℕ → List ℕ → List ℕ
-section i t kind title = codes "<h3 id='"
+-- the beginning of the section of a kind; the word that names the kind is also the id of its head
+unfoldable pub section_start : List ℕ → List ℕ → ℕ → List ℕ → List ℕ
+section_start kind title total noun = codes "<details open><summary><h4 id='"
     ++ (kind
     ++ (codes "'>"
     ++ (title
-    ++ (codes "</h3><ul>\n"
-    ++ (flat_map (item_of i kind) (findings i t)
-    ++ codes "</ul>\n")))))
+    ++ (codes ": "
+    ++ (amount total noun
+    ++ codes "</h4></summary><ul>\n")))))
+
+-- a finding is of a kind
+abbrev pub is_of_kind : List ℕ → Finding → Bool
+is_of_kind kind f = bytes_eq (kind_word f) kind
+
+-- the section of a kind: its total, and its findings
+unfoldable pub section : Problem → List ℕ → List Finding → List ℕ → List ℕ → ℕ → List ℕ → List ℕ
+section i days found kind title total noun = section_start kind title total noun
+    ++ (flat_map (finding_item i days) (filter (is_of_kind kind) found)
+    ++ codes "</ul></details>\n")
 
 -- what breaks hard rules
-unfoldable pub broken_rules : Problem → List Placed → List ℕ
-broken_rules i t = section i t (codes "lectures") (codes "&#9661; lectures missing or surplus: course, placed, stated")
-    ++ (section i t (codes "conflict") (codes "&#9650; conflict: course, course, day, period, what both have")
-    ++ (section i t (codes "availability") (codes "&#9660; unavailable: course, day, period")
-    ++ (section i t (codes "occupancy") (codes "&#9670; room taken: room, day, period, course")
-    ++ section i t (codes "barred") (codes "&#9632; barred: course, room, day, period"))))
+unfoldable pub broken_rules : Problem → List ℕ → List Finding → Hard → List ℕ
+broken_rules i days found hard = codes "<h3 id='hard'>Hard rules</h3>\n"
+    ++ (section i days found (codes "lectures") (codes "&#9661; lectures missing or surplus") hard.lectures (codes "lecture")
+    ++ (section i days found (codes "conflict") (codes "&#9650; conflict") hard.conflicts (codes "time")
+    ++ (section i days found (codes "availability") (codes "&#9660; unavailable") hard.availability (codes "time")
+    ++ (section i days found (codes "occupancy") (codes "&#9670; room taken") hard.occupancy (codes "time")
+    ++ section i days found (codes "barred") (codes "&#9632; barred") hard.barred (codes "time")))))
+
+-- the head of what costs points, with their total
+unfoldable pub costs_start : ℕ → List ℕ
+costs_start n = codes "<h3 id='costs'>Costs: " ++ (amount n (codes "point") ++ codes "</h3>\n")
 
 -- what costs points
-unfoldable pub costs : Problem → List Placed → List ℕ
-costs i t = section i t (codes "capacity") (codes "&#9679; too small: course, room, day, period, points")
-    ++ (section i t (codes "days") (codes "&#9651; too few days: course, days, least number, points")
-    ++ (section i t (codes "compactness") (codes "&#9675; alone: curriculum, course, day, period, points")
-    ++ section i t (codes "stability") (codes "&#9671; several rooms: course, rooms, points")))
+unfoldable pub costs : Problem → List ℕ → List Finding → Cost → List ℕ
+costs i days found cost = costs_start (total cost)
+    ++ (section i days found (codes "capacity") (codes "&#9679; too small") cost.capacity (codes "point")
+    ++ (section i days found (codes "days") (codes "&#9651; too few days") cost.days (codes "point")
+    ++ (section i days found (codes "compactness") (codes "&#9675; alone") cost.compactness (codes "point")
+    ++ section i days found (codes "stability") (codes "&#9671; several rooms") cost.stability (codes "point"))))
 
--- all kinds, in the order of the report
-unfoldable pub sections : Problem → List Placed → List ℕ
-sections i t = codes "<h2 id='findings'>Findings</h2>\n" ++ (broken_rules i t ++ costs i t)
+-- the first five findings
+unfoldable pub first : Problem → List ℕ → List Finding → List ℕ
+first i days found = codes "<h2 id='findings'>Findings</h2>\n<p>Days and periods are counted from 1.</p>\n<h3 id='first'>To mend first</h3><ol>\n"
+    ++ (flat_map (finding_item i days) (take 5 found)
+    ++ codes "</ol>\n")
+
+-- the ranked findings: the first of them, and then all, kind by kind in the order of the report
+unfoldable pub sections : Problem → List ℕ → List Finding → Hard → Cost → List ℕ
+sections i days found hard cost = first i days found ++ (broken_rules i days found hard ++ costs i days found cost)

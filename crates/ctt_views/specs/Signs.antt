@@ -1,13 +1,15 @@
 -- The signs of a lecture that breaks a rule or costs points.
-use Rattle.std.specs.Prelude.{ℕ, Bool, false, ◌==◌, ◌&&◌, ◌++◌, not, nat_lt, List, [], codes, if◌then◌else◌}
+use Rattle.std.specs.Prelude.{ℕ, Bool, false, ◌==◌, ◌&&◌, ◌++◌, not, List, [], codes, if◌then◌else◌}
 use Rattle.std.specs.List.{list_any}
-use Rattle.ctt_text.specs.Problem.{Problem, capacity_of, clash, course_of, is_barred, is_unavailable}
+use Rattle.ctt_text.specs.Problem.{Problem, clash, is_barred, is_unavailable}
 use Rattle.ctt_text.specs.declared.placed.Placed.{Placed}
 use Rattle.ctt_rules.specs.Neighbours.{is_beside}
+use Rattle.ctt_rules.specs.Penalty.{unseated}
 use Rattle.ctt_views.specs.Grids.{is_of}
+use Rattle.ctt_views.specs.Phrases.{amount}
 use Rattle.ctt_views.specs.Weeks.{lectures_in}
 use Rattle.ctt_views.specs.declared.grid.Grid.{Grid}
-use Rattle.ctt_views.specs.declared.grid.Grid.TheVariants.{Curriculum, Teacher, Room}
+use Rattle.ctt_views.specs.declared.grid.Grid.TheVariants.{Curriculum, Teacher, Room, Course}
 
 -- one of the lectures is of a course that clashes with this one's
 abbrev pub clashes : Problem → List Placed → Placed → Bool
@@ -27,10 +29,15 @@ abbrev pub is_alone : Problem → List (List Placed) → Grid → Placed → Boo
 is_alone i w (Curriculum q) l = not (is_beside i (stands_in i w (Curriculum q)) l.slot)
 is_alone i w (Teacher n) l = false
 is_alone i w (Room r) l = false
+is_alone i w (Course c) l = false
 
 -- the text of a sign if it is shown, or else an empty text
 unfoldable pub sign : Bool → List ℕ → List ℕ
 sign shown text = if shown then text else []
+
+-- the sign of what costs points, with the points, if there are any
+unfoldable pub cost : ℕ → List ℕ → List ℕ
+cost n text = if n == 0 then [] else codes " <i>" ++ (text ++ (codes ": " ++ (amount n (codes "point") ++ codes "</i>")))
 
 -- the signs of the rules that a lecture breaks, and of what it costs
 unfoldable pub signs : Problem → List (List Placed) → Grid → Placed → List ℕ
@@ -38,5 +45,5 @@ signs i w g l = sign (clashes i (lectures_in w l.slot) l) (codes " <b>&#9650; co
     ++ (sign (is_unavailable i l.course l.slot) (codes " <b>&#9660; unavailable</b>")
     ++ (sign (shares_room (lectures_in w l.slot) l) (codes " <b>&#9670; room taken</b>")
     ++ (sign (is_barred i l.course l.room) (codes " <b>&#9632; barred</b>")
-    ++ (sign (nat_lt (capacity_of i l.room) (course_of i l.course).students) (codes " <i>&#9679; too small</i>")
-    ++ sign (is_alone i w g l) (codes " <i>&#9675; alone</i>")))))
+    ++ (cost (unseated i l) (codes "&#9679; too small")
+    ++ cost (if is_alone i w g l then 2 else 0) (codes "&#9675; alone")))))

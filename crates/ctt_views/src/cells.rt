@@ -4,12 +4,12 @@ ghost use Rattle.std.specs.Prelude.{◌≡◌, ◌<◌, ◌++◌, OnOk, filter, 
 ghost use Rattle.std.specs.List.{AllByRecursion as Each};
 ghost use Rattle.ctt_text.specs.Problem.{slot_count};
 ghost use Rattle.ctt_text.specs.Timetable.{Fits};
-ghost use Rattle.ctt_views.specs.Cells.{cell, lecture_text, names_text, shown_text};
+ghost use Rattle.ctt_views.specs.Cells.{cell, cell_start, lecture_text, mark, names_text, shown_text};
 ghost use Rattle.ctt_views.specs.Grids.{GridFits, is_of};
 ghost use Rattle.ctt_views.specs.Weeks.{WeekFits};
 
 use crate::escape::Escaped;
-use crate::grid::{Grid, Place, is_of};
+use crate::grid::{Grid, Place, is_closed, is_of};
 use crate::signs::push_signs;
 use crate::week::Week;
 use ctt_text::{Instance, Placed, SlotNo};
@@ -94,6 +94,35 @@ fn push_lectures(
     Ok(())
 }
 
+/// Returns the mark of a slot in which the course of a grid is unavailable.
+#[tactic(auto, unfolding(crate::specs::Cells::mark))]
+fn mark(closed: bool) -> &'static str
+    ensures { result.now ≡ mark closed }
+{
+    if closed { "<em>closed</em>" } else { "" }
+}
+
+/// Begins the cell of a slot in a grid.
+#[tactic(auto, unfolding(crate::specs::Cells::cell_start))]
+fn push_cell_start(
+    page: &mut String,
+    instance: &Instance,
+    grid: &Grid,
+    slot: SlotNo,
+) -> Result<(), AllocError>
+    requires grid { GridFits instance.now grid.now }
+    requires slot { slot < slot_count instance.now }
+    ensures { OnOk result (string_bytes page.new
+        ≡ string_bytes page.old ++ cell_start instance.now grid.now slot) }
+{
+    let place = Place {
+        grid: *grid,
+        slot: Some(slot),
+    };
+    let mark = mark(is_closed(instance, grid, slot));
+    write!(page, "<td id='{place}'>{mark}")
+}
+
 /// Adds the cell of a slot in a grid.
 #[tactic(auto, unfolding(crate::specs::Cells::cell))]
 pub(crate) fn push_cell(
@@ -109,11 +138,7 @@ pub(crate) fn push_cell(
     ensures { OnOk result (string_bytes page.new
         ≡ string_bytes page.old ++ cell instance.now week.now grid.now slot) }
 {
-    let place = Place {
-        grid: *grid,
-        slot: Some(slot),
-    };
-    write!(page, "<td id='{place}'>")?;
+    push_cell_start(page, instance, grid, slot)?;
     push_lectures(page, instance, week, grid, week.row(instance, slot))?;
     page.push_str("</td>")
 }

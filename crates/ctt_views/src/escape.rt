@@ -1,7 +1,7 @@
 //! Names as HTML text.
 
 ghost use Rattle.std.specs.Prelude.{Some};
-ghost use Rattle.ctt_views.specs.Escape.{escaped, escaped_char, line_char, words_apart};
+ghost use Rattle.ctt_views.specs.Escape.{escaped, escaped_char};
 
 use std::fmt;
 
@@ -34,39 +34,6 @@ impl fmt::Display for Escaped<'_> {
     fn fmt<W: fmt::Write>(&self, f: &mut fmt::Formatter<W>) -> fmt::Result {
         for letter in self.0.chars() {
             EscapedChar(letter).fmt(f)?;
-        }
-        Ok(())
-    }
-}
-
-/// A character of a line. A blank closes the `bdi` element of a word, and opens that of the next.
-#[derive(Clone, Copy)]
-struct LineChar(char);
-
-impl fmt::Display for LineChar {
-    ghost output = { λ letter. Some (line_char letter.0) };
-
-    #[tactic(auto, unfolding(crate::specs::Escape::line_char))]
-    fn fmt<W: fmt::Write>(&self, f: &mut fmt::Formatter<W>) -> fmt::Result {
-        if self.0 == ' ' {
-            f.write_str("</bdi> <bdi>")
-        } else {
-            EscapedChar(self.0).fmt(f)
-        }
-    }
-}
-
-/// The content of a `bdi` element that holds a line. Each word has an element of its own, so that
-/// none affects the direction of another.
-#[derive(Clone, Copy)]
-pub(crate) struct WordsApart<'a>(pub(crate) &'a str);
-
-impl fmt::Display for WordsApart<'_> {
-    ghost output = { λ line. Some (words_apart line.0.now) };
-
-    fn fmt<W: fmt::Write>(&self, f: &mut fmt::Formatter<W>) -> fmt::Result {
-        for letter in self.0.chars() {
-            LineChar(letter).fmt(f)?;
         }
         Ok(())
     }

@@ -1,13 +1,14 @@
 //! The grids of the page.
 
-ghost use Rattle.std.specs.Prelude.{◌≡◌, Some};
+ghost use Rattle.std.specs.Prelude.{◌≡◌, ◌<◌, Some};
+ghost use Rattle.ctt_text.specs.Problem.{slot_count};
 ghost use Rattle.ctt_text.specs.Timetable.{Fits};
-ghost use Rattle.ctt_views.specs.Grids.{GridFits, grid_id, is_of, name_of, place_id, word_of};
+ghost use Rattle.ctt_views.specs.Grids.{GridFits, grid_id, is_closed, is_of, name_of, place_id, word_of};
 
-use ctt_text::{CurriculumNo, Instance, Placed, RoomNo, SlotNo, TeacherNo};
+use ctt_text::{CourseNo, CurriculumNo, Instance, Placed, RoomNo, SlotNo, TeacherNo};
 use std::fmt;
 
-/// The curriculum, teacher or room whose lectures a grid shows. Displayed as the id of the grid.
+/// The curriculum, teacher, room or course whose lectures a grid shows. Displayed as the id of the grid.
 #[derive(Clone, Copy, PartialEq, Eq)]
 pub enum Grid {
     /// The lectures of a curriculum's members.
@@ -16,6 +17,8 @@ pub enum Grid {
     Teacher(TeacherNo),
     /// The lectures in a room.
     Room(RoomNo),
+    /// The lectures of a course.
+    Course(CourseNo),
 }
 
 /// Returns whether a lecture belongs to a grid.
@@ -28,6 +31,7 @@ pub(crate) fn is_of(instance: &Instance, grid: &Grid, lecture: &Placed) -> bool
         Grid::Curriculum(curriculum) => instance.members(*curriculum).contains(&lecture.course),
         Grid::Teacher(teacher) => instance.teacher(lecture.course) == *teacher,
         Grid::Room(room) => lecture.room == *room,
+        Grid::Course(course) => lecture.course == *course,
     }
 }
 
@@ -39,6 +43,7 @@ pub(crate) fn word_of(grid: &Grid) -> &'static str
         Grid::Curriculum(_) => "Curriculum",
         Grid::Teacher(_) => "Teacher",
         Grid::Room(_) => "Room",
+        Grid::Course(_) => "Course",
     }
 }
 
@@ -51,6 +56,21 @@ pub(crate) fn name_of<'i>(instance: &'i Instance, grid: &Grid) -> &'i str
         Grid::Curriculum(curriculum) => instance.curriculum_name(*curriculum),
         Grid::Teacher(teacher) => instance.teacher_name(*teacher),
         Grid::Room(room) => instance.room_name(*room),
+        Grid::Course(course) => instance.course_name(*course),
+    }
+}
+
+/// Returns whether a grid is that of a course that is unavailable in a slot.
+pub(crate) fn is_closed(instance: &Instance, grid: &Grid, slot: SlotNo) -> bool
+    requires grid { GridFits instance.now grid.now }
+    requires slot { slot < slot_count instance.now }
+    ensures { result ≡ is_closed instance.now grid.now slot }
+{
+    match grid {
+        Grid::Curriculum(_) => false,
+        Grid::Teacher(_) => false,
+        Grid::Room(_) => false,
+        Grid::Course(course) => instance.unavailable(*course, slot),
     }
 }
 
@@ -71,6 +91,10 @@ impl fmt::Display for Grid {
             Grid::Room(room) => {
                 let number = room.get();
                 write!(f, "r{number}")
+            }
+            Grid::Course(course) => {
+                let number = course.get();
+                write!(f, "k{number}")
             }
         }
     }

@@ -1,39 +1,25 @@
-//! The findings, kind by kind, each with a link to its grid or cell.
+//! The findings: the first to mend, and all of them kind by kind, each with a link to its grid or
+//! cell.
 
-ghost use Rattle.std.specs.Prelude.{◌≡◌, ◌++◌, IfOk, OnOk, flat_map, string_bytes};
-ghost use Rattle.std.specs.Str.{bytes_eq};
-ghost use Rattle.ctt_text.specs.Timetable.{IsTimetable};
-ghost use Rattle.ctt_findings.specs.Findings.{findings};
+ghost use Rattle.std.specs.Prelude.{◌≡◌, ◌<◌, ◌^◌, ◌++◌, [], OnOk, cond, filter, flat_map, string_bytes, take};
+ghost use Rattle.std.specs.List.{AllByRecursion as Each};
+ghost use Rattle.ctt_rules.specs.Penalty.{total};
 ghost use Rattle.ctt_findings.specs.Fitting.{FindingFits};
-ghost use Rattle.ctt_views.specs.Sections.{broken_rules, cause_grid, costs, finding_item, grid_at, item_of, kind_word, link, section, sections, slot_at};
+ghost use Rattle.ctt_views.specs.Sections.{broken_rules, cause_grid, costs, costs_start, finding_item, first, grid_at, is_of_kind, item_start, section, section_start, sections, slot_at};
 
-use crate::escape::WordsApart;
 use crate::grid::{Grid, Place};
-use ctt_findings::{Cause, Finding, Listener, Untold, push_line, tell_findings};
-use ctt_text::{Instance, NoMemory, Placed, SlotNo};
-use std::alloc::{AllocError, Global};
+use crate::phrases::{Amount, Price};
+use crate::ranking::{kind_word, points};
+use crate::sentences::push_sentence;
+use ctt_findings::{Cause, Finding};
+use ctt_rules::{Assessment, Cost, Hard};
+use ctt_text::{Instance, SlotNo};
+use std::alloc::AllocError;
 use std::fmt::Write;
-
-/// Returns the word that names the kind of a finding.
-fn kind_word(finding: &Finding) -> &'static str
-    ensures { result.now ≡ kind_word finding.now }
-{
-    match finding {
-        Finding::Lectures(_, _, _) => "lectures",
-        Finding::Conflict(_, _, _, _) => "conflict",
-        Finding::Availability(_) => "availability",
-        Finding::Occupancy(_) => "occupancy",
-        Finding::Barred(_) => "barred",
-        Finding::Capacity(_, _) => "capacity",
-        Finding::Days(_, _, _, _) => "days",
-        Finding::Compactness(_, _, _) => "compactness",
-        Finding::Stability(_, _, _) => "stability",
-    }
-}
 
 /// Returns whether a finding is of this kind.
 fn is_of_kind(finding: &Finding, kind: &str) -> bool
-    ensures { result ≡ bytes_eq (kind_word finding.now) kind.now }
+    ensures { result ≡ is_of_kind kind.now finding.now }
 {
     kind_word(finding) == kind
 }
@@ -48,21 +34,20 @@ fn cause_grid(cause: &Cause) -> Grid
     }
 }
 
-/// Returns the grid that shows a finding. For one on a course as a whole it is that of its teacher.
-fn grid_at(instance: &Instance, finding: &Finding) -> Grid
-    requires { FindingFits instance.now finding.now }
-    ensures { result ≡ grid_at instance.now finding.now }
+/// Returns the grid that shows a finding. For one on a course alone it is that of the course.
+fn grid_at(finding: &Finding) -> Grid
+    ensures { result ≡ grid_at finding.now }
 {
     match finding {
-        Finding::Lectures(course, _, _) => Grid::Teacher(instance.teacher(*course)),
+        Finding::Lectures(course, _, _) => Grid::Course(*course),
         Finding::Conflict(_, _, _, cause) => cause_grid(cause),
-        Finding::Availability(lecture) => Grid::Teacher(instance.teacher(lecture.course)),
+        Finding::Availability(lecture) => Grid::Course(lecture.course),
         Finding::Occupancy(lecture) => Grid::Room(lecture.room),
         Finding::Barred(lecture) => Grid::Room(lecture.room),
         Finding::Capacity(lecture, _) => Grid::Room(lecture.room),
-        Finding::Days(course, _, _, _) => Grid::Teacher(instance.teacher(*course)),
+        Finding::Days(course, _, _, _) => Grid::Course(*course),
         Finding::Compactness(curriculum, _, _) => Grid::Curriculum(*curriculum),
-        Finding::Stability(course, _, _) => Grid::Teacher(instance.teacher(*course)),
+        Finding::Stability(course, _, _) => Grid::Course(*course),
     }
 }
 
@@ -83,241 +68,270 @@ fn slot_at(finding: &Finding) -> Option<SlotNo>
     }
 }
 
-/// Adds a line of text as a link to a place.
-#[tactic(auto, unfolding(crate::specs::Sections::link))]
-fn push_link(page: &mut String, place: &Place, line: &str) -> Result<(), AllocError>
+/// Begins an item: its points, and the link to a place.
+#[tactic(auto, unfolding(crate::specs::Sections::item_start))]
+fn push_item_start(page: &mut String, place: &Place, points: u64) -> Result<(), AllocError>
     ensures { OnOk result (string_bytes page.new
-        ≡ string_bytes page.old ++ link place.now.grid place.now.slot line.now) }
+        ≡ string_bytes page.old ++ item_start place.now.grid place.now.slot points) }
 {
+    let price = Price(points);
     let place = *place;
-    let text = WordsApart(line);
-    writeln!(page, "<li><a href='#{place}'><bdi>{text}</bdi></a></li>")
+    write!(page, "<li>{price}<a href='#{place}'>")
 }
 
-/// Adds a finding: its line, as a link to the grid or cell that shows it.
+/// Adds a finding: its points, and a sentence as a link to the grid or cell that shows it.
 #[tactic(auto, unfolding(crate::specs::Sections::finding_item))]
 fn push_finding(
-    alloc: Global,
     page: &mut String,
     instance: &Instance,
+    days: &str,
     finding: &Finding,
 ) -> Result<(), AllocError>
     requires { FindingFits instance.now finding.now }
     ensures { OnOk result (string_bytes page.new
-        ≡ string_bytes page.old ++ finding_item instance.now finding.now) }
+        ≡ string_bytes page.old ++ finding_item instance.now days.now finding.now) }
 {
-    let mut line = String::new(alloc);
-    push_line(&mut line, instance, finding)?;
     let place = Place {
-        grid: grid_at(instance, finding),
+        grid: grid_at(finding),
         slot: slot_at(finding),
     };
-    push_link(page, &place, line.as_str())
+    push_item_start(page, &place, points(finding))?;
+    push_sentence(page, instance, days, finding)?;
+    page.push_str("</a></li>\n")
 }
 
 /// Adds a finding, if it is of this kind.
 fn push_if_of_kind(
-    alloc: Global,
     page: &mut String,
     instance: &Instance,
+    days: &str,
     kind: &str,
     finding: &Finding,
 ) -> Result<(), AllocError>
     requires { FindingFits instance.now finding.now }
     ensures { OnOk result (string_bytes page.new
-        ≡ string_bytes page.old ++ item_of instance.now kind.now finding.now) }
+        ≡ string_bytes page.old ++ cond (is_of_kind kind.now finding.now)
+        (finding_item instance.now days.now finding.now) []) }
 {
     if is_of_kind(finding, kind) {
-        push_finding(alloc, page, instance, finding)
+        push_finding(page, instance, days, finding)
     } else {
         Ok(())
     }
 }
 
-/// A listener that collects the findings of a kind as items of a list.
-#[derive(Drop)]
-struct Items<'k> {
-    alloc: Global,
-    kind: &'k str,
-    text: String,
-}
-
-impl<'k> Listener for Items<'k> {
-    ghost use Rattle.std.specs.Prelude.{◌≡◌, ◌++◌, string_bytes};
-    ghost use Rattle.ctt_views.specs.Sections.{item_of};
-
-    ghost hears = { λ i a finding b. (b.kind ≡ a.kind)
-        × (string_bytes b.text ≡ string_bytes a.text ++ item_of i a.kind.now finding) };
-
-    ghost fails = { λ fault a b. Unit {0} };
-
-    fn hear(&mut self, instance: &Instance, finding: &Finding) -> Result<(), Untold> {
-        push_if_of_kind(self.alloc, &mut self.text, instance, self.kind, finding)?;
-        Ok(())
-    }
-}
-
-/// Returns the findings of a kind as items of a list.
-fn items_of_kind(
-    alloc: Global,
-    instance: &Instance,
-    timetable: &[Placed],
-    kind: &str,
-) -> Result<String, NoMemory>
-    requires { IsTimetable instance.now timetable.now }
-    ensures { IfOk result (λ text. string_bytes text
-        ≡ flat_map (item_of instance.now kind.now) (findings instance.now timetable.now)) }
-{
-    let mut items = Items {
-        alloc,
-        kind,
-        text: String::new(alloc),
-    };
-    let told = tell_findings(alloc, &mut items, instance, timetable);
-    let Items {
-        alloc: _alloc,
-        kind: _kind,
-        text,
-    } = items;
-    match told {
-        Ok(()) => Ok(text),
-        Err(_) => Err(NoMemory),
-    }
-}
-
-/// Adds the section of a kind. The word that names the kind is also the id of the section.
-#[tactic(auto, unfolding(crate::specs::Sections::section))]
-fn push_section(
-    alloc: Global,
+/// Adds the findings of a kind.
+fn push_items(
     page: &mut String,
     instance: &Instance,
-    timetable: &[Placed],
+    days: &str,
+    found: &[Finding],
     kind: &str,
-    title: &str,
-) -> Result<(), NoMemory>
-    requires { IsTimetable instance.now timetable.now }
+) -> Result<(), AllocError>
+    requires { Each (FindingFits instance.now) found.now }
     ensures { OnOk result (string_bytes page.new
-        ≡ string_bytes page.old ++ section instance.now timetable.now kind.now title.now) }
+        ≡ string_bytes page.old ++ flat_map (finding_item instance.now days.now)
+        (filter (is_of_kind kind.now) found.now)) }
 {
-    let items = items_of_kind(alloc, instance, timetable, kind)?;
-    let items = items.as_str();
-    write!(page, "<h3 id='{kind}'>{title}</h3><ul>\n{items}</ul>\n")?;
+    for finding in found {
+        push_if_of_kind(page, instance, days, kind, finding)?;
+    }
     Ok(())
 }
 
-/// Adds the sections of what breaks hard rules.
+/// The head of the section of a kind: the word that names the kind, a title, and the total.
+#[derive(Clone, Copy)]
+struct Head {
+    kind: &'static str,
+    title: &'static str,
+    total: Amount,
+}
+
+/// Returns the head of a section.
+fn head_of(kind: &'static str, title: &'static str, count: u64, noun: &'static str) -> Head
+    ensures kind { result.kind.now ≡ kind.now }
+    ensures title { result.title.now ≡ title.now }
+    ensures count { result.total.count ≡ count }
+    ensures noun { result.total.noun.now ≡ noun.now }
+{
+    Head {
+        kind,
+        title,
+        total: Amount { count, noun },
+    }
+}
+
+/// Begins the section of a kind.
+#[tactic(auto, unfolding(crate::specs::Sections::section_start))]
+fn push_section_start(page: &mut String, head: &Head) -> Result<(), AllocError>
+    ensures { OnOk result (string_bytes page.new
+        ≡ string_bytes page.old ++ section_start head.now.kind.now head.now.title.now
+        head.now.total.count head.now.total.noun.now) }
+{
+    let kind = head.kind;
+    let title = head.title;
+    let total = head.total;
+    write!(
+        page,
+        "<details open><summary><h4 id='{kind}'>{title}: {total}</h4></summary><ul>\n"
+    )
+}
+
+/// Adds the section of a kind.
+#[tactic(auto, unfolding(crate::specs::Sections::section))]
+fn push_section(
+    page: &mut String,
+    instance: &Instance,
+    days: &str,
+    found: &[Finding],
+    head: &Head,
+) -> Result<(), AllocError>
+    requires { Each (FindingFits instance.now) found.now }
+    ensures { OnOk result (string_bytes page.new
+        ≡ string_bytes page.old ++ section instance.now days.now found.now head.now.kind.now
+        head.now.title.now head.now.total.count head.now.total.noun.now) }
+{
+    push_section_start(page, head)?;
+    push_items(page, instance, days, found, head.kind)?;
+    page.push_str("</ul></details>\n")
+}
+
+/// Adds what breaks hard rules.
 #[tactic(auto, unfolding(crate::specs::Sections::broken_rules))]
 fn push_broken_rules(
-    alloc: Global,
     page: &mut String,
     instance: &Instance,
-    timetable: &[Placed],
-) -> Result<(), NoMemory>
-    requires { IsTimetable instance.now timetable.now }
+    days: &str,
+    found: &[Finding],
+    hard: &Hard,
+) -> Result<(), AllocError>
+    requires { Each (FindingFits instance.now) found.now }
     ensures { OnOk result (string_bytes page.new
-        ≡ string_bytes page.old ++ broken_rules instance.now timetable.now) }
+        ≡ string_bytes page.old ++ broken_rules instance.now days.now found.now hard.now) }
 {
-    push_section(
-        alloc,
-        page,
-        instance,
-        timetable,
-        "lectures",
-        "&#9661; lectures missing or surplus: course, placed, stated",
-    )?;
-    push_section(
-        alloc,
-        page,
-        instance,
-        timetable,
-        "conflict",
-        "&#9650; conflict: course, course, day, period, what both have",
-    )?;
-    push_section(
-        alloc,
-        page,
-        instance,
-        timetable,
+    let title = "&#9661; lectures missing or surplus";
+    let lectures = head_of("lectures", title, hard.lectures, "lecture");
+    let conflict = head_of("conflict", "&#9650; conflict", hard.conflicts, "time");
+    let availability = head_of(
         "availability",
-        "&#9660; unavailable: course, day, period",
-    )?;
-    push_section(
-        alloc,
-        page,
-        instance,
-        timetable,
-        "occupancy",
-        "&#9670; room taken: room, day, period, course",
-    )?;
-    push_section(
-        alloc,
-        page,
-        instance,
-        timetable,
-        "barred",
-        "&#9632; barred: course, room, day, period",
-    )
+        "&#9660; unavailable",
+        hard.availability,
+        "time",
+    );
+    let occupancy = head_of("occupancy", "&#9670; room taken", hard.occupancy, "time");
+    let barred = head_of("barred", "&#9632; barred", hard.barred, "time");
+    page.push_str("<h3 id='hard'>Hard rules</h3>\n")?;
+    push_section(page, instance, days, found, &lectures)?;
+    push_section(page, instance, days, found, &conflict)?;
+    push_section(page, instance, days, found, &availability)?;
+    push_section(page, instance, days, found, &occupancy)?;
+    push_section(page, instance, days, found, &barred)
 }
 
-/// Adds the sections of what costs points.
+/// Begins what costs points: the head, with their total.
+#[tactic(auto, unfolding(crate::specs::Sections::costs_start))]
+fn push_costs_start(page: &mut String, total: u64) -> Result<(), AllocError>
+    ensures { OnOk result (string_bytes page.new
+        ≡ string_bytes page.old ++ costs_start total) }
+{
+    let total = Amount {
+        count: total,
+        noun: "point",
+    };
+    write!(page, "<h3 id='costs'>Costs: {total}</h3>\n")
+}
+
+/// Adds what costs points.
 #[tactic(auto, unfolding(crate::specs::Sections::costs))]
 fn push_costs(
-    alloc: Global,
     page: &mut String,
     instance: &Instance,
-    timetable: &[Placed],
-) -> Result<(), NoMemory>
-    requires { IsTimetable instance.now timetable.now }
+    days: &str,
+    found: &[Finding],
+    cost: &Cost,
+) -> Result<(), AllocError>
+    requires total { total cost.now < 2 ^ 64 }
+    requires found { Each (FindingFits instance.now) found.now }
     ensures { OnOk result (string_bytes page.new
-        ≡ string_bytes page.old ++ costs instance.now timetable.now) }
+        ≡ string_bytes page.old ++ costs instance.now days.now found.now cost.now) }
 {
-    push_section(
-        alloc,
-        page,
-        instance,
-        timetable,
-        "capacity",
-        "&#9679; too small: course, room, day, period, points",
-    )?;
-    push_section(
-        alloc,
-        page,
-        instance,
-        timetable,
-        "days",
-        "&#9651; too few days: course, days, least number, points",
-    )?;
-    push_section(
-        alloc,
-        page,
-        instance,
-        timetable,
-        "compactness",
-        "&#9675; alone: curriculum, course, day, period, points",
-    )?;
-    push_section(
-        alloc,
-        page,
-        instance,
-        timetable,
+    let capacity = head_of("capacity", "&#9679; too small", cost.capacity, "point");
+    let few_days = head_of("days", "&#9651; too few days", cost.days, "point");
+    let compactness = head_of("compactness", "&#9675; alone", cost.compactness, "point");
+    let stability = head_of(
         "stability",
-        "&#9671; several rooms: course, rooms, points",
-    )
+        "&#9671; several rooms",
+        cost.stability,
+        "point",
+    );
+    push_costs_start(page, cost.total())?;
+    push_section(page, instance, days, found, &capacity)?;
+    push_section(page, instance, days, found, &few_days)?;
+    push_section(page, instance, days, found, &compactness)?;
+    push_section(page, instance, days, found, &stability)
 }
 
-/// Adds the findings, kind by kind, in the order of the report.
-#[tactic(auto, unfolding(crate::specs::Sections::sections))]
-pub(crate) fn push_sections(
-    alloc: Global,
+/// Returns the first five findings, or all if there are fewer.
+fn first_five(found: &[Finding]) -> &[Finding]
+    ensures { result.now ≡ take 5 found.now }
+{
+    let count = if found.len() < 5 { found.len() } else { 5 };
+    &found[..count]
+}
+
+/// Adds findings as items of a list.
+fn push_findings(
     page: &mut String,
     instance: &Instance,
-    timetable: &[Placed],
-) -> Result<(), NoMemory>
-    requires { IsTimetable instance.now timetable.now }
+    days: &str,
+    found: &[Finding],
+) -> Result<(), AllocError>
+    requires { Each (FindingFits instance.now) found.now }
     ensures { OnOk result (string_bytes page.new
-        ≡ string_bytes page.old ++ sections instance.now timetable.now) }
+        ≡ string_bytes page.old ++ flat_map (finding_item instance.now days.now) found.now) }
 {
-    page.push_str("<h2 id='findings'>Findings</h2>\n")?;
-    push_broken_rules(alloc, page, instance, timetable)?;
-    push_costs(alloc, page, instance, timetable)
+    for finding in found {
+        push_finding(page, instance, days, finding)?;
+    }
+    Ok(())
+}
+
+/// Adds the first five findings.
+#[tactic(auto, unfolding(crate::specs::Sections::first))]
+fn push_first(
+    page: &mut String,
+    instance: &Instance,
+    days: &str,
+    found: &[Finding],
+) -> Result<(), AllocError>
+    requires { Each (FindingFits instance.now) found.now }
+    ensures { OnOk result (string_bytes page.new
+        ≡ string_bytes page.old ++ first instance.now days.now found.now) }
+{
+    page.push_str(
+        "<h2 id='findings'>Findings</h2>\n<p>Days and periods are counted from 1.</p>\n\
+         <h3 id='first'>To mend first</h3><ol>\n",
+    )?;
+    push_findings(page, instance, days, first_five(found))?;
+    page.push_str("</ol>\n")
+}
+
+/// Adds ranked findings: the first of them, and then all, kind by kind in the order of the report.
+#[tactic(auto, unfolding(crate::specs::Sections::sections))]
+pub(crate) fn push_sections(
+    page: &mut String,
+    instance: &Instance,
+    days: &str,
+    found: &[Finding],
+    assessment: &Assessment,
+) -> Result<(), AllocError>
+    requires total { total assessment.now.cost < 2 ^ 64 }
+    requires found { Each (FindingFits instance.now) found.now }
+    ensures { OnOk result (string_bytes page.new
+        ≡ string_bytes page.old ++ sections instance.now days.now found.now
+        assessment.now.hard assessment.now.cost) }
+{
+    push_first(page, instance, days, found)?;
+    push_broken_rules(page, instance, days, found, &assessment.hard)?;
+    push_costs(page, instance, days, found, &assessment.cost)
 }

@@ -1,18 +1,21 @@
 //! The signs of a lecture that breaks a rule or costs points: a shape and a word each.
 
-ghost use Rattle.std.specs.Prelude.{◌≡◌, ◌<◌, ◌++◌, OnOk, string_bytes};
+ghost use Rattle.std.specs.Prelude.{◌≡◌, ◌<◌, ◌++◌, OnOk, Some, if◌then◌else◌, string_bytes};
 ghost use Rattle.std.specs.List.{AllByRecursion as Each, list_any};
 ghost use Rattle.ctt_text.specs.Problem.{slot_count};
 ghost use Rattle.ctt_text.specs.Timetable.{Fits};
 ghost use Rattle.ctt_rules.specs.Neighbours.{is_beside};
+ghost use Rattle.ctt_rules.specs.Penalty.{unseated};
 ghost use Rattle.ctt_views.specs.Grids.{GridFits, is_of};
-ghost use Rattle.ctt_views.specs.Signs.{clashes, is_alone, shares_room, sign, signs, stands_in};
+ghost use Rattle.ctt_views.specs.Signs.{clashes, cost, is_alone, shares_room, sign, signs, stands_in};
 ghost use Rattle.ctt_views.specs.Weeks.{WeekFits};
 
 use crate::grid::{Grid, is_of};
+use crate::phrases::Amount;
 use crate::week::Week;
 use ctt_text::{Instance, Placed, SlotNo};
 use std::alloc::AllocError;
+use std::fmt;
 use std::fmt::Write;
 
 /// Returns whether one of the lectures is of a course that clashes with this lecture's.
@@ -89,6 +92,7 @@ fn is_alone(instance: &Instance, week: &Week, grid: &Grid, lecture: &Placed) -> 
         Grid::Curriculum(_) => !is_beside(instance, week, grid, lecture.slot),
         Grid::Teacher(_) => false,
         Grid::Room(_) => false,
+        Grid::Course(_) => false,
     }
 }
 
@@ -98,6 +102,54 @@ fn sign(shown: bool, text: &'static str) -> &'static str
     ensures { result.now ≡ sign shown text.now }
 {
     if shown { text } else { "" }
+}
+
+/// The sign of what costs points, with the points. Displayed only if there are any.
+#[derive(Clone, Copy)]
+struct CostSign {
+    points: u64,
+    text: &'static str,
+}
+
+impl fmt::Display for CostSign {
+    ghost output = { λ c. Some (cost c.points c.text.now) };
+
+    #[tactic(auto, unfolding(crate::specs::Signs::cost))]
+    fn fmt<W: fmt::Write>(&self, f: &mut fmt::Formatter<W>) -> fmt::Result {
+        if self.points == 0 {
+            Ok(())
+        } else {
+            let text = self.text;
+            let points = Amount {
+                count: self.points,
+                noun: "point",
+            };
+            write!(f, " <i>{text}: {points}</i>")
+        }
+    }
+}
+
+/// Returns the students of a lecture for whom its room has no seat.
+fn unseated(instance: &Instance, lecture: &Placed) -> u64
+    requires { Fits instance.now lecture.now }
+    ensures { result ≡ unseated instance.now lecture.now }
+{
+    let students = instance.students(lecture.course);
+    u64::from(students.saturating_sub(instance.capacity(lecture.room)))
+}
+
+/// Returns the points of a lecture that is isolated in the curriculum of a grid, or else 0.
+fn alone_points(instance: &Instance, week: &Week, grid: &Grid, lecture: &Placed) -> u64
+    requires week { WeekFits instance.now week.now }
+    requires grid { GridFits instance.now grid.now }
+    requires lecture { Fits instance.now lecture.now }
+    ensures { result ≡ (if is_alone instance.now week.now grid.now lecture.now then 2 else 0) }
+{
+    if is_alone(instance, week, grid, lecture) {
+        2
+    } else {
+        0
+    }
 }
 
 /// Adds the signs of the rules that a lecture breaks, and of what it costs.
@@ -116,7 +168,6 @@ pub(crate) fn push_signs(
         ≡ string_bytes page.old ++ signs instance.now week.now grid.now lecture.now) }
 {
     let row = week.row(instance, lecture.slot);
-    let is_small = instance.students(lecture.course) > instance.capacity(lecture.room);
     let conflict = sign(clashes(instance, row, lecture), " <b>&#9650; conflict</b>");
     let unavailable = sign(
         instance.unavailable(lecture.course, lecture.slot),
@@ -127,10 +178,13 @@ pub(crate) fn push_signs(
         instance.barred(lecture.course, lecture.room),
         " <b>&#9632; barred</b>",
     );
-    let small = sign(is_small, " <i>&#9679; too small</i>");
-    let alone = sign(
-        is_alone(instance, week, grid, lecture),
-        " <i>&#9675; alone</i>",
-    );
+    let small = CostSign {
+        points: unseated(instance, lecture),
+        text: "&#9679; too small",
+    };
+    let alone = CostSign {
+        points: alone_points(instance, week, grid, lecture),
+        text: "&#9675; alone",
+    };
     write!(page, "{conflict}{unavailable}{taken}{barred}{small}{alone}")
 }

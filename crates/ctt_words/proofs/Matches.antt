@@ -71,7 +71,7 @@ other_name name a b other is_a is_b = true≢false (sym ((bytes_eq-Decides a b).
 task_not_several : (name : Text) (rows : List Row) (task : Task) → IsTaskBy name rows task → WantsSeveral name rows → ⊥
 task_not_several name rows (Show solution (Report json explain strict)) is several = other_name name _ _ refl is.0.0 several.0
 task_not_several name rows (Show solution (Week whose)) is several = no_several rows whose is.0.1 several.1
-task_not_several name rows (Show solution Page) is several = other_name name _ _ refl is.0 several.0
+task_not_several name rows (Show solution (Page days)) is several = other_name name _ _ refl is.0.0 several.0
 task_not_several name rows (Run script start stored) is several = other_name name _ _ refl is.0 several.0
 task_not_several name rows (Audit audited start) is several = other_name name _ _ refl is.0 several.0
 task_not_several name rows (Crew scripts) is several = other_name name _ _ refl is.0 several.0

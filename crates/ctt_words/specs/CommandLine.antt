@@ -43,9 +43,10 @@ unfoldable pub week : App
 week = command_of (codes "week") (required_word (codes "instance") ∷ required_word (codes "solution") ∷ valued (codes "barred")
     ∷ valued (codes "curriculum") ∷ valued (codes "teacher") ∷ valued (codes "course") ∷ valued (codes "room") ∷ [])
 
--- `page INSTANCE SOLUTION [--barred FILE]`
+-- `page INSTANCE SOLUTION [--barred FILE] [--days NAMES]`
 unfoldable pub page : App
-page = command_of (codes "page") (required_word (codes "instance") ∷ required_word (codes "solution") ∷ valued (codes "barred") ∷ [])
+page = command_of (codes "page") (required_word (codes "instance") ∷ required_word (codes "solution") ∷ valued (codes "barred")
+    ∷ valued (codes "days") ∷ [])
 
 -- `run INSTANCE SCRIPT [--barred FILE] [--start SOLUTION] [--journal FILE]`
 unfoldable pub run : App

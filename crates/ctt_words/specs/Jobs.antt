@@ -107,7 +107,7 @@ abbrev pub IsShowingBy : Text → List Row → Showing → Type 0
 IsShowingBy name rows (Report json explain strict) = (name ≡ codes "check")
     × IsSet rows (codes "json") json × IsSet rows (codes "explain") explain × IsSet rows (codes "strict") strict
 IsShowingBy name rows (Week whose) = (name ≡ codes "week") × (choices rows ≡ choices_of whose)
-IsShowingBy name rows Page = name ≡ codes "page"
+IsShowingBy name rows (Page days) = (name ≡ codes "page") × MayHave rows (codes "days") days
 
 -- the task is that of the command of this name, with these matches
 abbrev pub IsTaskBy : Text → List Row → Task → Type 0

@@ -83,7 +83,16 @@ Example: timedesk check comp07.ctt comp07.sol --explain",
         name: "page",
         about: "Print a page for a browser with the report, all that is found, and the weeks",
         example: "Example: timedesk page comp07.ctt comp07.sol >comp07.html",
-        arguments: &[INSTANCE, SOLUTION, BARRED],
+        arguments: &[
+            INSTANCE,
+            SOLUTION,
+            BARRED,
+            Argument::Valued(
+                "days",
+                "NAMES",
+                "The names of the days, with commas between them; a day without a name has its number",
+            ),
+        ],
     },
     Outline {
         command: Name::Run,

@@ -64,7 +64,7 @@ pub(crate) fn page_task(alloc: Global, given: &ArgMatches<'_>) -> Result<Task, A
 {
     Ok(Task::Show {
         solution: text(alloc, given, "solution")?,
-        showing: Showing::Page,
+        showing: Showing::Page(option(alloc, given, "days")?),
     })
 }
 

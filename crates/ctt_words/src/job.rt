@@ -28,8 +28,8 @@ pub enum Showing {
     },
     /// As tables of its week, for all rooms or for what is named.
     Week(Option<Whose>),
-    /// As a page for a browser.
-    Page,
+    /// As a page for a browser, with the names of days if they are given, separated by commas.
+    Page(Option<String>),
 }
 
 /// What the program is asked to do. Files are given by name.

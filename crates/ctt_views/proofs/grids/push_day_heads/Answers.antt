@@ -4,7 +4,6 @@ use Rattle.ctt_views.proofs.TextLemmas.{goes_on}
 use Rattle.ctt_views.proofs.grids.push_day_heads.Goals as goal
 
 pub loop-day-preserved : goal.loop-day-preserved
-unfolding day_head
 loop-day-preserved c =
-    goes_on day_head c.loop-day.day-counter (string_bytes c.args.page.now) (string_bytes c.loop-day.page) (string_bytes c.write.new.self) (day_head c.loop-day.day-counter)
-    c.loop-day.invariant c.in_ok-write.ensures.bytes refl
+    goes_on (day_head c.args.names.now) c.loop-day.day (string_bytes c.args.page.now) (string_bytes c.loop-day.page) (string_bytes c.push_day_head.new.page) (day_head c.args.names.now c.loop-day.day)
+    c.loop-day.invariant c.in_ok-push_day_head.ensures refl

@@ -1,11 +1,15 @@
 use Rattle.std.proofs.Common.{codes, string_bytes}
 use Rattle.ctt_views.specs.Sections.{broken_rules, section}
-use Rattle.ctt_views.proofs.TextLemmas.{five_in}
+use Rattle.ctt_views.proofs.TextLemmas.{six_in}
 use Rattle.ctt_views.proofs.sections.push_broken_rules.Goals as goal
 
 pub returns : goal.returns
 unfolding broken_rules
 returns c =
-    five_in c.push_section-5.result (string_bytes c.args.page.now) (string_bytes c.push_section.new.page) (string_bytes c.push_section-2.new.page) (string_bytes c.push_section-3.new.page) (string_bytes c.push_section-4.new.page) (string_bytes c.push_section-5.new.page)
-    (section c.args.instance.now c.args.timetable.now (codes "lectures") (codes "&#9661; lectures missing or surplus: course, placed, stated")) (section c.args.instance.now c.args.timetable.now (codes "conflict") (codes "&#9650; conflict: course, course, day, period, what both have")) (section c.args.instance.now c.args.timetable.now (codes "availability") (codes "&#9660; unavailable: course, day, period")) (section c.args.instance.now c.args.timetable.now (codes "occupancy") (codes "&#9670; room taken: room, day, period, course")) (section c.args.instance.now c.args.timetable.now (codes "barred") (codes "&#9632; barred: course, room, day, period"))
-    c.in_ok-push_section.ensures c.in_ok-push_section-2.ensures c.in_ok-push_section-3.ensures c.in_ok-push_section-4.ensures c.push_section-5.ensures
+    let i = c.args.instance.now in
+    let days = c.args.days.now in
+    let found = c.args.found.now in
+    let hard = c.args.hard.now in
+    six_in c.push_section-5.result (string_bytes c.args.page.now) (string_bytes c.push_str.new.self) (string_bytes c.push_section.new.page) (string_bytes c.push_section-2.new.page) (string_bytes c.push_section-3.new.page) (string_bytes c.push_section-4.new.page) (string_bytes c.push_section-5.new.page)
+    (codes "<h3 id='hard'>Hard rules</h3>\n") (section i days found (codes "lectures") (codes "&#9661; lectures missing or surplus") hard.lectures (codes "lecture")) (section i days found (codes "conflict") (codes "&#9650; conflict") hard.conflicts (codes "time")) (section i days found (codes "availability") (codes "&#9660; unavailable") hard.availability (codes "time")) (section i days found (codes "occupancy") (codes "&#9670; room taken") hard.occupancy (codes "time")) (section i days found (codes "barred") (codes "&#9632; barred") hard.barred (codes "time"))
+    c.in_ok-push_str.ensures.bytes (rw (c.head_of-lectures.ensures.kind, c.head_of-lectures.ensures.title, c.head_of-lectures.ensures.count, c.head_of-lectures.ensures.noun) at c.in_ok-push_section.ensures) (rw (c.head_of-conflict.ensures.kind, c.head_of-conflict.ensures.title, c.head_of-conflict.ensures.count, c.head_of-conflict.ensures.noun) at c.in_ok-push_section-2.ensures) (rw (c.head_of-availability.ensures.kind, c.head_of-availability.ensures.title, c.head_of-availability.ensures.count, c.head_of-availability.ensures.noun) at c.in_ok-push_section-3.ensures) (rw (c.head_of-occupancy.ensures.kind, c.head_of-occupancy.ensures.title, c.head_of-occupancy.ensures.count, c.head_of-occupancy.ensures.noun) at c.in_ok-push_section-4.ensures) (rw (c.head_of-barred.ensures.kind, c.head_of-barred.ensures.title, c.head_of-barred.ensures.count, c.head_of-barred.ensures.noun) at c.push_section-5.ensures)

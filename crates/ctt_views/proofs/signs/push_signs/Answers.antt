@@ -13,10 +13,7 @@ returns c =
       c.shares_room.ensures,
       c.sign-barred.ensures,
       c.barred.ensures,
-      c.sign-small.ensures,
-      c.students.ensures.exact,
-      c.capacity.ensures.exact,
-      c.sign-alone.ensures,
-      c.is_alone.ensures,
+      c.unseated.ensures,
+      c.alone_points.ensures,
       c.row-row.ensures.row,
     ) at c.write.ensures.bytes

@@ -1,7 +1,0 @@
-use Rattle.std.proofs.Common.{◌≡◌, ◌++◌, string_bytes}
-use Rattle.ctt_views.specs.GridTexts.{each_below, grid_text}
-use Rattle.ctt_views.specs.declared.grid.Grid.TheVariants.{Curriculum}
-use Rattle.ctt_views.proofs.grids.push_curricula.Given as goal
-
-abbrev pub invariant-loop-number : goal.invariant-loop-number
-invariant-loop-number l = string_bytes l.page ≡ string_bytes l.initial.page ++ each_below (λ n. grid_text l.instance l.week (Curriculum n)) l.number
