@@ -71,7 +71,8 @@ class Browser:
 
 def write_page(file, instance, solution):
     with open(file, "wb") as page:
-        subprocess.run([PROGRAM, "page", instance, solution], stdout=page, check=True)
+        folder, name = os.path.split(solution)
+        subprocess.run([PROGRAM, "page", instance, name], stdout=page, check=True, cwd=folder)
 
 
 def main():

@@ -43,6 +43,8 @@ style_lines = codes ":root { color-scheme: light dark; --broken: #b00020; --cost
     ∷ codes "  ul { columns: 16rem; }"
     ∷ codes "  section div { font-size: 0.8em; overflow: visible; }"
     ∷ codes "  section td { min-width: 0; }"
+    ∷ codes "  section th:first-child { background: none; position: static; }"
+    ∷ codes "  section th:first-child::after { content: none; }"
     ∷ codes "}"
     ∷ []
 

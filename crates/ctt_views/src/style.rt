@@ -48,6 +48,8 @@ td:target { outline-offset: -3px; scroll-margin: 40vh 7rem; }
   ul { columns: 16rem; }
   section div { font-size: 0.8em; overflow: visible; }
   section td { min-width: 0; }
+  section th:first-child { background: none; position: static; }
+  section th:first-child::after { content: none; }
 }
 ";
 
