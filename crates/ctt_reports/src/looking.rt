@@ -1,7 +1,7 @@
 //! The commands `week` and `page`.
 
 ghost use Rattle.std.specs.Prelude.{◌≡◌, None, IfOk, IfErr, string_bytes};
-ghost use Rattle.ctt_text.specs.Timetable.{IsTimetable};
+ghost use Rattle.ctt_problem.specs.Timetable.{IsTimetable};
 ghost use Rattle.ctt_files.specs.Answers.{IsTextAlone};
 ghost use Rattle.ctt_files.specs.declared.outcome.Outcome.TheVariants.{Done};
 ghost use Rattle.ctt_views.specs.Page.{IsPage};
@@ -12,7 +12,7 @@ ghost use Rattle.ctt_reports.specs.Subjects.{Shows};
 
 use crate::subject::{Subject, fetch_subject};
 use ctt_files::{Fault, Files, Outcome, Printed};
-use ctt_text::{NoMemory, let_go};
+use ctt_problem::{NoMemory, let_go};
 use ctt_views::{page_text, week_text};
 use ctt_words::Whose;
 use std::alloc::Global;
