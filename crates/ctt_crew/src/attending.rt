@@ -15,7 +15,7 @@ use ctt_edits::Call;
 use ctt_grid::GridSheet;
 use ctt_script::{Lines, has_words, read_own_line, write_bad_line};
 use ctt_seat::{Seat, write_told};
-use ctt_text::{Instance, NoMemory, let_go};
+use ctt_problem::{Instance, NoMemory, let_go};
 use std::alloc::{AllocError, Global};
 use std::marker::{Model, PhantomData};
 use std::snapshot::Snapshot;

@@ -10,7 +10,7 @@ use crate::crew_fault::CrewFault;
 use ctt_board::Timetable;
 use ctt_desk::{Closed, Naming, Planner, SharedDesk};
 use ctt_seat::{closing_report, end_desk};
-use ctt_text::let_go;
+use ctt_problem::let_go;
 use std::alloc::Global;
 use std::sync::Wait;
 

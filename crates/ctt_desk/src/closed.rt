@@ -10,7 +10,7 @@ use crate::naming::Naming;
 use ctt_board::Timetable;
 use ctt_core::JournalEntry;
 use ctt_rules::Cost;
-use ctt_text::{NoMemory, Placed};
+use ctt_problem::{NoMemory, Placed};
 use std::marker::Model;
 
 /// What a closed desk leaves: its journal and its timetable. Contracts see the journal.

@@ -1,8 +1,8 @@
 -- The report with its findings.
 use Rattle.std.proofs.Common.{◌≡◌, ℕ, Bool, true, false, List, [], ◌∷◌, ◌++◌, refl, ◌∙◌, sym, ap, subst, append-nil}
 use Rattle.std.specs.List.{flat_map}
-use Rattle.ctt_text.specs.Problem.{Problem, has_barred}
-use Rattle.ctt_text.specs.declared.placed.Placed.{Placed}
+use Rattle.ctt_problem.specs.Problem.{Problem, has_barred}
+use Rattle.ctt_problem.specs.declared.placed.Placed.{Placed}
 use Rattle.ctt_rules.specs.Hard.{hard_counts}
 use Rattle.ctt_rules.specs.Penalty.{penalty}
 use Rattle.ctt_findings.specs.Findings.{findings}

@@ -2,7 +2,7 @@
 
 ghost use Rattle.std.specs.Prelude.{◌≡◌, ◌⊎◌, ◌++◌, ℕ, List, None, true, false, OnOk, IfOk, IfErr};
 ghost use Rattle.std.specs.Io.KnownBytes.{Appends};
-ghost use Rattle.ctt_text.specs.Timetable.{IsTimetable};
+ghost use Rattle.ctt_problem.specs.Timetable.{IsTimetable};
 ghost use Rattle.ctt_findings.specs.Findings.{findings};
 ghost use Rattle.ctt_files.specs.Output.{AppendsFront};
 ghost use Rattle.ctt_files.specs.Answers.{IsTextAlone};
@@ -17,7 +17,7 @@ use crate::subject::fetch_subject;
 use crate::told::tell;
 use ctt_files::{Fault, Files, Outcome, Printed, Sink, print};
 use ctt_findings::{report_around, report_json, report_text};
-use ctt_text::{Instance, NoMemory, Placed, let_go};
+use ctt_problem::{Instance, NoMemory, Placed, let_go};
 use std::alloc::Global;
 
 /// Returns the report on a timetable, as text or as JSON.

@@ -1,11 +1,11 @@
 //! The outcome of a check.
 
-ghost use Rattle.ctt_text.specs.Timetable.{IsTimetable};
+ghost use Rattle.ctt_problem.specs.Timetable.{IsTimetable};
 ghost use Rattle.ctt_reports.specs.Checks.{IsJudged};
 
 use ctt_files::Outcome;
 use ctt_rules::{is_complete, is_lawful};
-use ctt_text::{Instance, Placed};
+use ctt_problem::{Instance, Placed};
 
 /// Returns the outcome of a check: done, unless `strict` is set and the timetable is not complete.
 pub(crate) fn judge(instance: &Instance, timetable: &[Placed], strict: bool) -> Outcome

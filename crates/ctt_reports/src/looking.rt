@@ -10,7 +10,7 @@ ghost use Rattle.ctt_reports.specs.Subjects.{Shows};
 
 use crate::subject::fetch_subject;
 use ctt_files::{Fault, Files, Outcome, Printed};
-use ctt_text::let_go;
+use ctt_problem::let_go;
 use ctt_views::{page_text, week_text};
 use ctt_words::Whose;
 use std::alloc::Global;

@@ -2,7 +2,7 @@
 
 ghost use Rattle.std.specs.Prelude.{◌≡◌, ◌++◌, true, false, OnOk, OnErr, IfErr, string_bytes};
 ghost use Rattle.std.specs.Io.KnownBytes.{Appends};
-ghost use Rattle.ctt_text.specs.Timetable.{IsTimetable};
+ghost use Rattle.ctt_problem.specs.Timetable.{IsTimetable};
 ghost use Rattle.ctt_findings.specs.Findings.{findings};
 ghost use Rattle.ctt_findings.specs.Fitting.{FindingFits};
 ghost use Rattle.ctt_files.specs.Output.{AppendsFront};
@@ -12,7 +12,7 @@ ghost use Rattle.ctt_reports.specs.Checks.{found_text, found_texts};
 
 use ctt_files::{Fault, Sink, print, put_long};
 use ctt_findings::{Finding, Listener, Untold, push_item, push_line, tell_findings};
-use ctt_text::{Instance, Placed};
+use ctt_problem::{Instance, Placed};
 use std::alloc::{AllocError, Global};
 
 /// Adds the text of a finding.

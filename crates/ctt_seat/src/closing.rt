@@ -10,7 +10,7 @@ use ctt_desk::{Closed, Naming, SharedDesk};
 use ctt_line::push_line;
 use ctt_rules::Cost;
 use ctt_script::words_of_costs;
-use ctt_text::NoMemory;
+use ctt_problem::NoMemory;
 use std::alloc::Global;
 use std::fmt::Write;
 use std::sync::Wait;

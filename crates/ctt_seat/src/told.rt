@@ -7,7 +7,7 @@ ghost use Rattle.ctt_line.specs.Lines.{line};
 use crate::seat::Told;
 use ctt_core::Answer;
 use ctt_script::write_answer;
-use ctt_text::Instance;
+use ctt_problem::Instance;
 use std::alloc::AllocError;
 use std::fmt::Write;
 

@@ -1,8 +1,8 @@
 -- Grids: days as columns, periods as lines.
 use Rattle.std.specs.Prelude.{ℕ, zero, suc, ◌++◌, List, [], codes}
 use Rattle.std.specs.Fmt.{decimal}
-use Rattle.ctt_text.specs.Problem.{Problem, curriculum_count, room_count, slot_of, teacher_count}
-use Rattle.ctt_text.specs.declared.placed.Placed.{Placed}
+use Rattle.ctt_problem.specs.Problem.{Problem, curriculum_count, room_count, slot_of, teacher_count}
+use Rattle.ctt_problem.specs.declared.placed.Placed.{Placed}
 use Rattle.ctt_views.specs.Cells.{cell}
 use Rattle.ctt_views.specs.Escape.{escaped}
 use Rattle.ctt_views.specs.Grids.{grid_id, name_of, word_of}

@@ -1,8 +1,8 @@
 -- The findings, kind by kind, each with a link to its grid or cell.
 use Rattle.std.specs.Prelude.{ℕ, ◌++◌, List, [], Option, Some, None, codes, flat_map, if◌then◌else◌}
 use Rattle.std.specs.Str.{bytes_eq}
-use Rattle.ctt_text.specs.Problem.{Problem, course_of}
-use Rattle.ctt_text.specs.declared.placed.Placed.{Placed}
+use Rattle.ctt_problem.specs.Problem.{Problem, course_of}
+use Rattle.ctt_problem.specs.declared.placed.Placed.{Placed}
 use Rattle.ctt_findings.specs.Findings.{findings}
 use Rattle.ctt_findings.specs.Lines.{line}
 use Rattle.ctt_findings.specs.declared.finding.Cause.{Cause}

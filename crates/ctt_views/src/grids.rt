@@ -1,7 +1,7 @@
 //! Grids: days as columns, periods as lines.
 
 ghost use Rattle.std.specs.Prelude.{◌≡◌, ◌<◌, ◌++◌, OnOk, string_bytes};
-ghost use Rattle.ctt_text.specs.Problem.{slot_of};
+ghost use Rattle.ctt_problem.specs.Problem.{slot_of};
 ghost use Rattle.ctt_views.specs.Cells.{cell};
 ghost use Rattle.ctt_views.specs.GridTexts.{curriculum_grids, day_head, each_below, grid_start, grid_text, grids, line, room_grids, teacher_grids};
 ghost use Rattle.ctt_views.specs.Grids.{GridFits};
@@ -11,7 +11,7 @@ use crate::cells::push_cell;
 use crate::escape::Escaped;
 use crate::grid::{Grid, name_of, word_of};
 use crate::week::Week;
-use ctt_text::{CurriculumNo, Instance, RoomNo, TeacherNo};
+use ctt_problem::{CurriculumNo, Instance, RoomNo, TeacherNo};
 use std::alloc::AllocError;
 use std::fmt::Write;
 

@@ -2,7 +2,7 @@
 
 ghost use Rattle.std.specs.Prelude.{◌≡◌, ◌++◌, IfOk, OnOk, flat_map, string_bytes};
 ghost use Rattle.std.specs.Str.{bytes_eq};
-ghost use Rattle.ctt_text.specs.Timetable.{IsTimetable};
+ghost use Rattle.ctt_problem.specs.Timetable.{IsTimetable};
 ghost use Rattle.ctt_findings.specs.Findings.{findings};
 ghost use Rattle.ctt_findings.specs.Fitting.{FindingFits};
 ghost use Rattle.ctt_views.specs.Sections.{broken_rules, cause_grid, costs, finding_item, grid_at, item_of, kind_word, link, section, sections, slot_at};
@@ -10,7 +10,7 @@ ghost use Rattle.ctt_views.specs.Sections.{broken_rules, cause_grid, costs, find
 use crate::escape::WordsApart;
 use crate::grid::{Grid, Place};
 use ctt_findings::{Cause, Finding, Listener, Untold, push_line, tell_findings};
-use ctt_text::{Instance, NoMemory, Placed, SlotNo};
+use ctt_problem::{Instance, NoMemory, Placed, SlotNo};
 use std::alloc::{AllocError, Global};
 use std::fmt::Write;
 

@@ -9,7 +9,7 @@ ghost use Rattle.ctt_text.specs.InstancePlaces.{GivesRead, reads, room, no_rooms
 use crate::fault::ReadFault;
 use crate::instance::header::Header;
 use crate::instance::places::{read_fixed, read_new_name, read_number};
-use crate::names::Names;
+use ctt_problem::Names;
 use crate::reader::Reader;
 use std::alloc::Global;
 use std::marker::Model;
