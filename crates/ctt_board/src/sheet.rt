@@ -11,8 +11,8 @@ ghost use Rattle.ctt_board.specs.Boards.{delta};
 ghost use Rattle.ctt_board.specs.Fitting.{fits};
 
 use crate::change::Change;
-use ctt_rules::Cost;
 use ctt_problem::{CourseNo, Instance, Marks, NoMemory, Placed, RoomNo, SlotNo};
+use ctt_rules::Cost;
 use std::alloc::Global;
 
 /// A lawful timetable with look-ups by course, slot and room: a sheet, or a view of a sheet after a

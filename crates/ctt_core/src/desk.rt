@@ -20,8 +20,8 @@ use crate::laws;
 use crate::open_draft::OpenDraft;
 use crate::opening::place_all;
 use ctt_board::{Rooms, Sheet, Timetable};
-use ctt_rules::Cost;
 use ctt_problem::{Instance, NoMemory, Placed};
+use ctt_rules::Cost;
 use std::alloc::{AllocError, Global};
 use std::marker::Model;
 

@@ -9,8 +9,8 @@ use crate::fault::EditFault;
 use crate::lectures::Lectures;
 use crate::priced_edit::{PricedEdit, PricedEdits};
 use crate::shortfall::{Shortfall, Shortfalls};
-use ctt_rules::Cost;
 use ctt_problem::{Instance, NoMemory, Placed};
+use ctt_rules::Cost;
 
 /// The reply to an edit or a look.
 #[derive(Drop)]

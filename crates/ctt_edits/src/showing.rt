@@ -20,8 +20,8 @@ use crate::reading::{mark_courses, mark_taught};
 use crate::reply::Reply;
 use crate::rows_read::next_marked;
 use ctt_board::Sheet;
-use ctt_rules::Cost;
 use ctt_problem::{CourseNo, CurriculumNo, Marks, NoMemory, Placed, TeacherNo};
+use ctt_rules::Cost;
 use std::alloc::Global;
 
 /// Returns the lectures of the marked courses, course by course.

@@ -16,8 +16,8 @@ use crate::finding::Finding;
 use crate::listener::{Listener, tell};
 use crate::rows::Rows;
 use crate::untold::Untold;
-use ctt_rules::{count_alone, mark_slots};
 use ctt_problem::{CourseNo, CurriculumNo, Instance, Marks, Placed};
+use ctt_rules::{count_alone, mark_slots};
 use std::alloc::Global;
 use std::slice::from_ref;
 

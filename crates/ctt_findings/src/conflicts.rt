@@ -12,8 +12,8 @@ ghost use Rattle.ctt_findings.specs.Hearing.{Hears, HearsFront};
 use crate::finding::{Cause, Finding};
 use crate::listener::{Listener, tell};
 use crate::untold::Untold;
-use ctt_rules::{course_row, hard_counts, mark_slots};
 use ctt_problem::{CourseNo, CurriculumNo, Instance, Marks, Placed};
+use ctt_rules::{course_row, hard_counts, mark_slots};
 
 /// Returns the least curriculum that has both courses, or the number of curricula if none has.
 fn common_curriculum(instance: &Instance, course: CourseNo, other: CourseNo) -> CurriculumNo

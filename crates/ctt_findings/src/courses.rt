@@ -8,8 +8,8 @@ ghost use Rattle.ctt_findings.specs.Hearing.{Hears, HearsFront};
 use crate::finding::Finding;
 use crate::listener::{Listener, tell};
 use crate::untold::Untold;
-use ctt_rules::{course_cost, course_row};
 use ctt_problem::{CourseNo, Instance, Placed};
+use ctt_rules::{course_cost, course_row};
 
 /// A rule that is checked for each course by its lectures.
 pub(crate) trait OfCourse {

@@ -11,8 +11,8 @@ ghost use Rattle.ctt_findings.specs.Objects.{item_texts};
 ghost use Rattle.ctt_findings.specs.ReportText.{IsExplainedJson, IsJsonReport, explained_json_of, is_bracket, members_of, with_barred, with_cost, with_hard};
 
 use crate::members::{put_count, put_text};
-use ctt_rules::{Assessment, Cost, Hard, assess};
 use ctt_problem::{Instance, NoMemory, Placed};
+use ctt_rules::{Assessment, Cost, Hard, assess};
 use serde_json::{Map, Value};
 use std::alloc::{AllocError, Global};
 

@@ -7,8 +7,8 @@ ghost use Rattle.ctt_rules.specs.Penalty.{total};
 ghost use Rattle.ctt_findings.specs.ReportText.{IsTextReport, answer_word, barred_line, line, text_of};
 
 use ctt_line::{Word, push_line};
-use ctt_rules::{Assessment, assess};
 use ctt_problem::{Instance, NoMemory, Placed};
+use ctt_rules::{Assessment, assess};
 use std::alloc::{AllocError, Global};
 
 /// Adds a line with a key and its value.

@@ -4,8 +4,8 @@ ghost use Rattle.std.specs.Prelude.{◌≡◌, IfOk};
 ghost use Rattle.std.specs.List.{AllByRecursion as Each};
 ghost use Rattle.ctt_problem.specs.Timetable.{IsTimetable, Fits, course_row};
 
-use ctt_rules::course_row;
 use ctt_problem::{CourseNo, Instance, NoMemory, Placed};
+use ctt_rules::course_row;
 use std::alloc::Global;
 use std::marker::Model;
 

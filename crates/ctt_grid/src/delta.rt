@@ -11,8 +11,8 @@ ghost use Rattle.ctt_board.specs.Costs.{touches, touches_curriculum, courses_cos
 
 use arrayvec::ArrayVec;
 use ctt_board::{After, Cell, Change, Rooms};
-use ctt_rules::{count_alone, mark_slots};
 use ctt_problem::{CourseNo, CurriculumNo, Instance, Marks, Placed, SlotNo};
+use ctt_rules::{count_alone, mark_slots};
 
 /// Returns the lectures of a course, by slot.
 fn row<R: Rooms>(after: &After<R>, course: CourseNo) -> ArrayVec<Placed, 2000>

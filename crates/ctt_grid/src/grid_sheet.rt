@@ -16,8 +16,8 @@ use crate::later::Later;
 use crate::laws;
 use crate::tables::Tables;
 use ctt_board::{Cell, Change, Rooms, Sheet, Timetable, last_room};
-use ctt_rules::Cost;
 use ctt_problem::{CourseNo, Instance, Marks, NoMemory, Placed, RoomNo, SlotNo};
+use ctt_rules::Cost;
 use std::alloc::{AllocError, Global};
 use std::marker::Model;
 

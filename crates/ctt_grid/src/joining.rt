@@ -10,8 +10,8 @@ ghost use Rattle.ctt_grid.specs.Seen.{seen_day, seen_room, seen_lectures, seen_d
 
 use crate::later::Later;
 use crate::meeting::meetings;
-use ctt_rules::Cost;
 use ctt_problem::{Instance, Placed};
+use ctt_rules::Cost;
 
 /// The increases and decreases in the costs of a timetable if a lecture is added, in points.
 #[derive(Clone, Copy, Default, PartialEq, Eq)]

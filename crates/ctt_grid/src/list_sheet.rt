@@ -12,8 +12,8 @@ use crate::fitting::fits;
 use crate::laws;
 use crate::standing::standing_in;
 use ctt_board::{Cell, Change, Rooms, Sheet, Timetable};
-use ctt_rules::Cost;
 use ctt_problem::{CourseNo, Instance, Marks, NoMemory, Placed, RoomNo, SlotNo, is_before};
+use ctt_rules::Cost;
 use std::alloc::{AllocError, Global};
 use std::marker::Model;
 

@@ -4,8 +4,8 @@ ghost use Rattle.ctt_problem.specs.Timetable.{IsTimetable};
 ghost use Rattle.ctt_reports.specs.Checks.{IsJudged};
 
 use ctt_files::Outcome;
-use ctt_rules::{is_complete, is_lawful};
 use ctt_problem::{Instance, Placed};
+use ctt_rules::{is_complete, is_lawful};
 
 /// Returns the outcome of a check: done, unless `strict` is set and the timetable is not complete.
 pub(crate) fn judge(instance: &Instance, timetable: &[Placed], strict: bool) -> Outcome

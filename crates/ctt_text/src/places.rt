@@ -6,8 +6,8 @@ ghost use Rattle.ctt_problem.specs.Problem.{course_count, room_count};
 ghost use Rattle.ctt_text.specs.Reading.{Reads, reading, word_at};
 ghost use Rattle.ctt_problem.specs.Named.{IsWord};
 
-use ctt_problem::{CourseNo, Instance, RoomNo};
 use crate::reader::Reader;
+use ctt_problem::{CourseNo, Instance, RoomNo};
 
 /// The faults that every text has. A fault takes the number of its word, counted from 1.
 pub trait PlaceFault: Sized {

@@ -13,8 +13,8 @@ use crate::report::push_report;
 use crate::sections::push_sections;
 use crate::style::style;
 use crate::week::Week;
-use ctt_rules::assess;
 use ctt_problem::{Instance, NoMemory, Placed};
+use ctt_rules::assess;
 use std::alloc::{AllocError, Global};
 use std::fmt::Write;
 

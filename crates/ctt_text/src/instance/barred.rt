@@ -14,10 +14,10 @@ ghost use Rattle.ctt_text.specs.BarredLaws.{barred_answer, IsBarredCauseOf};
 ghost use Rattle.ctt_text.specs.declared.fault.BarredFault.{BarredFault};
 ghost use Rattle.ctt_text.specs.declared.fault.BarredFault.TheVariants.{NotText, NoMemory};
 
-use ctt_problem::{BitRows, Instance};
 use crate::fault::BarredFault;
 use crate::places::{next_course, next_fixed, next_number, next_room};
 use crate::reader::Reader;
+use ctt_problem::{BitRows, Instance};
 use std::alloc::Global;
 
 /// Parses the number of pairs, at most `greatest`.

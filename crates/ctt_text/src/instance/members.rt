@@ -6,9 +6,9 @@ ghost use Rattle.ctt_text.specs.InstancePlaces.{GivesRead, reads, member};
 ghost use Rattle.ctt_problem.specs.Lists.{with_new};
 
 use crate::fault::ReadFault;
-use ctt_problem::{CourseNo, Marks, Names};
 use crate::instance::places::read_course;
 use crate::reader::Reader;
+use ctt_problem::{CourseNo, Marks, Names};
 use std::alloc::{AllocError, Global};
 use std::marker::Model;
 

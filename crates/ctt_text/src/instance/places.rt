@@ -7,9 +7,9 @@ ghost use Rattle.ctt_text.specs.InstancePlaces.{GivesRead, reads, number_up_to, 
 ghost use Rattle.ctt_text.specs.declared.fault.ReadFault.TheVariants.{Expected, BadNumber, RepeatedName, UnknownCourse};
 
 use crate::fault::ReadFault;
-use ctt_problem::Names;
 use crate::places::{next_day_below, next_fixed, next_number, next_period_below, next_word};
 use crate::reader::Reader;
+use ctt_problem::Names;
 
 /// Parses any word.
 #[tactic(auto, using(crate::proofs::Steps::read_one), unfolding(crate::specs::Places::any))]

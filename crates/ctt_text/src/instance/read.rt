@@ -15,7 +15,6 @@ ghost use Rattle.ctt_text.specs.InstanceLaws.{answer, IsCauseOf};
 ghost use Rattle.ctt_text.specs.declared.fault.ReadFault.{ReadFault};
 ghost use Rattle.ctt_text.specs.declared.fault.ReadFault.TheVariants.{NoMemory, NotText};
 
-use ctt_problem::{BitRows, Instance, Parts, let_go};
 use crate::fault::ReadFault;
 use crate::instance::courses::{CourseSection, read_course_section};
 use crate::instance::curricula::{CurriculumSection, read_curriculum_section};
@@ -24,6 +23,7 @@ use crate::instance::places::read_fixed;
 use crate::instance::rooms::{RoomSection, read_room_section};
 use crate::instance::unavailability::read_unavailability_section;
 use crate::reader::Reader;
+use ctt_problem::{BitRows, Instance, Parts, let_go};
 use std::alloc::{AllocError, Global};
 use std::marker::Model;
 

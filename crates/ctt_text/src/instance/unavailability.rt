@@ -7,12 +7,12 @@ ghost use Rattle.ctt_problem.specs.BitRows.{marks_of, HasSize};
 ghost use Rattle.ctt_text.specs.Forms.{times};
 ghost use Rattle.ctt_text.specs.InstancePlaces.{GivesRead, reads, unavailability, all_available};
 
-use ctt_problem::{BitRows, Names};
 use crate::fault::ReadFault;
 use crate::instance::courses::CourseSection;
 use crate::instance::header::Header;
 use crate::instance::places::{read_course, read_day, read_fixed, read_period};
 use crate::reader::Reader;
+use ctt_problem::{BitRows, Names};
 use std::alloc::Global;
 
 /// Parses one period in which a course is unavailable, and marks it in the table.

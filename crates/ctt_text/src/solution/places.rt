@@ -6,10 +6,10 @@ ghost use Rattle.ctt_problem.specs.Timetable.{has_lecture};
 ghost use Rattle.ctt_text.specs.SolutionPlaces.{GivesLectures, reads_lectures, free_slot};
 
 use crate::fault::SolutionFault;
-use ctt_problem::{CourseNo, Instance, SlotNo};
 use crate::places::next_number;
 use crate::reader::Reader;
 use crate::solution::lectures::Lectures;
+use ctt_problem::{CourseNo, Instance, SlotNo};
 
 /// Parses a period of the day, and returns its slot. The course must not have a lecture in it
 /// already.

@@ -14,11 +14,11 @@ ghost use Rattle.ctt_text.specs.declared.fault.SolutionFault.{SolutionFault};
 ghost use Rattle.ctt_text.specs.declared.fault.SolutionFault.TheVariants.{NotText, NoMemory};
 
 use crate::fault::SolutionFault;
-use ctt_problem::{Instance, Placed};
 use crate::places::{next_course, next_day, next_room};
 use crate::reader::Reader;
 use crate::solution::lectures::Lectures;
 use crate::solution::places::read_slot;
+use ctt_problem::{Instance, Placed};
 use std::alloc::Global;
 
 /// Parses one entry, and adds its lecture.

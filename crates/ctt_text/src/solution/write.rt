@@ -7,8 +7,8 @@ ghost use Rattle.ctt_text.specs.SolutionText.{SolSpells};
 ghost use Rattle.ctt_problem.specs.Timetable.{Fits, IsTimetable};
 ghost use Rattle.ctt_text.specs.Written.{words_of, line_of, soltext};
 
-use ctt_problem::{Instance, NoMemory, Placed};
 use ctt_line::{Word, push_line};
+use ctt_problem::{Instance, NoMemory, Placed};
 use std::alloc::{AllocError, Global};
 
 /// Appends the line of a lecture to the text.

@@ -1,4 +1,4 @@
-use Rattle.std.proofs.Common.{map, ◌∙◌}
+use Rattle.std.proofs.Common.{◌∙◌}
 use Rattle.std.proofs.lemmas.List.{length-map}
 use Rattle.ctt_problem.proofs.instance.parts.Parts.taught.Goals as goal
 
