@@ -149,7 +149,7 @@ $(noted again) calls were made again, $(noted cut) lists of calls were not cut, 
 }
 
 try_trials 'the trials' "$trials" 23
-try_trials 'the trials of the program' "$program_trials" 18
+try_trials 'the trials of the program' "$program_trials" 16
 of_trials=$((passed + failed))
 done_without=0
 made_again=0

@@ -15,7 +15,6 @@ use Rattle.ctt_core.specs.declared.auditing.Verdict.{Verdict}
 use Rattle.ctt_core.specs.declared.auditing.Verdict.TheVariants as found
 use Rattle.ctt_core.specs.declared.journal.JournalEntry.{JournalEntry}
 use Rattle.ctt_script.specs.RunFaults.{IsCauseOf}
-use Rattle.ctt_line.specs.Lines.{line}
 use Rattle.ctt_script.specs.WrittenText.{journal_text}
 use Rattle.ctt_script.specs.declared.script_fault.ScriptFault.{ScriptFault}
 use Rattle.ctt_script.specs.declared.script_fault.ScriptFault.TheVariants as script

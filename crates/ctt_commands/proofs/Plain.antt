@@ -11,7 +11,6 @@ use Rattle.ctt_files.specs.declared.fault.Fault.{Fault}
 use Rattle.ctt_files.proofs.Plain.{IsPlain, file_text_plain, files_plain, start_plain, unwritten_more}
 use Rattle.ctt_commands.specs.Faults.{IsOpeningFault, fault_of_journal, KeptUnless}
 use Rattle.ctt_commands.specs.Refusals.{IsOfAudited, IsOfJournal, IsOfOpening, IsOfScript, IsOfScripts, IsOfCrewWork, IsOfWork}
-use Rattle.ctt_files.specs.declared.fault.Fault.TheVariants.{NoMemory}
 
 pub journal_plain : (met : JournalFault) → IsPlain (fault_of_journal met)
 journal_plain (journal.NotText byte) = tt

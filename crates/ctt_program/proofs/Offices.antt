@@ -1,26 +1,16 @@
 -- What the commands of an office print, and why they do not.
-use Rattle.std.proofs.Common.{◌≡◌, ◌<◌, ◌⊎◌, inl, inr, arith, get_or, zero, suc, sym, subst, ℕ, List, [], ◌∷◌, Option, length}
+use Rattle.std.proofs.Common.{◌≡◌, ◌<◌, ◌⊎◌, inl, inr, arith, get_or, zero, suc, sym, subst, ℕ, List, [], ◌∷◌, length}
 use Rattle.std.specs.Global.{Global}
 use Rattle.std.specs.String.{string_bytes}
 use Rattle.std.specs.declared.string.String.{String}
 use Rattle.ctt_problem.specs.Problem.{Problem}
-use Rattle.ctt_problem.specs.declared.placed.Placed.{Placed}
-use Rattle.ctt_core.specs.declared.journal.JournalEntry.{JournalEntry}
 use Rattle.ctt_files.specs.Faults.{IfUnwritten}
-use Rattle.ctt_files.specs.Texts.{Held, Holds, IsStart}
+use Rattle.ctt_files.specs.Texts.{Held, Holds}
 use Rattle.ctt_files.specs.declared.fault.Fault.{Fault}
 use Rattle.ctt_files.specs.declared.fault.Fault.TheVariants.{NoMemory}
 use Rattle.ctt_files.proofs.Plain.{IsPlain, memory_of_file, plain_written}
-use Rattle.ctt_commands.specs.Refusals.{IsLeftFault, IsOfAudited, IsOfWork}
+use Rattle.ctt_commands.specs.Refusals.{IsOfWork}
 use Rattle.ctt_program.specs.Refusals.{IsNoMinutes, IsOfMinutes, IsUnread, IsUnreadAt, IsUnreadOf}
-use Rattle.ctt_commands.specs.Texts.{IsJournalText}
-
--- why the timetable after the entries is not printed, by the files
-pub left_in : (problem : Problem) (journal : String Global) (start : Option (String Global)) (held : Held) (entries : List JournalEntry) (lectures : List Placed) (fault : Fault) → Holds held journal (λ text. IsJournalText problem text entries)
-    → IsStart problem held start lectures → IsLeftFault problem lectures fault → IsOfAudited journal start held problem fault
-left_in problem journal start held entries lectures fault is_journal is_start (inl refused) =
-    inr (entries, is_journal, inr (refused.0, refused.1, record { lectures = lectures; is_start = is_start; refused = refused.2 }, refused.3))
-left_in problem journal start held entries lectures fault is_journal is_start (inr memory) = inl (inl (memory_of_file held journal fault memory))
 
 -- why minutes are not printed, by their file
 pub minutes_in : (problem : Problem) (minutes : String Global) (held : Held) (text : List ℕ) (fault : Fault) → Holds held minutes (λ bytes. text ≡ bytes) → IsNoMinutes problem text fault ⊎ (fault ≡ NoMemory)

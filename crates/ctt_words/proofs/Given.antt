@@ -7,7 +7,8 @@ use Rattle.std.specs.Str.{bytes_eq}
 use Rattle.std.specs.declared.string.String.{String}
 use Rattle.std.proofs.lemmas.List.{length-map}
 use Rattle.clap.specs.Words.{Row, Text, all_of, first_of, subcommand_of}
-use Rattle.ctt_words.specs.CommandLine.{IsOnOrOff, is_on, timedesk}
+use Rattle.ctt_clap.specs.Flags.{IsOnOrOff}
+use Rattle.ctt_words.specs.CommandLine.{is_on, timedesk}
 use Rattle.ctt_words.specs.Jobs.{HasAll, HasScripts, IsJobIn, IsJobOf, IsTaskBy, count_given}
 use Rattle.ctt_words.specs.declared.job.Job.{Job}
 use Rattle.ctt_words.specs.declared.job.Task.{Task}

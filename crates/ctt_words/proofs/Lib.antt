@@ -1,7 +1,4 @@
 pub mod CommandSteps
-pub mod Rows
-pub mod Walks
-pub mod Entered
 pub mod Taken
 pub mod Matches
 pub mod Given

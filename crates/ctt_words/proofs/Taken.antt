@@ -16,8 +16,8 @@ use Rattle.ctt_words.specs.Jobs.{HasFlags, HasFlagsOf, IsMatched, IsWhole, wante
 use Rattle.ctt_words.specs.Outlines.{named}
 use Rattle.ctt_words.specs.declared.outline.Name.{Name}
 use Rattle.ctt_words.specs.declared.outline.Name.TheVariants as by
-use Rattle.ctt_words.proofs.Rows.{all_in, is_giving}
-use Rattle.ctt_words.proofs.Entered.{enters, has_flag, has_required, is_flag, is_required, not_help}
+use Rattle.ctt_clap.proofs.Rows.{all_in, is_giving}
+use Rattle.ctt_clap.proofs.Entered.{enters, has_flag, has_required, is_flag, is_required, not_help}
 
 -- the command requires the instance and this argument
 abbrev requires : Shape → Text → Bool

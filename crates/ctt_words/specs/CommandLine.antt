@@ -1,5 +1,5 @@
 -- The command line of the program, as far as `clap` parses words by it, and what `clap` finds.
-use Rattle.std.specs.Prelude.{◌≡◌, ◌⊎◌, ℕ, Bool, List, [], ◌∷◌, codes, true, false, Option, Some, None}
+use Rattle.std.specs.Prelude.{◌≡◌, ℕ, Bool, List, [], ◌∷◌, codes, true, false, Option, Some, None}
 use Rattle.std.specs.Str.{bytes_eq}
 use Rattle.clap.specs.Lexer.{usize_max}
 use Rattle.clap.specs.Simple.{on_top}
@@ -100,11 +100,6 @@ timedesk = with_commands bare apps
 pub record IsCommand (app : App) (made : Command) : Type 0 where
   pub reads_by : app_of made ≡ app
   pub is_local : (out-Command made).has_globals ≡ false
-
--- what is found for an option without a value: nothing, `true` or `false`
-abbrev pub IsOnOrOff : Option Text → Type 0
-IsOnOrOff None = Unit {0}
-IsOnOrOff (Some text) = (text ≡ codes "true") ⊎ (text ≡ codes "false")
 
 -- the option is given
 abbrev pub is_on : Option Text → Bool

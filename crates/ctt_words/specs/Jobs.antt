@@ -6,7 +6,8 @@ use Rattle.std.specs.declared.string.String.{String}
 use Rattle.clap.specs.Words.{IsAmong, Kinds, Row, Text, all_of, fault_of, first_of, one_of, subcommand_of}
 use Rattle.clap.specs.declared.error.kind.ErrorKind.{ErrorKind}
 use Rattle.clap.specs.declared.error.kind.ErrorKind.TheVariants.{DisplayHelp, DisplayVersion, OutOfMemory}
-use Rattle.ctt_words.specs.CommandLine.{IsOnOrOff, is_on, timedesk}
+use Rattle.ctt_clap.specs.Flags.{IsOnOrOff}
+use Rattle.ctt_words.specs.CommandLine.{is_on, timedesk}
 use Rattle.ctt_words.specs.Outlines.{named}
 use Rattle.ctt_words.specs.declared.job.Job.{Job}
 use Rattle.ctt_words.specs.declared.job.Showing.{Showing}

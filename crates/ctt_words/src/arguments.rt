@@ -2,7 +2,7 @@
 
 ghost use Rattle.std.specs.Prelude.{◌≡◌, map, IfOk, IsSome};
 ghost use Rattle.clap.specs.Words.{first_of, found_of, one_of, rows_of};
-ghost use Rattle.ctt_words.specs.CommandLine.{IsOnOrOff};
+ghost use Rattle.ctt_clap.specs.Flags.{IsOnOrOff};
 ghost use Rattle.ctt_words.specs.Jobs.{Has, HasAll, IsSet, MayHave, count_given};
 
 use clap::ArgMatches;

@@ -1,10 +1,10 @@
-use Rattle.std.proofs.Common.{rules, ◌≡◌, inl, inr, sym, subst}
+use Rattle.std.proofs.Common.{rules, inl, inr, sym, subst}
 use Rattle.std.specs.List.{AllByRecursion as Each}
 use Rattle.ctt_problem.specs.Timetable.{Fits}
 use Rattle.ctt_core.specs.Audits.{IsVerdict}
 use Rattle.ctt_core.specs.Entries.{EntryFits}
 use Rattle.ctt_files.specs.Refusals.{IsOfStart}
-use Rattle.ctt_files.specs.Texts.{Held, Holds, IsStart}
+use Rattle.ctt_files.specs.Texts.{Held, IsStart}
 use Rattle.ctt_files.proofs.Plain.{passed_on}
 use Rattle.ctt_commands.specs.Refusals.{IsOfAudited}
 use Rattle.ctt_commands.proofs.Audited.{finds_in}

@@ -3,7 +3,7 @@ use Rattle.std.specs.List.{AllByRecursion as Each}
 use Rattle.ctt_problem.specs.Timetable.{Fits}
 use Rattle.ctt_trials.proofs.sheets.play.Goals as goal
 
-pub placed-requires : goal.placed-requires
-placed-requires g c κs =
+pub place_all-requires : goal.place_all-requires
+place_all-requires g c κs =
     let fit : Each (Fits c.args.script.now.small.now) c.args.script.now.opening.now = c.args.script.now.timetable.fits in
     search rules

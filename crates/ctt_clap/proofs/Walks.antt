@@ -11,7 +11,7 @@ use Rattle.clap.specs.Kinds.{Kinds, or_else}
 use Rattle.clap.specs.declared.error.kind.ErrorKind.TheVariants.{TooManyValues}
 use Rattle.clap.specs.Simple.{Shape}
 use Rattle.clap.specs.Walk.{Held, Names, Outcome, Rule, Step, Text, Waiting, Walk, after_flag, after_step, answers_to, arg_by_id, arg_by_index, arg_by_long, arg_by_short, attached_value, bundle, bundle_met, bundle_step, done, flag_met, has_long, has_short, idle, is_pending, long_met, nothing_held, long_or_other, next, option, option_met, option_word, plain, plain_word, positional, pushed, reacted, refused, rows_after, settled, short_met, stop_after, short_or_plain, subcommand, subcommand_met, subcommand_or_other, takes_several, takes_values, to_positional, trailing, value, waits, walk, walk_from, walked, walked_from, word_met}
-use Rattle.ctt_words.proofs.Rows.{AreRows, IsIn, all_in, defaults_rows, found_in, is_giving, nil_first, nil_second, settled_are, used_rows}
+use Rattle.ctt_clap.proofs.Rows.{AreRows, IsIn, all_in, defaults_rows, found_in, is_giving, nil_first, nil_second, settled_are, used_rows}
 
 module _ (c : List Rule) (gives : list_all is_giving c ≡ true) (again : Bool) where
   reacted_rows : (a : Rule) (values : List Text) (h : Held) → IsIn a c → react_fault c again a values h ≡ [] → AreRows c h.rows → AreRows c (reacted c a values h).rows

@@ -20,9 +20,9 @@ use Rattle.clap.specs.declared.error.kind.ErrorKind.{ErrorKind}
 use Rattle.clap.specs.declared.builder.value_parser.ValueParser.{ValueParser}
 use Rattle.clap.specs.declared.builder.value_parser.ValueParser.TheVariants.{Bool as Switch}
 use Rattle.clap.proofs.OnLiterals.{clap_on_literals}
-use Rattle.ctt_words.specs.CommandLine.{IsOnOrOff}
-use Rattle.ctt_words.proofs.Rows.{AreRows, FirstPasses, IsIn, IsRow, all_in, found_holds, found_in, is_giving, none_in, one_in}
-use Rattle.ctt_words.proofs.Walks.{MayStop, level_below, level_checked, level_rows, level_stops}
+use Rattle.ctt_clap.specs.Flags.{IsOnOrOff}
+use Rattle.ctt_clap.proofs.Rows.{AreRows, FirstPasses, IsIn, IsRow, all_in, found_holds, found_in, is_giving, none_in, one_in}
+use Rattle.ctt_clap.proofs.Walks.{MayStop, level_below, level_checked, level_rows, level_stops}
 
 -- ---- the checks after the walk
 
