@@ -1,5 +1,4 @@
-//! Instances of curriculum-based course timetabling, their timetables, and the sets and tables of
-//! which both are made.
+//! Instances of curriculum-based course timetabling, and their timetables.
 #![tactic(auto)]
 
 mod bit_rows;

@@ -1,4 +1,4 @@
-//! The text formats of instances and of barred rooms.
+//! The text formats of instances and barred rooms.
 
 mod barred;
 mod courses;
