@@ -1,5 +1,5 @@
 -- How a solution is shown, and why it is not.
-use Rattle.std.specs.Prelude.{◌≡◌, Bool, true, false, List, Option, None}
+use Rattle.std.specs.Prelude.{◌≡◌, Bool, true, false, List, ℕ, Option, None, string_bytes}
 use Rattle.std.specs.Global.{Global}
 use Rattle.std.specs.declared.string.String.{String}
 use Rattle.ctt_text.specs.Problem.{Problem}
@@ -21,7 +21,7 @@ use Rattle.ctt_reports.specs.Subjects.{Shows}
 
 -- whether all findings are asked for, which are printed as they are found
 abbrev pub explains : Showing → Bool
-explains (Report json explain strict) = explain
+explains (Report form explain strict) = explain
 explains showing = false
 
 -- whose week is shown, if one is named
@@ -29,16 +29,16 @@ abbrev pub whose_of : Showing → Option Whose
 whose_of (Week whose) = whose
 whose_of showing = None
 
--- a timetable is shown this way by the text, and the command has this outcome
-abbrev pub IsShown : Showing → Problem → Option Selection → List Placed → Printed → Type 0
-IsShown (Report json explain strict) i selection t p = IsReport json i t p.text.items × IsJudged strict i t p.outcome
-IsShown (Week whose) i selection t p = (p.text.items ≡ week i selection t) × (p.outcome ≡ Done)
-IsShown Page i selection t p = IsPage i t p.text.items × (p.outcome ≡ Done)
+-- the timetable of a file is shown this way by the text, and the command has this outcome
+abbrev pub IsShown : Showing → List ℕ → Problem → Option Selection → List Placed → Printed → Type 0
+IsShown (Report form explain strict) file i selection t p = IsReport form file i t p.text.items × IsJudged strict i t p.outcome
+IsShown (Week whose) file i selection t p = (p.text.items ≡ week i selection t) × (p.outcome ≡ Done)
+IsShown Page file i selection t p = IsPage i t p.text.items × (p.outcome ≡ Done)
 
 -- the solution in a file is shown this way
 abbrev pub ShowsSolution : Showing → String Global → Option (String Global) → String Global → Held → Printed → Type 0
 ShowsSolution showing instance barred solution held p =
-    Shows (λ i selection t. IsShown showing i selection t p) instance barred (whose_of showing) solution held × IsTextAlone p
+    Shows (λ i selection t. IsShown showing (string_bytes solution) i selection t p) instance barred (whose_of showing) solution held × IsTextAlone p
 
 -- why the solution is not shown
 abbrev pub IsOfShowing : Showing → Held → String Global → Option (String Global) → String Global → Fault → Type 0
