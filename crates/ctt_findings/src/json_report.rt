@@ -1,6 +1,6 @@
 //! The report on a timetable as JSON, without its findings or around them.
 
-ghost use Rattle.std.specs.Prelude.{◌≡◌, ◌++◌, ◌^◌, ◌<◌, false, IfOk, OnOk, codes, position};
+ghost use Rattle.std.specs.Prelude.{◌≡◌, ◌++◌, ◌^◌, ◌<◌, false, length, IfOk, OnOk, codes, position};
 ghost use Rattle.serde_json.specs.Data.{array, boolean, no_items, object, put as with_member};
 ghost use Rattle.serde_json.specs.View.{members_view};
 ghost use Rattle.serde_json.specs.Written.{compact_text, has_float};
@@ -155,10 +155,11 @@ pub fn report_around(
     timetable: &[Placed],
 ) -> Result<(Vec<u8>, Vec<u8>), NoMemory>
     requires { IsTimetable instance.now timetable.now }
-    ensures { IfOk result (λ parts. IsExplainedJson instance.now timetable.now
+    ensures parts { IfOk result (λ parts. IsExplainedJson instance.now timetable.now
         (parts.0.items
         ++ (item_texts instance.now false (findings instance.now timetable.now)
         ++ parts.1.items))) }
+    ensures front { IfOk result (λ parts. 0 < length parts.0.items) }
 {
     let barred = instance.has_barred();
     let assessment = assess(instance, timetable);

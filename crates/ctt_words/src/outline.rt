@@ -25,6 +25,7 @@ pub(crate) enum Argument {
 #[derive(Clone, Copy)]
 pub(crate) enum Name {
     Check,
+    Compare,
     Week,
     Page,
     Run,
@@ -34,6 +35,7 @@ pub(crate) enum Name {
     Journal,
     List,
     Mend,
+    Where,
 }
 
 /// A command with its texts for the help and its arguments.
