@@ -3,7 +3,7 @@ use Rattle.std.proofs.Common.{◌≡◌, ⊎_elim, ◌∷◌, [], ◌∙◌, inl
 use Rattle.std.specs.Global.{Global}
 use Rattle.std.specs.String.{string_bytes}
 use Rattle.std.specs.declared.string.String.{String}
-use Rattle.ctt_text.specs.Problem.{Problem}
+use Rattle.ctt_problem.specs.Problem.{Problem}
 use Rattle.ctt_text.specs.BarredPlaces as barred
 use Rattle.ctt_text.specs.InstancePlaces as instance
 use Rattle.ctt_text.specs.SolutionPlaces.{lacks_memory}

@@ -4,15 +4,15 @@ ghost use Rattle.std.specs.Prelude.{◌≡◌, ◌++◌, ◌^◌, ◌<◌, false
 ghost use Rattle.serde_json.specs.Data.{array, boolean, no_items, object, put as with_member};
 ghost use Rattle.serde_json.specs.View.{members_view};
 ghost use Rattle.serde_json.specs.Written.{compact_text, has_float};
-ghost use Rattle.ctt_text.specs.Timetable.{IsTimetable};
+ghost use Rattle.ctt_problem.specs.Timetable.{IsTimetable};
 ghost use Rattle.ctt_rules.specs.Penalty.{total};
 ghost use Rattle.ctt_findings.specs.Findings.{findings};
 ghost use Rattle.ctt_findings.specs.Objects.{item_texts};
 ghost use Rattle.ctt_findings.specs.ReportText.{IsExplainedJson, IsJsonReport, explained_json_of, is_bracket, members_of, with_barred, with_cost, with_hard};
 
 use crate::members::{put_count, put_text};
+use ctt_problem::{Instance, NoMemory, Placed};
 use ctt_rules::{Assessment, Cost, Hard, assess};
-use ctt_text::{Instance, NoMemory, Placed};
 use serde_json::{Map, Value};
 use std::alloc::{AllocError, Global};
 

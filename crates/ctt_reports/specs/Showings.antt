@@ -2,8 +2,8 @@
 use Rattle.std.specs.Prelude.{◌≡◌, ℕ, Bool, true, false, List, [], Option, Some, None, string_bytes}
 use Rattle.std.specs.Global.{Global}
 use Rattle.std.specs.declared.string.String.{String}
-use Rattle.ctt_text.specs.Problem.{Problem}
-use Rattle.ctt_text.specs.declared.placed.Placed.{Placed}
+use Rattle.ctt_problem.specs.Problem.{Problem}
+use Rattle.ctt_problem.specs.declared.placed.Placed.{Placed}
 use Rattle.ctt_files.specs.Answers.{IsTextAlone}
 use Rattle.ctt_files.specs.Texts.{Held}
 use Rattle.ctt_files.specs.declared.fault.Fault.{Fault}

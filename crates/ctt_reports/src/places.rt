@@ -2,7 +2,8 @@
 
 ghost use Rattle.std.specs.Prelude.{◌≡◌, ◌+◌, ◌++◌, ◌≤◌, ◌<◌, [], count_by, drop, flat_map, length, not, position, take, IfNone, IfSome, IfOk, OnOk};
 ghost use Rattle.std.specs.List.{position_or_len};
-ghost use Rattle.ctt_text.specs.Words.{IsFirstWord, is_blank, words};
+ghost use Rattle.ctt_text.specs.Words.{IsFirstWord, words};
+ghost use Rattle.ctt_problem.specs.Named.{is_blank};
 ghost use Rattle.ctt_reports.specs.Places.{HasNoWord, IsWordAt, begins_char, below, first_line, is_feed, last_line};
 
 use std::alloc::{AllocError, Global};

@@ -1,6 +1,6 @@
 use Rattle.std.proofs.Common.{◌∙◌, ap, arith, length, sym, take}
 use Rattle.std.proofs.lemmas.List.{take_all}
-use Rattle.ctt_text.proofs.WordLemmas.{position_is, position_none}
+use Rattle.ctt_problem.proofs.ListLaws.{position_is, position_none}
 use Rattle.ctt_reports.specs.Places.{is_feed}
 use Rattle.ctt_reports.proofs.places.first_line.Goals as goal
 

@@ -1,5 +1,5 @@
 use Rattle.std.proofs.Common.{rules}
-use Rattle.ctt_text.specs.Words.{is_blank}
+use Rattle.ctt_problem.specs.Named.{is_blank}
 use Rattle.ctt_reports.proofs.places.is_blank.Goals as goal
 
 pub returns-in_default : goal.returns-in_default
