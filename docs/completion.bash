@@ -42,7 +42,8 @@ _timedesk_names() {
 _timedesk_options() {
     local option options='' one='--(course|curriculum|room|teacher)'
     case $2 in
-    check) options='--barred --explain --json --strict' ;;
+    check) options='--barred --explain --json --name --strict' ;;
+    compare) options='--barred --csv --json --strict' ;;
     week) options='--barred --course --curriculum --room --teacher' ;;
     run) options='--barred --journal --start' ;;
     audit | list) options='--barred --start' ;;
@@ -70,7 +71,7 @@ _timedesk() {
             option=
         elif [[ $word == --* ]]; then
             given+="$word "
-            [[ $word =~ ^--(json|explain|strict|help|version|unproved)$ ]] || option=$word
+            [[ $word =~ ^--(csv|json|name|explain|strict|help|version|unproved)$ ]] || option=$word
         elif [[ -z $command ]]; then
             command=$word
         else
@@ -85,11 +86,13 @@ _timedesk() {
     fi
     case $command:${option:-$place} in
     *:--course | *:--curriculum | *:--room | *:--teacher) _timedesk_names "$typed" "$option" "$instance" ;;
-    :1 | help:1) _timedesk_words "$typed" check week page run crew desk journal audit list mend help ;;
+    :1 | help:1) _timedesk_words "$typed" check compare week page run crew desk journal audit list mend where help ;;
     *:--days) _timedesk_words "$typed" mon,tue,wed,thu,fri ;;
     help:*) ;;
+    where:1) _timedesk_files "$typed" '' ;;
+    where:*) ;;
     *:1) _timedesk_files "$typed" .ctt ;;
-    *:--start | check:2 | week:2 | page:2 | mend:2) _timedesk_files "$typed" .sol ;;
+    *:--start | compare:[2-9]* | compare:1[0-9]* | check:2 | week:2 | page:2 | mend:2) _timedesk_files "$typed" .sol ;;
     *:--*) _timedesk_files "$typed" '' ;;
     desk:*)
         _timedesk_files "$typed" .in

@@ -52,18 +52,20 @@ INSTANCE
 folders=$'0 folder\nnew\nold'
 
 # commands
-offers $'audit\ncheck\ncrew\ndesk\nhelp\njournal\nlist\nmend\npage\nrun\nweek' timedesk ''
-offers $'check\ncrew' timedesk c
+offers $'audit\ncheck\ncompare\ncrew\ndesk\nhelp\njournal\nlist\nmend\npage\nrun\nweek\nwhere' timedesk ''
+offers $'check\ncompare\ncrew' timedesk c
 offers $'audit' ./timedesk au
-offers $'check\ncrew' timedesk --unproved c
+offers $'check\ncompare\ncrew' timedesk --unproved c
 offers $'list' timedesk help l
 offers '' timedesk help list ''
 offers '' timedesk frobnicate
 offers $'--help\n--version' timedesk -
 
 # options
-offers $'--barred\n--explain\n--help\n--json\n--strict' timedesk check small.ctt monday.sol -
-offers $'--barred\n--help\n--strict' timedesk check small.ctt --json monday.sol --explain --
+offers $'--barred\n--explain\n--help\n--json\n--name\n--strict' timedesk check small.ctt monday.sol -
+offers $'--barred\n--help\n--strict' timedesk check small.ctt --json --name monday.sol --explain --
+offers $'--barred\n--csv\n--help\n--strict' timedesk compare small.ctt monday.sol --json --
+offers $'--help' timedesk where small.ctt 1 --
 offers $'--explain' timedesk check --e
 offers $'--barred\n--course\n--curriculum\n--help\n--room\n--teacher' timedesk week small.ctt monday.sol --
 offers $'--barred\n--help' timedesk week small.ctt monday.sol --room A --
@@ -78,7 +80,7 @@ offers $'--barred\n--help\n--start' timedesk audit --
 offers $'--barred\n--help\n--start' timedesk list --
 offers $'--barred\n--help' timedesk mend --
 # behind the last place of a command stand options
-offers $'--barred\n--help\n--strict' timedesk check small.ctt monday.sol --json --explain ''
+offers $'--barred\n--help\n--name\n--strict' timedesk check small.ctt monday.sol --json --explain ''
 
 # files
 offers "$folders"$'\n''monday.ctt'$'\n''small.ctt'$'\n''two words.ctt' timedesk check ''
@@ -89,6 +91,9 @@ offers "$folders"$'\n''monday.sol'$'\n''tuesday.sol' timedesk run small.ctt day.
 offers $'old/a.ctt' timedesk page old/
 offers $'tuesday.sol' timedesk page small.ctt t
 offers $'tuesday.sol' timedesk mend small.ctt t
+offers $'tuesday.sol' timedesk compare small.ctt monday.sol t
+offers $'tuesday.sol' timedesk where tu
+offers '' timedesk where small.ctt ''
 offers $'tuesday.sol' timedesk week small.ctt t
 offers $'day.txt' timedesk run small.ctt d
 offers $'day.txt' timedesk crew small.ctt day.txt d

@@ -85,6 +85,7 @@ Usage: timedesk <COMMAND>
 
 Commands:
   check    Report what a solution breaks and what it costs
+  compare  Print a row for each solution, with what it breaks and what it costs
   week     Print the week as a table, with a column for each day and a line for each period
   page     Print a page for a browser with the report, all that is found, and the weeks
   run      Run a script of planners' steps and print the answers
@@ -94,6 +95,7 @@ Commands:
   journal  Print the journal of the minutes of a desk
   list     Print the timetable after a journal as a solution
   mend     Print a solution without the lectures that cannot be placed, and report each of these
+  where    Print the line and the column of a word of a file, and the line
   help     Print this message or the help of the given subcommand(s)
 
 Options:
@@ -102,6 +104,7 @@ Options:
 
 Examples:
   timedesk check comp07.ctt comp07.sol --explain
+  timedesk compare comp07.ctt monday.sol tuesday.sol --csv
   timedesk week comp07.ctt comp07.sol --teacher t067
   timedesk page comp07.ctt comp07.sol >comp07.html
   timedesk run comp07.ctt planners.txt --start comp07.sol --journal monday.journal
@@ -111,13 +114,14 @@ Examples:
   timedesk journal comp07.ctt monday.minutes >monday.journal
   timedesk list comp07.ctt monday.journal --start comp07.sol >tuesday.sol
   timedesk mend comp07.ctt comp07.sol >mended.sol
+  timedesk where comp07.ctt 14
 
 Status: 0 if it is done, also if a report says that a solution is unlawful;
 1 if the content of a file is refused, a name is not in it, or an audit does not agree; 2 if the
 words are refused; 3 if a file cannot be read, is too long, minutes exist, or output or memory fails;
 with --strict 4 if the solution is not lawful, and 5 if it is lawful but not complete.
 A refused file is one line, as in 'timedesk: instance I2 14': docs/FORMATS.md has
-each fault by its number, and how to see the word that it names.
+each fault by its number, and 'timedesk where' shows the word that it names.
 "
 check_help='Report what a solution breaks and what it costs
 
@@ -130,6 +134,7 @@ Arguments:
 Options:
       --barred <FILE>  The file of the rooms that are barred for courses; without it none are
       --json           Print the report as JSON
+      --name           Begin the JSON with the name of the solution'\''s file
       --explain        Print after the report each thing that breaks a rule or costs points
       --strict         End with status 4 if the solution is not lawful, 5 if it is lawful but not complete
   -h, --help           Print help
@@ -146,6 +151,23 @@ The lines of --explain, with days and periods counted from 0:
   stability COURSE ROOMS POINTS
 
 Example: timedesk check comp07.ctt comp07.sol --explain
+'
+compare_help='Print a row for each solution, with what it breaks and what it costs
+
+Usage: timedesk compare [OPTIONS] <INSTANCE> <SOLUTION>...
+
+Arguments:
+  <INSTANCE>     The file of the instance
+  <SOLUTION>...  The files of the solutions
+
+Options:
+      --barred <FILE>  The file of the rooms that are barred for courses; without it none are
+      --csv            Print the rows as CSV
+      --json           Print the rows as a JSON array
+      --strict         End with status 4 if a solution is not lawful, 5 if all are lawful but one is not complete
+  -h, --help           Print help
+
+Example: timedesk compare comp07.ctt monday.sol tuesday.sol --csv
 '
 week_help='Print the week as a table, with a column for each day and a line for each period
 
@@ -284,8 +306,21 @@ Options:
 
 Example: timedesk mend comp07.ctt comp07.sol >mended.sol
 '
+where_help='Print the line and the column of a word of a file, and the line
+
+Usage: timedesk where <FILE> <WORD>
+
+Arguments:
+  <FILE>  The file
+  <WORD>  The number of the word, from 1, as faults count them
+
+Options:
+  -h, --help  Print help
+
+Example: timedesk where comp07.ctt 14
+'
 no_words="error: 'timedesk' requires a subcommand but one was not provided
-  [subcommands: check, week, page, run, audit, crew, desk, journal, list, mend, help]
+  [subcommands: check, compare, week, page, run, audit, crew, desk, journal, list, mend, where, help]
 
 Usage: timedesk <COMMAND>
 
@@ -375,6 +410,8 @@ cuts 16 1 0 0 0 5 5 4 1 15 yes no
 cuts 20 0 0 0 0 15 0 4 1 20 yes yes
 run 'help' 0 "$help" '' --help
 run 'help of a command' 0 "$check_help" '' check --help
+run 'help of compare' 0 "$compare_help" '' compare --help
+run 'help of where' 0 "$where_help" '' where --help
 run 'help of week' 0 "$week_help" '' week --help
 run 'help of page' 0 "$page_help" '' page --help
 run 'help of run' 0 "$run_help" '' run --help

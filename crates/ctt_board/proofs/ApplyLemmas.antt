@@ -2,8 +2,8 @@
 use Rattle.std.proofs.Common.{◌≡◌, ℕ, Bool, true, false, not, ◌&&◌, ◌==◌, List, [], ◌∷◌, Option, Some, None, refl, ◌∙◌, sym, ap, inl, inr}
 use Rattle.std.specs.List.{filter, list_any}
 use Rattle.std.proofs.lemmas.Bool.{cases_Bool, cases_eq, ne_eqb, and_left, and_right, or_parts}
-use Rattle.ctt_text.specs.Timetable.{before, with}
-use Rattle.ctt_text.specs.declared.placed.Placed.{Placed}
+use Rattle.ctt_problem.specs.Timetable.{before, with}
+use Rattle.ctt_problem.specs.declared.placed.Placed.{Placed}
 use Rattle.ctt_rules.proofs.ListLemmas.{filter_within}
 use Rattle.ctt_board.specs.Changes.{apply_at, apply}
 use Rattle.ctt_board.specs.declared.cell.Cell.{Cell}

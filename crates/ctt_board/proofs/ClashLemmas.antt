@@ -4,9 +4,9 @@ use Rattle.std.specs.List.{find}
 use Rattle.std.specs.Option.{option_or}
 use Rattle.std.proofs.lemmas.Bool.{cases_Bool, cases_lt, lt-ltb, and_parts}
 use Rattle.std.proofs.lemmas.List.Folds.{find-append}
-use Rattle.ctt_text.specs.Marks.{IsLeast}
-use Rattle.ctt_text.specs.Problem.{Problem, course_count, clash}
-use Rattle.ctt_text.specs.declared.placed.Placed.{Placed}
+use Rattle.ctt_problem.specs.Marks.{IsLeast}
+use Rattle.ctt_problem.specs.Problem.{Problem, course_count, clash}
+use Rattle.ctt_problem.specs.declared.placed.Placed.{Placed}
 use Rattle.ctt_rules.specs.Hard.{Lawful}
 use Rattle.ctt_board.specs.Cells.{lecture_at, column_below}
 use Rattle.ctt_board.specs.Changes.{room_at, room_by, course_named, clash_at, stands_by}

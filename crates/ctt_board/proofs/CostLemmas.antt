@@ -6,12 +6,12 @@ use Rattle.std.proofs.lemmas.Bool.{cases_lt}
 use Rattle.std.proofs.lemmas.Int.{ints}
 use Rattle.std.proofs.lemmas.List.{get_or_past}
 use Rattle.std.proofs.lemmas.List.Sums.{sum_by-cons, sum_by-le}
-use Rattle.ctt_text.specs.Lists.{sum_below, has}
-use Rattle.ctt_text.specs.Problem.{Problem, IsProblem, IsSmall, IsCourseFacts, course_of, course_count, room_count}
-use Rattle.ctt_text.specs.Timetable.{IsTimetable, course_row}
-use Rattle.ctt_text.specs.declared.course_facts.CourseFacts.{CourseFacts}
-use Rattle.ctt_text.specs.declared.placed.Placed.{Placed}
-use Rattle.ctt_text.proofs.TimetableLemmas.{Each-at}
+use Rattle.ctt_problem.specs.Lists.{sum_below, has}
+use Rattle.ctt_problem.specs.Problem.{Problem, IsProblem, IsSmall, IsCourseFacts, course_of, course_count, room_count}
+use Rattle.ctt_problem.specs.Timetable.{IsTimetable, course_row}
+use Rattle.ctt_problem.specs.declared.course_facts.CourseFacts.{CourseFacts}
+use Rattle.ctt_problem.specs.declared.placed.Placed.{Placed}
+use Rattle.ctt_problem.proofs.TimetableLemmas.{Each-at}
 use Rattle.ctt_rules.specs.Penalty.{penalty, total, course_cost, row_cost, unseated, days_cost, rooms_cost, rooms_of, alone_cost, is_alone, lectures_of}
 use Rattle.ctt_rules.proofs.SumLemmas.{sum_below_le, count_below_le}
 use Rattle.ctt_rules.proofs.CurriculumLemmas.{count_lectures_le}

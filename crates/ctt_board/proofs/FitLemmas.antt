@@ -2,11 +2,11 @@
 use Rattle.std.proofs.Common.{◌≡◌, ℕ, ◌+◌, ◌<◌, Bool, true, false, cond, not, ltb, ◌&&◌, ◌==◌, List, [], ◌∷◌, length, Option, Some, None, is_some, is_none, refl, ◌∙◌, sym, ap, ap₂, subst, arith, inl, inr, ◌⊎◌}
 use Rattle.std.specs.List.{filter, find, AllByRecursion as Each}
 use Rattle.std.proofs.lemmas.Bool.{cases_Bool, and_parts, eq-eqb, lt-ltb, ltb-true}
-use Rattle.ctt_text.specs.Lists.{Pairwise}
-use Rattle.ctt_text.specs.Problem.{Problem, course_of, course_count, slot_count, room_count, clash, is_unavailable, is_barred}
-use Rattle.ctt_text.specs.Timetable.{before, Fits, course_row, slot_row, with, without}
-use Rattle.ctt_text.specs.declared.placed.Placed.{Placed}
-use Rattle.ctt_text.proofs.TimetableLemmas.{Each-map}
+use Rattle.ctt_problem.specs.Lists.{Pairwise}
+use Rattle.ctt_problem.specs.Problem.{Problem, course_of, course_count, slot_count, room_count, clash, is_unavailable, is_barred}
+use Rattle.ctt_problem.specs.Timetable.{before, Fits, course_row, slot_row, with, without}
+use Rattle.ctt_problem.specs.declared.placed.Placed.{Placed}
+use Rattle.ctt_problem.proofs.TimetableLemmas.{Each-map}
 use Rattle.ctt_rules.specs.Hard.{Lawful, IsAllowed, conflicts}
 use Rattle.ctt_board.specs.Changes.{room_at, room_of, course_named, clash_at, holder_at, apply_at, apply, in_turn, CellFits, CellsFit, ChangeFits}
 use Rattle.ctt_board.specs.Fitting.{is_known, is_allowed, is_wanted, is_unhindered, can_come, cell_fits, fits, FitsAsTested}

@@ -3,14 +3,14 @@ use Rattle.std.proofs.Common.{is_some, ◌≡◌, ℕ, suc, ◌<◌, ◌≤◌, 
 use Rattle.std.specs.List.{filter, AllByRecursion as Each}
 use Rattle.std.proofs.lemmas.Bool.Decides.{nat_tests}
 use Rattle.std.proofs.lemmas.Bool.{cases_Bool, cases_eq, eq-eqb, ne_eqb}
-use Rattle.ctt_text.specs.Problem.{Problem, course_of, clash}
-use Rattle.ctt_text.specs.Timetable.{before, Ascending, Fits, course_row, slot_row, with, without}
-use Rattle.ctt_text.specs.declared.placed.Placed.{Placed}
-use Rattle.ctt_text.proofs.TimetableLemmas.{Each-map}
+use Rattle.ctt_problem.specs.Problem.{Problem, course_of, clash}
+use Rattle.ctt_problem.specs.Timetable.{before, Ascending, Fits, course_row, slot_row, with, without}
+use Rattle.ctt_problem.specs.declared.placed.Placed.{Placed}
+use Rattle.ctt_problem.proofs.TimetableLemmas.{Each-map}
 use Rattle.ctt_rules.specs.Hard.{Lawful, IsAllowed, conflicts, share_room}
 use Rattle.ctt_rules.proofs.ListLemmas.{Each-filter, Pairwise-filter}
 use Rattle.ctt_rules.proofs.ConflictLemmas.{clash_comm}
-use Rattle.ctt_text.proofs.LectureLaws.{Each-put, before_once}
+use Rattle.ctt_problem.proofs.LectureLaws.{Each-put, before_once}
 use Rattle.ctt_board.specs.Changes.{room_at}
 use Rattle.ctt_board.proofs.PutLemmas.{filter_filter, filter-put_yes, filter-put_no, length-put, Pairwise-put, Pairwise-put_both}
 use Rattle.ctt_board.proofs.OrderLemmas.{before_goes, in_order}

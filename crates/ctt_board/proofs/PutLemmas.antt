@@ -3,9 +3,9 @@ use Rattle.std.proofs.Common.{◌≡◌, suc, Bool, true, false, cond, List, [],
 use Rattle.std.specs.List.{filter, insert, position_or_len, AllByRecursion as Each}
 use Rattle.std.proofs.lemmas.Bool.Decides.{nat_tests}
 use Rattle.std.proofs.lemmas.Bool.{cases_Bool}
-use Rattle.ctt_text.specs.Lists.{Pairwise, put}
-use Rattle.ctt_text.proofs.TimetableLemmas.{Each-map}
-use Rattle.ctt_text.proofs.LectureLaws.{Each-put}
+use Rattle.ctt_problem.specs.Lists.{Pairwise, put}
+use Rattle.ctt_problem.proofs.TimetableLemmas.{Each-map}
+use Rattle.ctt_problem.proofs.LectureLaws.{Each-put}
 use Rattle.ctt_rules.proofs.ListLemmas.{Each-filter}
 
 pub filter_filter : {X : Type 0} (p q : X → Bool) (xs : List X) → filter p (filter q xs) ≡ filter q (filter p xs)

@@ -3,9 +3,9 @@ use Rattle.std.proofs.Common.{◌≡◌, ℕ, Bool, true, false, cond, not, ◌&
 use Rattle.std.specs.List.{filter, find}
 use Rattle.std.proofs.lemmas.Bool.{cases_Bool, eq-eqb, and_parts, eqb-true}
 use Rattle.std.proofs.lemmas.Bool.Decides.{nat_tests}
-use Rattle.ctt_text.specs.Lists.{put}
-use Rattle.ctt_text.specs.Timetable.{before, with, without}
-use Rattle.ctt_text.specs.declared.placed.Placed.{Placed}
+use Rattle.ctt_problem.specs.Lists.{put}
+use Rattle.ctt_problem.specs.Timetable.{before, with, without}
+use Rattle.ctt_problem.specs.declared.placed.Placed.{Placed}
 use Rattle.ctt_board.specs.Changes.{room_at, room_of, room_by, apply_at, apply, CellFits, CellsFit}
 use Rattle.ctt_board.specs.declared.cell.Cell.{Cell}
 

@@ -2,11 +2,11 @@
 use Rattle.std.proofs.Common.{◌≡◌, ℕ, zero, suc, ◌+◌, ◌<◌, ◌≤◌, true, false, ◌==◌, eqb, ltb, List, [], ◌∷◌, ◌++◌, Some, refl, ◌∙◌, sym, ap, ap₂, arith, inl, inr}
 use Rattle.std.specs.List.{filter, find, AllByRecursion as Each}
 use Rattle.std.proofs.lemmas.Bool.{cases_eq, cases_order, eq-eqb, ne_eqb, eqb-true, lt-ltb, le-ltb}
-use Rattle.ctt_text.specs.Lists.{Pairwise}
-use Rattle.ctt_text.specs.Problem.{Problem, slot_count}
-use Rattle.ctt_text.specs.Timetable.{before, IsTimetable, Fits, course_row}
-use Rattle.ctt_text.specs.declared.placed.Placed.{Placed}
-use Rattle.ctt_text.proofs.TimetableLemmas.{Each-map}
+use Rattle.ctt_problem.specs.Lists.{Pairwise}
+use Rattle.ctt_problem.specs.Problem.{Problem, slot_count}
+use Rattle.ctt_problem.specs.Timetable.{before, IsTimetable, Fits, course_row}
+use Rattle.ctt_problem.specs.declared.placed.Placed.{Placed}
+use Rattle.ctt_problem.proofs.TimetableLemmas.{Each-map}
 use Rattle.ctt_rules.proofs.ListLemmas.{Pairwise-map, filter_none, filter_every, filter_within, Pairwise-filter, Each-filter_passes}
 use Rattle.ctt_rules.proofs.TimetableLemmas.{row_fits, row_by_slot}
 use Rattle.ctt_rules.specs.Penalty.{course_cost, row_cost}

@@ -3,9 +3,9 @@ use Rattle.std.proofs.Common.{◌≡◌, ◌<◌, ◌==◌, ◌↔◌, IsTrue, t
 use Rattle.std.specs.Option.{option_eq}
 use Rattle.std.proofs.lemmas.Bool.Decides.{nat_tests}
 use Rattle.std.specs.List.{find, filter}
-use Rattle.ctt_text.specs.Problem.{Problem, course_count, slot_count}
-use Rattle.ctt_text.specs.Timetable.{IsTimetable, course_row, slot_row}
-use Rattle.ctt_text.specs.declared.placed.Placed.{Placed}
+use Rattle.ctt_problem.specs.Problem.{Problem, course_count, slot_count}
+use Rattle.ctt_problem.specs.Timetable.{IsTimetable, course_row, slot_row}
+use Rattle.ctt_problem.specs.declared.placed.Placed.{Placed}
 use Rattle.ctt_board.specs.Changes.{room_at, room_of}
 use Rattle.ctt_board.specs.Cells.{lecture_at}
 use Rattle.ctt_board.proofs.RowLemmas.{course_row_is}

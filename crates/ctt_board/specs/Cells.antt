@@ -1,6 +1,6 @@
 -- A timetable by the room, if any, of each course in each slot.
 use Rattle.std.specs.Prelude.{ℕ, zero, suc, List, [], ◌∷◌, ◌++◌, Option, Some, None}
-use Rattle.ctt_text.specs.declared.placed.Placed.{Placed}
+use Rattle.ctt_problem.specs.declared.placed.Placed.{Placed}
 
 -- the lecture of course c in slot s, if a room is given, as a list
 abbrev pub lecture_at : ℕ → ℕ → Option ℕ → List Placed

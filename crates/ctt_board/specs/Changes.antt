@@ -2,9 +2,9 @@
 use Rattle.std.specs.Prelude.{ℕ, ◌+◌, ◌-◌, Bool, true, false, cond, not, ◌&&◌, ◌||◌, ◌==◌, List, [], ◌∷◌, length, count_by, nat_le, Option, Some, None, is_some, is_none, IsSome, IsNone}
 use Rattle.std.specs.Option.{option_map, option_eq}
 use Rattle.std.specs.List.{find}
-use Rattle.ctt_text.specs.Problem.{Problem, clash}
-use Rattle.ctt_text.specs.Timetable.{course_row, slot_row, with, without}
-use Rattle.ctt_text.specs.declared.placed.Placed.{Placed}
+use Rattle.ctt_problem.specs.Problem.{Problem, clash}
+use Rattle.ctt_problem.specs.Timetable.{course_row, slot_row, with, without}
+use Rattle.ctt_problem.specs.declared.placed.Placed.{Placed}
 use Rattle.ctt_rules.specs.Hard.{Lawful}
 use Rattle.ctt_board.specs.declared.cell.Cell.{Cell}
 

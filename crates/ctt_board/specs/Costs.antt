@@ -1,9 +1,9 @@
 -- The costs of the courses and curricula that cells touch.
 use Rattle.std.specs.Prelude.{ℕ, Bool, cond, List, sum_by, ◌==◌}
 use Rattle.std.specs.List.{list_any}
-use Rattle.ctt_text.specs.Lists.{sum_below, has}
-use Rattle.ctt_text.specs.Problem.{Problem, course_count}
-use Rattle.ctt_text.specs.declared.placed.Placed.{Placed}
+use Rattle.ctt_problem.specs.Lists.{sum_below, has}
+use Rattle.ctt_problem.specs.Problem.{Problem, course_count}
+use Rattle.ctt_problem.specs.declared.placed.Placed.{Placed}
 use Rattle.ctt_rules.specs.Penalty.{course_cost, total, alone_cost, lectures_of}
 use Rattle.ctt_board.specs.declared.cell.Cell.{Cell}
 

@@ -1,8 +1,8 @@
 -- The test whether a change fits.
 use Rattle.std.specs.Prelude.{◌≡◌, ◌↔◌, ℕ, Bool, true, false, not, ◌&&◌, nat_lt, List, [], ◌∷◌, length, Option, Some, None, is_some, is_none}
-use Rattle.ctt_text.specs.Problem.{Problem, course_of, course_count, slot_count, room_count, is_unavailable, is_barred}
-use Rattle.ctt_text.specs.Timetable.{course_row}
-use Rattle.ctt_text.specs.declared.placed.Placed.{Placed}
+use Rattle.ctt_problem.specs.Problem.{Problem, course_of, course_count, slot_count, room_count, is_unavailable, is_barred}
+use Rattle.ctt_problem.specs.Timetable.{course_row}
+use Rattle.ctt_problem.specs.declared.placed.Placed.{Placed}
 use Rattle.ctt_rules.specs.Hard.{Lawful}
 use Rattle.ctt_board.specs.Changes.{room_at, clash_at, holder_at, apply_at, in_turn, ChangeFits}
 use Rattle.ctt_board.specs.declared.cell.Cell.{Cell}

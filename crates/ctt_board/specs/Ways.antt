@@ -1,7 +1,7 @@
 -- The next cell of a change.
 use Rattle.std.specs.Prelude.{ℕ, ◌<◌, List, Option}
-use Rattle.ctt_text.specs.Problem.{Problem, course_count, slot_count}
-use Rattle.ctt_text.specs.declared.placed.Placed.{Placed}
+use Rattle.ctt_problem.specs.Problem.{Problem, course_count, slot_count}
+use Rattle.ctt_problem.specs.declared.placed.Placed.{Placed}
 use Rattle.ctt_rules.specs.Hard.{Lawful}
 use Rattle.ctt_board.specs.Changes.{CellFits, apply_at}
 

@@ -8,7 +8,7 @@ ghost use Rattle.ctt_board.specs.Changes.{room_by, held_after, holder_by, is_add
 use crate::cell::Cell;
 use crate::sheet::Rooms;
 use crate::standing::change_standing;
-use ctt_text::{CourseNo, Instance, Marks, RoomNo, SlotNo};
+use ctt_problem::{CourseNo, Instance, Marks, RoomNo, SlotNo};
 use std::marker::Model;
 
 /// A view of a timetable after some cells of a change. It is lawful.

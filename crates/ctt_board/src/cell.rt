@@ -1,6 +1,6 @@
 //! A cell: one lecture that a change adds or removes.
 
-use ctt_text::{CourseNo, RoomNo, SlotNo};
+use ctt_problem::{CourseNo, RoomNo, SlotNo};
 
 /// A lecture of a course in a slot: with a room, it is added there; without one, it is removed.
 #[derive(Clone, Copy, Default, PartialEq, Eq)]

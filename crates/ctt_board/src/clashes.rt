@@ -1,15 +1,15 @@
 //! The clashes of a course with the courses that have a lecture in a slot.
 
 ghost use Rattle.std.specs.Prelude.{◌≡◌, ◌<◌, ℕ, List, is_some, IsSome};
-ghost use Rattle.ctt_text.specs.Marks.{is_marked};
-ghost use Rattle.ctt_text.specs.Problem.{course_count, slot_count};
-ghost use Rattle.ctt_text.specs.Timetable.{without};
-ghost use Rattle.ctt_text.specs.declared.placed.Placed.{Placed};
+ghost use Rattle.ctt_problem.specs.Marks.{is_marked};
+ghost use Rattle.ctt_problem.specs.Problem.{course_count, slot_count};
+ghost use Rattle.ctt_problem.specs.Timetable.{without};
+ghost use Rattle.ctt_problem.specs.declared.placed.Placed.{Placed};
 ghost use Rattle.ctt_rules.specs.Hard.{Lawful};
 ghost use Rattle.ctt_board.specs.Changes.{clash_at, room_at};
 
 use crate::sheet::Rooms;
-use ctt_text::{CourseNo, Instance, Marks, SlotNo};
+use ctt_problem::{CourseNo, Instance, Marks, SlotNo};
 
 /// Returns the first marked course that clashes with this one. The marks are the courses with a
 /// lecture in one slot.

@@ -1,9 +1,9 @@
 //! The traits of lawful timetables, from a read-only view to a sheet.
 
 ghost use Rattle.std.specs.Prelude.{◌≡◌, ◌<◌, ◌^◌, ◌++◌, ℕ, [], length, is_some, IfOk, OnOk, OnErr};
-ghost use Rattle.ctt_text.specs.Problem.{course_count, slot_count, room_count};
-ghost use Rattle.ctt_text.specs.Marks.{is_marked};
-ghost use Rattle.ctt_text.specs.Timetable.{course_row, slot_row};
+ghost use Rattle.ctt_problem.specs.Problem.{course_count, slot_count, room_count};
+ghost use Rattle.ctt_problem.specs.Marks.{is_marked};
+ghost use Rattle.ctt_problem.specs.Timetable.{course_row, slot_row};
 ghost use Rattle.ctt_rules.specs.Hard.{Lawful};
 ghost use Rattle.ctt_rules.specs.Penalty.{penalty, total};
 ghost use Rattle.ctt_board.specs.Changes.{room_at, holder_at, apply, ChangeFits, apply_all, ChangesFit};
@@ -11,16 +11,16 @@ ghost use Rattle.ctt_board.specs.Boards.{delta};
 ghost use Rattle.ctt_board.specs.Fitting.{fits};
 
 use crate::change::Change;
+use ctt_problem::{CourseNo, Instance, Marks, NoMemory, Placed, RoomNo, SlotNo};
 use ctt_rules::Cost;
-use ctt_text::{CourseNo, Instance, Marks, NoMemory, Placed, RoomNo, SlotNo};
 use std::alloc::Global;
 
 /// A lawful timetable with look-ups by course, slot and room: a sheet, or a view of a sheet after a
 /// change.
 pub trait Rooms: Drop {
     ghost use Rattle.std.specs.Prelude.{List};
-    ghost use Rattle.ctt_text.specs.Problem.{Problem};
-    ghost use Rattle.ctt_text.specs.declared.placed.Placed.{Placed};
+    ghost use Rattle.ctt_problem.specs.Problem.{Problem};
+    ghost use Rattle.ctt_problem.specs.declared.placed.Placed.{Placed};
 
     /// The instance of the timetable.
     ghost problem: { Self → Problem };

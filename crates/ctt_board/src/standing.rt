@@ -2,11 +2,11 @@
 
 ghost use Rattle.std.specs.Prelude.{◌≡◌, ◌<◌, ◌==◌, ◌&&◌, ℕ, cond, is_some};
 ghost use Rattle.std.specs.List.{AllByRecursion as Each};
-ghost use Rattle.ctt_text.specs.Marks.{is_marked};
+ghost use Rattle.ctt_problem.specs.Marks.{is_marked};
 ghost use Rattle.ctt_board.specs.Changes.{stands_by};
 
 use crate::cell::Cell;
-use ctt_text::{Marks, SlotNo};
+use ctt_problem::{Marks, SlotNo};
 
 /// Marks or unmarks the course of a cell if the cell is in the slot.
 fn change_if_there(standing: &mut Marks, cell: &Cell, slot: SlotNo)

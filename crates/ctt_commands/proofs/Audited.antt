@@ -2,8 +2,8 @@
 use Rattle.std.proofs.Common.{List, Option, inl, inr}
 use Rattle.std.specs.Global.{Global}
 use Rattle.std.specs.declared.string.String.{String}
-use Rattle.ctt_text.specs.Problem.{Problem}
-use Rattle.ctt_text.specs.declared.placed.Placed.{Placed}
+use Rattle.ctt_problem.specs.Problem.{Problem}
+use Rattle.ctt_problem.specs.declared.placed.Placed.{Placed}
 use Rattle.ctt_core.specs.Audits.{IsVerdict}
 use Rattle.ctt_core.specs.declared.auditing.Verdict.{Verdict}
 use Rattle.ctt_core.specs.declared.auditing.Verdict.TheVariants as found

@@ -1,7 +1,7 @@
 -- Why a journal is refused.
 use Rattle.std.proofs.Common.{◌≡◌, ◌∙◌, ap, subst, sym, ℕ, List}
 use Rattle.std.specs.Str.{IsUtf8}
-use Rattle.ctt_text.specs.Problem.{Problem}
+use Rattle.ctt_problem.specs.Problem.{Problem}
 use Rattle.ctt_text.specs.Words.{words}
 use Rattle.ctt_core.specs.declared.journal.JournalEntry.{JournalEntry}
 use Rattle.ctt_script.specs.JournalText.{IsJournalCauseOf, JournalSpells}

@@ -4,9 +4,9 @@ use Rattle.std.specs.Global.{Global}
 use Rattle.std.specs.List.{AllByRecursion as Each}
 use Rattle.std.specs.String.{string_bytes}
 use Rattle.std.specs.declared.string.String.{String}
-use Rattle.ctt_text.specs.Problem.{Problem}
-use Rattle.ctt_text.specs.Timetable.{Fits}
-use Rattle.ctt_text.specs.declared.placed.Placed.{Placed}
+use Rattle.ctt_problem.specs.Problem.{Problem}
+use Rattle.ctt_problem.specs.Timetable.{Fits}
+use Rattle.ctt_problem.specs.declared.placed.Placed.{Placed}
 use Rattle.ctt_edits.specs.Openings.{opening}
 use Rattle.ctt_edits.specs.declared.fault.EditFault.{EditFault}
 use Rattle.ctt_edits.proofs.OpeningLemmas.{opening_faults_fit}

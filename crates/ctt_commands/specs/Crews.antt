@@ -2,7 +2,7 @@
 use Rattle.std.specs.Prelude.{◌≡◌, ◌≤◌, ℕ, List, [], length, Option}
 use Rattle.std.specs.Global.{Global}
 use Rattle.std.specs.declared.string.String.{String}
-use Rattle.ctt_text.specs.Problem.{Problem}
+use Rattle.ctt_problem.specs.Problem.{Problem}
 use Rattle.ctt_seat.specs.Attended.{IsCrewText}
 use Rattle.ctt_files.specs.Answers.{IsTextAlone}
 use Rattle.ctt_files.specs.Texts.{Held, HoldInTurn, IsInstanceIn}

@@ -3,9 +3,9 @@ use Rattle.std.specs.Prelude.{◌≡◌, List, Option, None}
 use Rattle.std.specs.Global.{Global}
 use Rattle.std.specs.String.{string_bytes}
 use Rattle.std.specs.declared.string.String.{String}
-use Rattle.ctt_text.specs.Problem.{Problem}
+use Rattle.ctt_problem.specs.Problem.{Problem}
 use Rattle.ctt_text.specs.Written.{soltext}
-use Rattle.ctt_text.specs.declared.placed.Placed.{Placed}
+use Rattle.ctt_problem.specs.declared.placed.Placed.{Placed}
 use Rattle.ctt_files.specs.Answers.{OfInstance}
 use Rattle.ctt_files.specs.Texts.{Held, Holds, IsSolutionText}
 use Rattle.ctt_files.specs.declared.outcome.Outcome.TheVariants.{Done}

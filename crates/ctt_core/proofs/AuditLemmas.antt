@@ -2,8 +2,8 @@
 use Rattle.std.proofs.Common.{◌≡◌, ℕ, zero, suc, ◌+◌, ◌<◌, List, [], ◌∷◌, ◌++◌, Option, Some, None, length, refl, Result, Ok, Err, ◌∙◌, sym, ap, ap₂, subst, get_or, take, drop, arith}
 use Rattle.std.proofs.lemmas.List.{map-append, length-take-le, take-append-drop}
 use Rattle.std.specs.Prelude.{IfOk}
-use Rattle.ctt_text.specs.Problem.{Problem}
-use Rattle.ctt_text.specs.declared.placed.Placed.{Placed}
+use Rattle.ctt_problem.specs.Problem.{Problem}
+use Rattle.ctt_problem.specs.declared.placed.Placed.{Placed}
 use Rattle.ctt_edits.specs.Calls.{reply}
 use Rattle.ctt_edits.specs.Openings.{opening}
 use Rattle.ctt_edits.specs.declared.fault.EditFault.{EditFault}

@@ -2,9 +2,9 @@
 use Rattle.std.proofs.Common.{◌≡◌, ℕ, ◌+◌, ◌<◌, ◌≤◌, Bool, true, false, cond, ◌==◌, List, [], ◌∷◌, ◌++◌, length, Option, Some, None, refl, sym, subst, arith, inl, inr, length-append, append-nil, add-one}
 use Rattle.std.specs.Prelude.{IfSome}
 use Rattle.std.specs.List.{AllByRecursion as Each}
-use Rattle.ctt_text.specs.Problem.{Problem, IsProblem}
-use Rattle.ctt_text.specs.declared.placed.Placed.{Placed}
-use Rattle.ctt_text.proofs.TimetableLemmas.{Each-map}
+use Rattle.ctt_problem.specs.Problem.{Problem, IsProblem}
+use Rattle.ctt_problem.specs.declared.placed.Placed.{Placed}
+use Rattle.ctt_problem.proofs.TimetableLemmas.{Each-map}
 use Rattle.ctt_rules.specs.Hard.{Lawful}
 use Rattle.ctt_edits.specs.declared.call.Call.{Call}
 use Rattle.ctt_edits.specs.declared.looks.Look.{Look}

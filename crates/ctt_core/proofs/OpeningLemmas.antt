@@ -1,7 +1,7 @@
 -- A new desk: its opening, and its planners.
 use Rattle.std.proofs.Common.{◌≡◌, ℕ, zero, suc, ◌+◌, List, drop, [], ◌∷◌, ◌++◌, Option, None, refl}
-use Rattle.ctt_text.specs.Problem.{Problem}
-use Rattle.ctt_text.specs.declared.placed.Placed.{Placed}
+use Rattle.ctt_problem.specs.Problem.{Problem}
+use Rattle.ctt_problem.specs.declared.placed.Placed.{Placed}
 use Rattle.ctt_core.specs.Desks.{OpenValue, draft_at}
 use Rattle.ctt_edits.specs.Openings.{opening, placed_on}
 

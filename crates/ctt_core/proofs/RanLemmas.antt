@@ -2,7 +2,7 @@
 use Rattle.std.proofs.Common.{◌≡◌, ℕ, ◌+◌, ◌<◌, ◌≤◌, List, [], ◌∷◌, ◌++◌, take, get_or, length, refl, add-one, ◌∙◌, sym, ap, ap₂, subst, arith, length-append}
 use Rattle.std.proofs.Math.Seq.{take-suc}
 use Rattle.std.specs.List.{AllByRecursion as Each}
-use Rattle.ctt_text.proofs.TimetableLemmas.{Each-at}
+use Rattle.ctt_problem.proofs.TimetableLemmas.{Each-at}
 use Rattle.ctt_core.specs.Runs.{Turn, EventFits, onto}
 use Rattle.ctt_core.specs.Desks.{DeskValue, SameDesk}
 use Rattle.ctt_core.specs.Laws.{Stands}

@@ -1,8 +1,8 @@
 -- The audit of a journal: whether its replies are those that its drafts get when they are rerun one
 -- after another, and the first reply that differs.
 use Rattle.std.specs.Prelude.{ℕ, ◌+◌, ◌≡◌, ◌≢◌, List, ◌∷◌, ◌++◌, length, Option, Some, None, Ok, Err}
-use Rattle.ctt_text.specs.Problem.{Problem}
-use Rattle.ctt_text.specs.declared.placed.Placed.{Placed}
+use Rattle.ctt_problem.specs.Problem.{Problem}
+use Rattle.ctt_problem.specs.declared.placed.Placed.{Placed}
 use Rattle.ctt_edits.specs.Calls.{reply}
 use Rattle.ctt_edits.specs.Openings.{opening}
 use Rattle.ctt_draft.specs.Drafts.{calls_of, replies_in, replies, whole}
@@ -13,7 +13,7 @@ use Rattle.ctt_core.specs.declared.auditing.Verdict.TheVariants.{Agrees, BadOpen
 use Rattle.ctt_core.specs.declared.auditing.NoList.{NoList}
 use Rattle.ctt_core.specs.declared.auditing.NoList.TheVariants.{Found, NoMemory}
 use Rattle.ctt_core.specs.declared.journal.JournalEntry.{JournalEntry}
-use Rattle.ctt_text.specs.Timetable.{IsTimetable}
+use Rattle.ctt_problem.specs.Timetable.{IsTimetable}
 
 -- of calls made on t, the one with this number, counted from 1, is the first whose recorded reply
 -- differs

@@ -1,8 +1,8 @@
 -- The value of a desk: its state, its answers and its next state, none of which depends on a run; a
 -- law says that the answers are those of the reference desk.
 use Rattle.std.specs.Prelude.{ℕ, ◌+◌, ◌-◌, ◌^◌, ◌<◌, ◌≡◌, ◌⊎◌, true, List, [], ◌∷◌, ◌++◌, length, take, Option, Some, None, slice_index_or, slice_set, IfSome}
-use Rattle.ctt_text.specs.Problem.{Problem}
-use Rattle.ctt_text.specs.declared.placed.Placed.{Placed}
+use Rattle.ctt_problem.specs.Problem.{Problem}
+use Rattle.ctt_problem.specs.declared.placed.Placed.{Placed}
 use Rattle.ctt_rules.specs.Hard.{Lawful}
 use Rattle.ctt_edits.specs.Calls.{reply}
 use Rattle.ctt_edits.specs.Looks.{shown}

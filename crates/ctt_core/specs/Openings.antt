@@ -1,7 +1,7 @@
 -- Why an opening timetable is refused.
 use Rattle.std.specs.Prelude.{◌≡◌, List, Option, Some, None, Err}
-use Rattle.ctt_text.specs.Problem.{Problem}
-use Rattle.ctt_text.specs.declared.placed.Placed.{Placed}
+use Rattle.ctt_problem.specs.Problem.{Problem}
+use Rattle.ctt_problem.specs.declared.placed.Placed.{Placed}
 use Rattle.ctt_edits.specs.Edits.{edited}
 use Rattle.ctt_edits.specs.Openings.{opening}
 use Rattle.ctt_edits.specs.declared.edit.Edit.TheVariants.{Place}

@@ -2,8 +2,8 @@
 -- (`plain`), which define correctness.
 use Rattle.std.specs.Prelude.{ℕ, ◌+◌, ◌-◌, ◌<◌, ◌≡◌, ◌⊎◌, Bool, true, false, cond, List, [], ◌∷◌, ◌++◌, length, take, ◌==◌, Option, Some, None}
 use Rattle.std.specs.List.{AllByRecursion as Each}
-use Rattle.ctt_text.specs.Problem.{Problem}
-use Rattle.ctt_text.specs.declared.placed.Placed.{Placed}
+use Rattle.ctt_problem.specs.Problem.{Problem}
+use Rattle.ctt_problem.specs.declared.placed.Placed.{Placed}
 use Rattle.ctt_edits.specs.Calls.{CallFits, reply}
 use Rattle.ctt_edits.specs.Looks.{LookFits, shown}
 use Rattle.ctt_edits.specs.declared.call.Call.{Call}

@@ -2,8 +2,8 @@
 
 ghost use Rattle.std.specs.Prelude.{◌≡◌, IfErr, IfOk, OnOk, OnErr, Ok, List};
 ghost use Rattle.std.specs.List.{AllByRecursion as Each};
-ghost use Rattle.ctt_text.specs.Timetable.{Fits};
-ghost use Rattle.ctt_text.specs.declared.placed.Placed.{Placed};
+ghost use Rattle.ctt_problem.specs.Timetable.{Fits};
+ghost use Rattle.ctt_problem.specs.declared.placed.Placed.{Placed};
 ghost use Rattle.ctt_edits.specs.Calls.{CallFits, reply};
 ghost use Rattle.ctt_edits.specs.Edits.{EditFits};
 ghost use Rattle.ctt_edits.specs.Openings.{opening};
@@ -21,7 +21,7 @@ use crate::opening::place_all;
 use ctt_board::{Rooms, Sheet, Timetable};
 use ctt_draft::Asked;
 use ctt_edits::{Call, Edit, EditFault, Reply, check};
-use ctt_text::{Instance, NoMemory, Placed};
+use ctt_problem::{Instance, NoMemory, Placed};
 use std::alloc::Global;
 
 /// The verdict of an audit.

@@ -2,7 +2,7 @@
 
 ghost use Rattle.std.specs.Prelude.{◌≡◌, ℕ, ◌<◌, List, [], ◌∷◌, length, None, Ok, IfOk, IfErr, OnErr};
 ghost use Rattle.std.specs.List.{AllByRecursion as Each};
-ghost use Rattle.ctt_text.specs.Timetable.{Fits};
+ghost use Rattle.ctt_problem.specs.Timetable.{Fits};
 ghost use Rattle.ctt_rules.specs.Hard.{Lawful};
 ghost use Rattle.ctt_rules.specs.Penalty.{penalty};
 ghost use Rattle.ctt_core.specs.Runs.{after, Legal, Turn, answered, accepted_of, EventFits, onto};
@@ -20,8 +20,8 @@ use crate::laws;
 use crate::open_draft::OpenDraft;
 use crate::opening::place_all;
 use ctt_board::{Rooms, Sheet, Timetable};
+use ctt_problem::{Instance, NoMemory, Placed};
 use ctt_rules::Cost;
-use ctt_text::{Instance, NoMemory, Placed};
 use std::alloc::{AllocError, Global};
 use std::marker::Model;
 

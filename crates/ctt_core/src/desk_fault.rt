@@ -1,7 +1,7 @@
 //! Why a desk cannot be created.
 
 use ctt_edits::EditFault;
-use ctt_text::NoMemory;
+use ctt_problem::NoMemory;
 use std::alloc::AllocError;
 use thiserror::Error;
 

@@ -5,7 +5,7 @@ ghost use Rattle.ctt_core.specs.Runs.{EventFits};
 
 use crate::planner::PlannerNo;
 use ctt_edits::{Call, Look};
-use ctt_text::Instance;
+use ctt_problem::Instance;
 
 /// One step of a planner, or a look at the timetable as it stands.
 #[derive(Clone, Copy)]

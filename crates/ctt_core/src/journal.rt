@@ -5,7 +5,7 @@ ghost use Rattle.ctt_core.specs.Entries.{EntryFits};
 
 use crate::planner::PlannerNo;
 use ctt_draft::AskedCalls;
-use ctt_text::Instance;
+use ctt_problem::Instance;
 
 /// An accepted draft: its planner, and its calls with their replies.
 pub struct JournalEntry {

@@ -2,7 +2,7 @@
 
 ghost use Rattle.std.specs.Prelude.{◌≡◌, Ok, IfOk, IfErr};
 ghost use Rattle.std.specs.List.{AllByRecursion as Each};
-ghost use Rattle.ctt_text.specs.Timetable.{Fits};
+ghost use Rattle.ctt_problem.specs.Timetable.{Fits};
 ghost use Rattle.ctt_edits.specs.Edits.{edit_fault};
 ghost use Rattle.ctt_edits.specs.declared.edit.Edit.TheVariants.{Place};
 ghost use Rattle.ctt_edits.specs.Openings.{opening};
@@ -11,7 +11,7 @@ ghost use Rattle.ctt_core.specs.Openings.{IsOpeningFault, IsPlaced};
 use crate::desk_fault::DeskFault;
 use ctt_board::{Rooms, Sheet, Timetable};
 use ctt_edits::{Edit, EditFault, check};
-use ctt_text::{Instance, NoMemory, Placed};
+use ctt_problem::{Instance, NoMemory, Placed};
 use std::alloc::Global;
 
 /// Places a lecture, or returns the fault that prevents it.

@@ -1,15 +1,14 @@
 -- A planner of a crew, item by item.
 use Rattle.std.proofs.Common.{◌≡◌, ◌++◌, append-nil, append_assoc, true, false, cond, ℕ, List, [], ◌∷◌, filter, map, Option, Some, None, sym, subst}
-use Rattle.ctt_text.specs.Problem.{Problem}
-use Rattle.ctt_text.specs.declared.placed.Placed.{Placed}
+use Rattle.ctt_problem.specs.Problem.{Problem}
+use Rattle.ctt_problem.specs.declared.placed.Placed.{Placed}
 use Rattle.ctt_edits.specs.declared.call.Call.{Call}
 use Rattle.ctt_core.specs.declared.event.Event.{Event}
 use Rattle.ctt_core.specs.declared.event.Event.TheVariants.{Open, Ask, Peek, Status, Commit, Refresh, Abandon, Show}
 use Rattle.ctt_desk.specs.Planners.{PlannerValue}
 use Rattle.ctt_script.specs.ScriptText.{has_words, own_item}
-use Rattle.ctt_crew.specs.Attending.{call_in}
+use Rattle.ctt_crew.specs.Attending.{call_in, AreAttending, IsAttending}
 use Rattle.ctt_seat.specs.Attended.{AnswersItems, AreAttended, IsAttended, own_items}
-use Rattle.ctt_crew.specs.Attending.{AreAttending, IsAttending}
 use Rattle.ctt_seat.specs.Seats.{AnswersCall, AnswersLine}
 use Rattle.ctt_seat.specs.declared.seat.Seat.{Seat}
 

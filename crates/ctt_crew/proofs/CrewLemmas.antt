@@ -2,8 +2,8 @@
 use Rattle.std.proofs.Common.{◌≡◌, ◌∙◌, ◌+◌, ◌<◌, ◌++◌, ◌∷◌, List, [], ℕ, inl, inr, length, map, zip, refl, ap, sym, subst, Result, Ok, Err}
 use Rattle.std.specs.Prelude.{IfErr, IfOk, IsOkAnd}
 use Rattle.std.proofs.lemmas.List.{map-append}
-use Rattle.ctt_text.specs.Problem.{Problem}
-use Rattle.ctt_text.specs.declared.placed.Placed.{Placed}
+use Rattle.ctt_problem.specs.Problem.{Problem}
+use Rattle.ctt_problem.specs.declared.placed.Placed.{Placed}
 use Rattle.ctt_desk.specs.Planners.{PlannerValue, new_planners}
 use Rattle.ctt_seat.specs.Attended.{AreAttended, IsClosing, IsCrewText}
 use Rattle.ctt_crew.specs.CrewFaults.{IsCrewFault, IsReportFault, added_fault}

@@ -1,8 +1,8 @@
 -- What a planner has seen stays seen while he follows his script, and so do his commits.
 use Rattle.std.specs.Prelude.{ℕ, List, Option, Ok}
 use mathlib.Core.List.{IsPrefix}
-use Rattle.ctt_text.specs.Problem.{Problem}
-use Rattle.ctt_text.specs.declared.placed.Placed.{Placed}
+use Rattle.ctt_problem.specs.Problem.{Problem}
+use Rattle.ctt_problem.specs.declared.placed.Placed.{Placed}
 use Rattle.ctt_core.specs.declared.event.Event.{Event}
 use Rattle.ctt_core.specs.declared.journal.JournalEntry.{JournalEntry}
 use Rattle.ctt_seat.specs.Attended.{AnswersItems, leaver}

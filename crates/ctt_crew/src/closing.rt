@@ -9,8 +9,8 @@ ghost use Rattle.ctt_crew.specs.declared.crew_fault.CrewFault.TheVariants as cre
 use crate::crew_fault::CrewFault;
 use ctt_board::Timetable;
 use ctt_desk::{Closed, Naming, Planner, SharedDesk};
+use ctt_problem::let_go;
 use ctt_seat::{closing_report, end_desk};
-use ctt_text::let_go;
 use std::alloc::Global;
 use std::sync::Wait;
 

@@ -6,7 +6,7 @@ ghost use Rattle.ctt_crew.specs.declared.crew_fault.CrewFault.TheVariants as cre
 
 use ctt_core::PlannerNo;
 use ctt_desk::SharedFault;
-use ctt_text::NoMemory;
+use ctt_problem::NoMemory;
 use std::alloc::{AllocError, AllocFailed};
 use thiserror::Error;
 

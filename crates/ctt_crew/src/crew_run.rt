@@ -15,7 +15,7 @@ use ctt_board::{Sheet, Timetable};
 use ctt_core::PlannerNo;
 use ctt_desk::{Named, Naming, Opened, Planner, SharedDesk, SharedFault};
 use ctt_grid::GridSheet;
-use ctt_text::{Instance, NoMemory, let_go};
+use ctt_problem::{Instance, NoMemory, let_go};
 use std::alloc::Global;
 use std::marker::{Brand, PhantomData, Send, Sync};
 use std::sync::Wait;

@@ -9,8 +9,8 @@ use Rattle.ctt_core.specs.declared.journal.JournalEntry.{JournalEntry}
 use Rattle.ctt_desk.specs.Books.{IsKept, Adds}
 use Rattle.ctt_desk.proofs.PrefixLemmas.{prefix_whole}
 use Rattle.std.specs.Prelude.{MatchBool}
-use Rattle.ctt_text.specs.Problem.{Problem}
-use Rattle.ctt_text.specs.declared.placed.Placed.{Placed}
+use Rattle.ctt_problem.specs.Problem.{Problem}
+use Rattle.ctt_problem.specs.declared.placed.Placed.{Placed}
 use Rattle.ctt_draft.specs.Drafts.{calls_of, replies_in, replies}
 use Rattle.ctt_core.specs.Runs.{after, Legal}
 use Rattle.ctt_core.proofs.RunLemmas.{Legal-push}

@@ -1,7 +1,7 @@
 -- Why a desk is not made.
 use Rattle.std.specs.Prelude.{◌≡◌, List, Err}
-use Rattle.ctt_text.specs.Problem.{Problem}
-use Rattle.ctt_text.specs.declared.placed.Placed.{Placed}
+use Rattle.ctt_problem.specs.Problem.{Problem}
+use Rattle.ctt_problem.specs.declared.placed.Placed.{Placed}
 use Rattle.ctt_edits.specs.Openings.{opening}
 use Rattle.ctt_core.specs.declared.desk_fault.DeskFault.{DeskFault}
 use Rattle.ctt_core.specs.declared.desk_fault.DeskFault.TheVariants.{Unlawful as UnlawfulDesk, NoMemory as OutOfMemory}

@@ -1,8 +1,8 @@
 -- What the name of a desk says about it.
 use Rattle.std.specs.Prelude.{ℕ, ◌≡◌, List, []}
 use Rattle.logbook.specs.Pages.{Book}
-use Rattle.ctt_text.specs.Problem.{Problem}
-use Rattle.ctt_text.specs.declared.placed.Placed.{Placed}
+use Rattle.ctt_problem.specs.Problem.{Problem}
+use Rattle.ctt_problem.specs.declared.placed.Placed.{Placed}
 
 -- the empty instance, which a name has unless a caller chooses another
 abbrev pub nothing : Problem

@@ -1,7 +1,7 @@
 -- Why a draft is refused, not opened or not refreshed, or a look is not answered.
 use Rattle.std.specs.Prelude.{◌≡◌, List}
-use Rattle.ctt_text.specs.Problem.{Problem}
-use Rattle.ctt_text.specs.declared.placed.Placed.{Placed}
+use Rattle.ctt_problem.specs.Problem.{Problem}
+use Rattle.ctt_problem.specs.declared.placed.Placed.{Placed}
 use Rattle.ctt_desk.specs.Histories.{IsHis}
 use Rattle.ctt_desk.specs.Planners.{PlannerValue, DraftingValue, Grows, IsForeign, IsFreshSomewhere, IsStale}
 use Rattle.ctt_desk.specs.declared.refusal.Refusal.{Refusal}

@@ -9,8 +9,8 @@ use crate::front::Front;
 use crate::naming::Naming;
 use ctt_board::Timetable;
 use ctt_core::JournalEntry;
+use ctt_problem::{NoMemory, Placed};
 use ctt_rules::Cost;
-use ctt_text::{NoMemory, Placed};
 use std::marker::Model;
 
 /// What a closed desk leaves: its journal and its timetable. Contracts see the journal.

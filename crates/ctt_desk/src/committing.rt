@@ -12,7 +12,7 @@ use crate::receipt::Receipt;
 use crate::refusal::Refusal;
 use crate::shared_desk::SharedDesk;
 use ctt_board::{Sheet, Timetable};
-use ctt_text::let_go;
+use ctt_problem::let_go;
 use std::sync::{MutexGuard, Wait};
 
 impl<'i, S: Sheet<'i>, J: Naming> Drafting<'i, S, J> {

@@ -18,7 +18,7 @@ use ctt_board::{Sheet, Timetable};
 use ctt_core::JournalEntry;
 use ctt_draft::{AskedCalls, Draft, Work};
 use ctt_edits::{Call, Edit, Look, Reply, laws};
-use ctt_text::{Instance, NoMemory, let_go};
+use ctt_problem::{Instance, NoMemory, let_go};
 use std::alloc::Global;
 use std::marker::Model;
 

@@ -18,7 +18,7 @@ use ctt_board::{Sheet, Timetable};
 use ctt_core::{JournalEntry, PlannerNo};
 use ctt_draft::{AskedCalls, Draft, Work};
 use ctt_edits::Row;
-use ctt_text::Placed;
+use ctt_problem::Placed;
 use left_right::Absorb;
 use std::alloc::{AllocError, Global};
 use std::marker::Model;

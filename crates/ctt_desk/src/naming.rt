@@ -7,8 +7,8 @@ use std::marker::Brand;
 pub trait Naming {
     ghost use Rattle.std.specs.Prelude.{ℕ, List};
     ghost use Rattle.logbook.specs.Pages.{Book};
-    ghost use Rattle.ctt_text.specs.Problem.{Problem};
-    ghost use Rattle.ctt_text.specs.declared.placed.Placed.{Placed};
+    ghost use Rattle.ctt_problem.specs.Problem.{Problem};
+    ghost use Rattle.ctt_problem.specs.declared.placed.Placed.{Placed};
 
     /// The instance whose courses are timetabled.
     ghost problem: { Problem };

@@ -2,7 +2,7 @@
 
 ghost use Rattle.std.specs.Prelude.{◌≡◌, Ok, IfOk, IfErr};
 ghost use Rattle.std.specs.List.{AllByRecursion as Each};
-ghost use Rattle.ctt_text.specs.Timetable.{Fits};
+ghost use Rattle.ctt_problem.specs.Timetable.{Fits};
 ghost use Rattle.ctt_edits.specs.Openings.{opening};
 ghost use Rattle.ctt_desk.specs.Faults.{IsUnlawful};
 
@@ -10,7 +10,7 @@ use crate::book::BookRule;
 use crate::shared_fault::SharedFault;
 use ctt_board::{Sheet, Timetable};
 use ctt_core::{JournalEntry, place_all};
-use ctt_text::{Instance, Placed};
+use ctt_problem::{Instance, Placed};
 use logbook::{Seen, Start, Word};
 use std::alloc::Global;
 use std::marker::Model;

@@ -20,7 +20,7 @@ use ctt_board::{Sheet, Timetable};
 use ctt_core::PlannerNo;
 use ctt_draft::Draft;
 use ctt_edits::{Look, Reply, Row, laws};
-use ctt_text::NoMemory;
+use ctt_problem::NoMemory;
 use std::alloc::Global;
 use std::marker::Model;
 

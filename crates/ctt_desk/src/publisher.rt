@@ -8,7 +8,7 @@ use crate::naming::Naming;
 use crate::shown::{Place, Published, Sees, Shown, View};
 use crate::update::Update;
 use ctt_board::Timetable;
-use ctt_text::{NoMemory, let_go};
+use ctt_problem::{NoMemory, let_go};
 use left_right::Absorb;
 use left_right::writer::Writer;
 use std::alloc::Global;

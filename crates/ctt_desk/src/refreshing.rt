@@ -14,7 +14,7 @@ use crate::shown::{Shown, enter};
 use ctt_board::{Sheet, Timetable};
 use ctt_draft::Draft;
 use ctt_edits::Row;
-use ctt_text::NoMemory;
+use ctt_problem::NoMemory;
 
 /// Makes a published timetable the base of a draft, unless a row that the draft read differs there.
 fn refresh_on<'i, S: Sheet<'i>, J: Naming>(

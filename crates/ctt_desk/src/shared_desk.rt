@@ -17,7 +17,7 @@ use crate::publisher::Publisher;
 use crate::shared_fault::SharedFault;
 use crate::shown::Shown;
 use ctt_board::Timetable;
-use ctt_text::let_go;
+use ctt_problem::let_go;
 use left_right::Absorb;
 use std::alloc::Global;
 use std::sync::{Mutex, Wait};

@@ -2,7 +2,7 @@
 
 use ctt_core::DeskFault;
 use ctt_edits::EditFault;
-use ctt_text::NoMemory;
+use ctt_problem::NoMemory;
 use std::alloc::AllocError;
 use thiserror::Error;
 

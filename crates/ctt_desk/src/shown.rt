@@ -10,7 +10,7 @@ use crate::update::Update;
 use crossbeam_utils::rule::{Outcome, Protocol};
 use ctt_board::Timetable;
 use ctt_core::JournalEntry;
-use ctt_text::NoMemory;
+use ctt_problem::NoMemory;
 use left_right::Absorb;
 use left_right::reader::{Reader, Reading};
 use std::alloc::AllocError;

@@ -1,7 +1,7 @@
 -- The result of checking an edit: its fault, or its change.
 use Rattle.std.proofs.Common.{◌≡◌, List, [], Option, Some, None, Result, Ok, Err, refl, ◌∙◌, sym, ap, ap₂}
-use Rattle.ctt_text.specs.Problem.{Problem}
-use Rattle.ctt_text.specs.declared.placed.Placed.{Placed}
+use Rattle.ctt_problem.specs.Problem.{Problem}
+use Rattle.ctt_problem.specs.declared.placed.Placed.{Placed}
 use Rattle.ctt_board.specs.declared.cell.Cell.{Cell}
 use Rattle.ctt_edits.specs.Calls.{reply, cells_of, cells_if}
 use Rattle.ctt_edits.specs.Edits.{edit_fault, change, checked, checked_by}

@@ -2,10 +2,10 @@
 use Rattle.std.proofs.Common.{◌≡◌, ◌||◌, ◌==◌, leb, length, false, ℕ, true, List, [], ◌∷◌, Option, Some, None, is_some, is_none, refl, ◌∙◌, sym}
 use Rattle.std.specs.List.{AllByRecursion as Each}
 use Rattle.std.proofs.lemmas.Bool.{and_parts, or_parts}
-use Rattle.ctt_text.proofs.TimetableLemmas.{Each-append}
-use Rattle.ctt_text.specs.Problem.{Problem}
-use Rattle.ctt_text.specs.declared.placed.Placed.{Placed}
-use Rattle.ctt_text.specs.Timetable.{without}
+use Rattle.ctt_problem.proofs.TimetableLemmas.{Each-append}
+use Rattle.ctt_problem.specs.Problem.{Problem}
+use Rattle.ctt_problem.specs.declared.placed.Placed.{Placed}
+use Rattle.ctt_problem.specs.Timetable.{without}
 use Rattle.ctt_board.specs.Changes.{apply, apply_at, cell, is_change, in_turn, room_at}
 use Rattle.ctt_board.specs.Fitting.{fits}
 use Rattle.ctt_board.specs.declared.cell.Cell.{Cell}

@@ -2,11 +2,11 @@
 -- them.
 use Rattle.std.specs.Prelude.{ℕ, ◌≡◌, ◌<◌, Bool, false, not, cond, ◌&&◌, ◌==◌, List, [], ◌∷◌, ◌++◌, map}
 use Rattle.std.specs.List.{filter, list_any, AllByRecursion as Each}
-use Rattle.ctt_text.specs.Problem.{Problem, course_count, slot_count}
-use Rattle.ctt_text.specs.declared.placed.Placed.{Placed}
+use Rattle.ctt_problem.specs.Problem.{Problem, course_count, slot_count}
+use Rattle.ctt_problem.specs.declared.placed.Placed.{Placed}
 use Rattle.ctt_board.specs.Changes.{cell, room_at, room_by}
 use Rattle.ctt_board.specs.Cells.{rows_below}
-use Rattle.ctt_text.specs.BitRows.{BitTable, is_marked_in}
+use Rattle.ctt_problem.specs.BitRows.{BitTable, is_marked_in}
 use Rattle.ctt_board.specs.declared.cell.Cell.{Cell}
 
 -- the cell is that of the course c in the slot s

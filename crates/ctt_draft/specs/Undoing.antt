@@ -1,8 +1,8 @@
 -- Which edit of a draft is undone next, and by which edit.
 use Rattle.std.specs.Prelude.{ℕ, ◌-◌, Bool, false, cond, ◌&&◌, ◌==◌, List, [], ◌∷◌, ◌++◌, length, take, Option, Some, None, slice_get}
 use Rattle.std.specs.Option.{option_map, option_to_list}
-use Rattle.ctt_text.specs.Problem.{Problem}
-use Rattle.ctt_text.specs.declared.placed.Placed.{Placed}
+use Rattle.ctt_problem.specs.Problem.{Problem}
+use Rattle.ctt_problem.specs.declared.placed.Placed.{Placed}
 use Rattle.ctt_board.specs.Changes.{room_at}
 use Rattle.ctt_edits.specs.Edits.{edit_fault}
 use Rattle.ctt_edits.specs.declared.call.Call.{Call}

@@ -6,7 +6,7 @@ ghost use Rattle.ctt_draft.specs.Drafts.{AskedFits};
 ghost use Rattle.ctt_draft.specs.Undoing.{done_edit};
 
 use ctt_edits::{Call, Edit, Reply};
-use ctt_text::{Instance, NoMemory};
+use ctt_problem::{Instance, NoMemory};
 use std::alloc::Global;
 use std::marker::Model;
 

@@ -3,10 +3,10 @@
 ghost use Rattle.std.specs.Prelude.{ℕ, ◌≡◌, ◌<◌, ◌≤◌, ◌↔◌, ◌==◌, ◌&&◌, ◌||◌, false, IsTrue};
 ghost use Rattle.std.specs.List.{find};
 ghost use Rattle.std.specs.Option.{option_eq};
-ghost use Rattle.ctt_text.specs.Lists.{below};
-ghost use Rattle.ctt_text.specs.Marks.{is_marked};
-ghost use Rattle.ctt_text.specs.Problem.{course_count, slot_count};
-ghost use Rattle.ctt_text.specs.Timetable.{IsTimetable, course_row, slot_row};
+ghost use Rattle.ctt_problem.specs.Lists.{below};
+ghost use Rattle.ctt_problem.specs.Marks.{is_marked};
+ghost use Rattle.ctt_problem.specs.Problem.{course_count, slot_count};
+ghost use Rattle.ctt_problem.specs.Timetable.{IsTimetable, course_row, slot_row};
 ghost use Rattle.ctt_board.specs.Changes.{room_at};
 ghost use Rattle.ctt_edits.specs.RowSets.{has_course, has_slot};
 ghost use Rattle.ctt_edits.specs.declared.row.Row.TheVariants.{Course as CourseRow, Slot as SlotRow};
@@ -17,7 +17,7 @@ ghost use Rattle.ctt_draft.specs.Comparisons.{base_of, has_other_in_course, has_
 use crate::undo::Undo;
 use ctt_board::{Cell, Rooms};
 use ctt_edits::RowsRead;
-use ctt_text::{CourseNo, Instance, Marks, SlotNo};
+use ctt_problem::{CourseNo, Instance, Marks, SlotNo};
 use std::marker::Model;
 
 /// A comparison of a draft's snapshot with a sheet. The snapshot is given by the draft's present

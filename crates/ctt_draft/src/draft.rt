@@ -1,7 +1,7 @@
 //! A draft: one planner's calls on a private copy of the timetable.
 
 ghost use Rattle.std.specs.Prelude.{◌≡◌, [], List, IfOk, OnOk, OnErr, None, Ok};
-ghost use Rattle.ctt_text.specs.declared.placed.Placed.{Placed as Lecture};
+ghost use Rattle.ctt_problem.specs.declared.placed.Placed.{Placed as Lecture};
 ghost use Rattle.ctt_edits.specs.Calls.{CallFits, reply, cells_of};
 ghost use Rattle.ctt_edits.specs.declared.call.Call.TheVariants.{Look as Looks, Edit as Edits};
 ghost use Rattle.ctt_edits.specs.declared.reply.Reply.TheVariants.{Done};
@@ -19,7 +19,7 @@ use crate::undo::Undo;
 use crate::work::Work;
 use ctt_board::{Cell, Change, Rooms, Sheet, Timetable};
 use ctt_edits::{Call, Edit, Look, Reply, RowsRead, check};
-use ctt_text::{Instance, NoMemory};
+use ctt_problem::{Instance, NoMemory};
 use std::alloc::Global;
 use std::marker::Model;
 

@@ -2,11 +2,11 @@
 
 ghost use Rattle.std.specs.Prelude.{◌≡◌, ◌<◌, ◌≤◌, ◌+◌, [], length, IfOk, OnOk, OnErr};
 ghost use Rattle.std.specs.Vec.{vec_len, vec_capacity};
-ghost use Rattle.ctt_text.specs.Problem.{course_count, slot_count};
+ghost use Rattle.ctt_problem.specs.Problem.{course_count, slot_count};
 ghost use Rattle.ctt_draft.specs.Undo.{is_named, noted, all_noted, AreWithin, IsUndo};
 
 use ctt_board::{Cell, Rooms};
-use ctt_text::{BitRows, CourseNo, Instance, NoMemory, SlotNo};
+use ctt_problem::{BitRows, CourseNo, Instance, NoMemory, SlotNo};
 use std::alloc::Global;
 use std::marker::Model;
 

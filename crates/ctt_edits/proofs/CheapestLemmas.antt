@@ -4,11 +4,11 @@ use Rattle.std.specs.List.{flat_map, insert, position_or_len, range_with_len, Al
 use Rattle.std.proofs.lemmas.Bool.{cases_Bool}
 use Rattle.std.proofs.Math.Seq.{take-nil}
 use Rattle.std.proofs.lemmas.List.{append-nil}
-use Rattle.ctt_text.specs.Lists.{put}
-use Rattle.ctt_text.specs.Problem.{Problem, course_count, slot_count, room_count}
-use Rattle.ctt_text.specs.declared.placed.Placed.{Placed}
-use Rattle.ctt_text.proofs.ListLaws.{Each-mapped}
-use Rattle.ctt_text.proofs.TimetableLemmas.{Each-map, Each-append}
+use Rattle.ctt_problem.specs.Lists.{put}
+use Rattle.ctt_problem.specs.Problem.{Problem, course_count, slot_count, room_count}
+use Rattle.ctt_problem.specs.declared.placed.Placed.{Placed}
+use Rattle.ctt_problem.proofs.ListLaws.{Each-mapped}
+use Rattle.ctt_problem.proofs.TimetableLemmas.{Each-map, Each-append}
 use Rattle.ctt_board.proofs.PutLemmas.{put_is}
 use Rattle.ctt_edits.specs.Candidates.{from_to, first_choices, second_choices, edit_by, edits_with, edits_by, n_cheapest}
 use Rattle.ctt_edits.specs.Edits.{EditFits, edit_fault}

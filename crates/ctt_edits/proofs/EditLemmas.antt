@@ -1,9 +1,9 @@
 -- An edit without a fault keeps a timetable lawful, and its change fits.
 use Rattle.std.proofs.Common.{◌≡◌, ℕ, ◌<◌, true, false, ◌||◌, ◌==◌, List, [], ◌∷◌, Option, Some, None, is_some, is_none, refl, ◌∙◌, ap}
 use Rattle.std.proofs.lemmas.Bool.{or_parts}
-use Rattle.ctt_text.specs.Problem.{Problem, course_count, room_count, slot_count}
-use Rattle.ctt_text.specs.Timetable.{without}
-use Rattle.ctt_text.specs.declared.placed.Placed.{Placed}
+use Rattle.ctt_problem.specs.Problem.{Problem, course_count, room_count, slot_count}
+use Rattle.ctt_problem.specs.Timetable.{without}
+use Rattle.ctt_problem.specs.declared.placed.Placed.{Placed}
 use Rattle.ctt_rules.specs.Hard.{Lawful}
 use Rattle.ctt_board.specs.Changes.{room_at, cell, apply_at, CellFits, CellsFit}
 use Rattle.ctt_board.proofs.BetweenLemmas.{there_fits}

@@ -3,9 +3,9 @@ use Rattle.std.proofs.Common.{◌≡◌, ℕ, ℤ, Bool, true, false, leb, ◌==
 use Rattle.std.specs.List.{find}
 use Rattle.std.specs.Option.{option_map}
 use Rattle.std.proofs.lemmas.Bool.{leb-false}
-use Rattle.ctt_text.specs.Problem.{Problem, course_of, clash, is_unavailable, is_barred}
-use Rattle.ctt_text.specs.Timetable.{course_row, slot_row}
-use Rattle.ctt_text.specs.declared.placed.Placed.{Placed}
+use Rattle.ctt_problem.specs.Problem.{Problem, course_of, clash, is_unavailable, is_barred}
+use Rattle.ctt_problem.specs.Timetable.{course_row, slot_row}
+use Rattle.ctt_problem.specs.declared.placed.Placed.{Placed}
 use Rattle.ctt_board.specs.Changes.{room_of, room_at}
 use Rattle.ctt_board.specs.declared.cell.Cell.{Cell}
 use Rattle.ctt_board.proofs.FitLemmas.{find_none}

@@ -4,11 +4,11 @@ use Rattle.std.specs.List.{find, AllByRecursion as Each}
 use Rattle.std.specs.Option.{option_map}
 use Rattle.std.proofs.lemmas.Bool.{cases_Bool, eq-eqb}
 use Rattle.std.proofs.lemmas.Bool.Decides.{nat_tests}
-use Rattle.ctt_text.specs.Lists.{Pairwise}
-use Rattle.ctt_text.specs.Problem.{course_of, clash, is_unavailable, is_barred}
-use Rattle.ctt_text.specs.Timetable.{before, course_row, slot_row}
-use Rattle.ctt_text.specs.declared.placed.Placed.{Placed}
-use Rattle.ctt_text.proofs.TimetableLemmas.{Each-map}
+use Rattle.ctt_problem.specs.Lists.{Pairwise}
+use Rattle.ctt_problem.specs.Problem.{course_of, clash, is_unavailable, is_barred}
+use Rattle.ctt_problem.specs.Timetable.{before, course_row, slot_row}
+use Rattle.ctt_problem.specs.declared.placed.Placed.{Placed}
+use Rattle.ctt_problem.proofs.TimetableLemmas.{Each-map}
 use Rattle.ctt_rules.proofs.ListLemmas.{Pairwise-filter}
 use Rattle.ctt_board.specs.Changes.{room_at}
 use Rattle.ctt_edits.specs.Edits.{or_else, fault_if}

@@ -2,9 +2,9 @@
 use Rattle.std.proofs.Common.{◌≡◌, ℕ, zero, suc, ◌+◌, ◌<◌, ◌≤◌, Bool, false, cond, ◌||◌, List, [], ◌∷◌, ◌++◌, map, Some, None, inl, inr, refl, ◌∙◌, sym, add-one, append-nil, ap, ap₂, arith}
 use Rattle.std.proofs.lemmas.List.{map-append, append_assoc}
 use Rattle.std.proofs.lemmas.Bool.{cases_lt}
-use Rattle.ctt_text.specs.Marks.{IsLeast}
-use Rattle.ctt_text.specs.Lists.{below}
-use Rattle.ctt_text.specs.Problem.{Problem, course_count, slot_count}
+use Rattle.ctt_problem.specs.Marks.{IsLeast}
+use Rattle.ctt_problem.specs.Lists.{below}
+use Rattle.ctt_problem.specs.Problem.{Problem, course_count, slot_count}
 use Rattle.ctt_edits.specs.Calls.{reads_course, reads_slot, reads}
 use Rattle.ctt_edits.specs.RowSets.{RowSet, has_course, has_slot, is_in, rows_of, AddsReads, between}
 use Rattle.ctt_edits.specs.declared.call.Call.{Call}

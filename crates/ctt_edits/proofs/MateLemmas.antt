@@ -3,10 +3,10 @@ use Rattle.std.proofs.Common.{◌≡◌, ℕ, zero, suc, ◌<◌, ◌≤◌, Boo
 use Rattle.std.specs.List.{list_any, AllByRecursion as Each}
 use Rattle.std.proofs.lemmas.List.{take_all}
 use Rattle.std.proofs.lemmas.List.Folds.{list_any_more, list_any-append}
-use Rattle.ctt_text.specs.Belonging.{curricula_of}
-use Rattle.ctt_text.specs.Lists.{below, has}
-use Rattle.ctt_text.specs.Problem.{Problem, curriculum_count, members, mates}
-use Rattle.ctt_text.proofs.TimetableLemmas.{Each-at}
+use Rattle.ctt_problem.specs.Belonging.{curricula_of}
+use Rattle.ctt_problem.specs.Lists.{below, has}
+use Rattle.ctt_problem.specs.Problem.{Problem, curriculum_count, members, mates}
+use Rattle.ctt_problem.proofs.TimetableLemmas.{Each-at}
 
 -- an element passes both tests: of those that pass the first, one passes the second
 any_of : {X : Type 0} (p q : X → Bool) (d : X) (xs : List X) (n : ℕ) → n ≤ length xs → list_any (λ x. p x && q x) (take n xs) ≡ list_any (λ k. q (get_or xs k d)) (below (λ k. p (get_or xs k d)) n)

@@ -3,8 +3,8 @@ use Rattle.std.proofs.Common.{◌≡◌, ℕ, zero, suc, ◌+◌, ◌<◌, ◌�
 use Rattle.std.specs.List.{flat_map, list_any, range_with_len, AllByRecursion as Each}
 use Rattle.std.proofs.lemmas.Bool.{cases_Bool, cases_eq, eq-eqb, ne_eqb, or_left, or_right}
 use Rattle.std.proofs.lemmas.List.Folds.{list_any-append}
-use Rattle.ctt_text.specs.Lists.{has}
-use Rattle.ctt_text.specs.Problem.{Problem, course_count, slot_count, room_count, mates}
+use Rattle.ctt_problem.specs.Lists.{has}
+use Rattle.ctt_problem.specs.Problem.{Problem, course_count, slot_count, room_count, mates}
 use Rattle.ctt_edits.specs.Calls.{edit_courses, edit_slots, with_mates, is_choice, pattern_reads_course, pattern_reads_slot}
 use Rattle.ctt_edits.specs.Candidates.{edit_by}
 use Rattle.ctt_edits.specs.Laws.{PatternReads}

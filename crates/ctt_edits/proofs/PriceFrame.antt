@@ -4,12 +4,12 @@ use Rattle.std.specs.List.{sum_by, list_any, AllByRecursion as Each}
 use Rattle.std.proofs.lemmas.Bool.{eq-eqb, eqb-true, or_cases, or_left, or_right}
 use Rattle.std.proofs.lemmas.Int.{ints}
 use Rattle.std.proofs.lemmas.List.Sums.{sum_by-cons}
-use Rattle.ctt_text.specs.Lists.{has}
-use Rattle.ctt_text.specs.Problem.{Problem, course_count, mates}
-use Rattle.ctt_text.specs.Timetable.{before, Ascending, IsTimetable, course_row}
-use Rattle.ctt_text.specs.declared.placed.Placed.{Placed}
-use Rattle.ctt_text.proofs.LectureLaws.{Each-put}
-use Rattle.ctt_text.proofs.TimetableLemmas.{Each-map}
+use Rattle.ctt_problem.specs.Lists.{has}
+use Rattle.ctt_problem.specs.Problem.{Problem, course_count, mates}
+use Rattle.ctt_problem.specs.Timetable.{before, Ascending, IsTimetable, course_row}
+use Rattle.ctt_problem.specs.declared.placed.Placed.{Placed}
+use Rattle.ctt_problem.proofs.LectureLaws.{Each-put}
+use Rattle.ctt_problem.proofs.TimetableLemmas.{Each-map}
 use Rattle.ctt_rules.specs.Penalty.{penalty, total, row_cost, course_cost, alone_cost, lectures_of}
 use Rattle.ctt_rules.proofs.ListLemmas.{Each-filter}
 use Rattle.ctt_rules.proofs.SumLemmas.{sum_below_same}

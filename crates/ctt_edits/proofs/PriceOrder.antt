@@ -6,7 +6,7 @@ use Rattle.std.specs.Ordering.{int_eq}
 use Rattle.std.proofs.lemmas.Bool.{cases_Bool}
 use Rattle.std.proofs.lemmas.Int.{ints}
 use Rattle.std.proofs.lemmas.List.{append-nil, append_assoc}
-use Rattle.ctt_text.specs.Lists.{Pairwise, put}
+use Rattle.ctt_problem.specs.Lists.{Pairwise, put}
 use Rattle.ctt_board.proofs.PutLemmas.{filter-put_no, filter-put_yes, Pairwise-put}
 use Rattle.ctt_edits.specs.Laws.{PricesAscend}
 use Rattle.ctt_edits.specs.Patterns.{is_cheaper}

@@ -4,13 +4,13 @@ use Rattle.std.specs.List.{filter, list_any, AllByRecursion as Each}
 use Rattle.std.specs.Cmp.{both_ways}
 use Rattle.std.proofs.lemmas.Bool.{cases_Bool, cases_eq, cases_lt, eq-eqb, ne_eqb, eqb-true, or_cases, or_left, or_right}
 use Rattle.std.proofs.lemmas.List.Elements.{recursion_from_All}
-use Rattle.ctt_text.specs.Lists.{below, Pairwise}
-use Rattle.ctt_text.specs.Problem.{Problem, course_count, slot_count}
-use Rattle.ctt_text.specs.Timetable.{before, Ascending, IsTimetable, course_row, slot_row}
-use Rattle.ctt_text.specs.declared.placed.Placed.{Placed}
-use Rattle.ctt_text.proofs.LectureLaws.{one_list}
-use Rattle.ctt_text.proofs.ListLaws.{Each-mapped, Each-front, Each-rest}
-use Rattle.ctt_text.proofs.TimetableLemmas.{Each-map}
+use Rattle.ctt_problem.specs.Lists.{below, Pairwise}
+use Rattle.ctt_problem.specs.Problem.{Problem, course_count, slot_count}
+use Rattle.ctt_problem.specs.Timetable.{before, Ascending, IsTimetable, course_row, slot_row}
+use Rattle.ctt_problem.specs.declared.placed.Placed.{Placed}
+use Rattle.ctt_problem.proofs.LectureLaws.{one_list}
+use Rattle.ctt_problem.proofs.ListLaws.{Each-mapped, Each-front, Each-rest}
+use Rattle.ctt_problem.proofs.TimetableLemmas.{Each-map}
 use Rattle.ctt_rules.proofs.ListLemmas.{filter_none, filter_within, Pairwise-filter}
 use Rattle.ctt_rules.proofs.TimetableLemmas.{courses_fit, slots_fit}
 use Rattle.ctt_edits.specs.Calls.{reads_course, reads_slot, rows_where, row, Agree, RowBefore}

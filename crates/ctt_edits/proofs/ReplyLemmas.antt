@@ -6,12 +6,12 @@ use Rattle.std.specs.Prelude.{unsigned_abs, IfSome, filter, ◌==◌}
 use Rattle.std.specs.List.{AllByRecursion as Each}
 use Rattle.std.specs.Option.{option_map}
 use Rattle.std.proofs.lemmas.Bool.{cases_Bool}
-use Rattle.ctt_text.specs.Problem.{Problem, IsProblem, course_count, slot_count, room_count, clash}
-use Rattle.ctt_text.specs.Timetable.{Fits, slot_row, without, before}
-use Rattle.ctt_text.specs.declared.placed.Placed.{Placed}
-use Rattle.ctt_text.specs.Lists.{below, put}
-use Rattle.ctt_text.proofs.LectureLaws.{Each-put}
-use Rattle.ctt_text.proofs.TimetableLemmas.{Each-append}
+use Rattle.ctt_problem.specs.Problem.{Problem, IsProblem, course_count, slot_count, room_count, clash}
+use Rattle.ctt_problem.specs.Timetable.{Fits, slot_row, without, before}
+use Rattle.ctt_problem.specs.declared.placed.Placed.{Placed}
+use Rattle.ctt_problem.specs.Lists.{below, put}
+use Rattle.ctt_problem.proofs.LectureLaws.{Each-put}
+use Rattle.ctt_problem.proofs.TimetableLemmas.{Each-append}
 use Rattle.ctt_rules.specs.Hard.{Lawful}
 use Rattle.ctt_rules.specs.Penalty.{penalty, course_cost, total}
 use Rattle.ctt_rules.specs.declared.cost.Cost.{Cost}
@@ -22,8 +22,7 @@ use Rattle.ctt_board.proofs.CostLemmas.{course_cost_small, penalty_small}
 use Rattle.ctt_edits.specs.declared.edit.Edit.{Edit}
 use Rattle.ctt_edits.specs.declared.edit.Edit.TheVariants.{Place, Move, Swap, Reroom, Drop}
 use Rattle.ctt_edits.specs.declared.looks.Look.{Look}
-use Rattle.ctt_edits.specs.declared.looks.Look.TheVariants.{Course, Slot, Teacher, Curriculum, CourseCost, Price, Missing, Cheapest}
-use Rattle.ctt_edits.specs.declared.looks.Look.TheVariants.{Cost as WholeCost}
+use Rattle.ctt_edits.specs.declared.looks.Look.TheVariants.{Course, Slot, Teacher, Curriculum, CourseCost, Price, Missing, Cheapest, Cost as WholeCost}
 use Rattle.ctt_edits.specs.declared.call.Call.{Call}
 use Rattle.ctt_edits.specs.declared.call.Call.TheVariants.{Look as Looks, Edit as Edits}
 use Rattle.ctt_edits.specs.declared.fault.EditFault.{EditFault}

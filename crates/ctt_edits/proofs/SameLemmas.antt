@@ -2,7 +2,7 @@
 use Rattle.std.proofs.Common.{◌≡◌, ◌↔◌, IsTrue, ℕ, Bool, true, ◌&&◌, ◌==◌, List, [], ◌∷◌, refl, ◌∙◌, sym, ap₂, subst}
 use Rattle.std.specs.Cmp.Lexicographic.{pointwise}
 use Rattle.std.proofs.lemmas.Bool.{eq-eqb, eqb-true, and_parts}
-use Rattle.ctt_text.specs.declared.placed.Placed.{Placed}
+use Rattle.ctt_problem.specs.declared.placed.Placed.{Placed}
 
 abbrev pub same_lecture : Placed → Placed → Bool
 same_lecture a b = a.course == b.course && a.slot == b.slot && a.room == b.room

@@ -4,9 +4,9 @@ use Rattle.std.specs.List.{filter, find, AllByRecursion as Each}
 use Rattle.std.specs.Option.{option_map}
 use Rattle.std.proofs.lemmas.Bool.{eq-eqb, lt-leb}
 use Rattle.std.proofs.lemmas.Bool.Decides.{nat_tests}
-use Rattle.ctt_text.specs.Problem.{Problem, course_of, clash, is_unavailable, is_barred}
-use Rattle.ctt_text.specs.Timetable.{before, course_row, slot_row, with, without}
-use Rattle.ctt_text.specs.declared.placed.Placed.{Placed}
+use Rattle.ctt_problem.specs.Problem.{Problem, course_of, clash, is_unavailable, is_barred}
+use Rattle.ctt_problem.specs.Timetable.{before, course_row, slot_row, with, without}
+use Rattle.ctt_problem.specs.declared.placed.Placed.{Placed}
 use Rattle.ctt_rules.specs.Hard.{Lawful}
 use Rattle.ctt_rules.proofs.ConflictLemmas.{clash_comm}
 use Rattle.ctt_rules.proofs.ListLemmas.{Each-filter}

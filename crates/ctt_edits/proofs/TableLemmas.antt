@@ -1,8 +1,8 @@
 -- The fault and the change of an edit give what the table of edits gives.
 use Rattle.std.proofs.Common.{◌≡◌, ℕ, Bool, true, false, cond, ◌||◌, ◌==◌, List, Option, Some, None, is_none, Ok, Err, refl, ◌∙◌, ap, ap₂}
-use Rattle.ctt_text.specs.Problem.{Problem}
-use Rattle.ctt_text.specs.Timetable.{with, without}
-use Rattle.ctt_text.specs.declared.placed.Placed.{Placed}
+use Rattle.ctt_problem.specs.Problem.{Problem}
+use Rattle.ctt_problem.specs.Timetable.{with, without}
+use Rattle.ctt_problem.specs.declared.placed.Placed.{Placed}
 use Rattle.ctt_board.specs.Changes.{room_at, apply_at}
 use Rattle.ctt_edits.specs.Edits.{or_else, fault_if, try_fault, try_room_of, edited}
 use Rattle.ctt_edits.specs.Laws.{EditIsTable}

@@ -3,8 +3,8 @@ use Rattle.std.proofs.Common.{◌≡◌, ℕ, zero, suc, ◌<◌, ◌≤◌, Boo
 use Rattle.std.specs.List.{list_any}
 use Rattle.std.proofs.lemmas.List.Folds.{list_any-append}
 use Rattle.std.proofs.lemmas.Bool.{cases_eq, lt-ltb, le-ltb, eq-eqb, ne_eqb}
-use Rattle.ctt_text.specs.Lists.{below, has}
-use Rattle.ctt_text.proofs.NumberListLemmas.{below_fit}
+use Rattle.ctt_problem.specs.Lists.{below, has}
+use Rattle.ctt_problem.proofs.NumberListLemmas.{below_fit}
 use Rattle.ctt_edits.proofs.PastLemmas.{has_past, no_more}
 
 -- a number below the end is in the list exactly if it passes

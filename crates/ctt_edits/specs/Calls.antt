@@ -1,10 +1,10 @@
 -- Calls, that is edits and looks: the reply, the cells that change, and the rows that are read.
 use Rattle.std.specs.Prelude.{ℕ, ◌≡◌, ◌<◌, Bool, true, false, ◌==◌, ◌||◌, List, [], ◌∷◌, ◌++◌, map, Option, Some, None, All}
 use Rattle.std.specs.List.{list_any}
-use Rattle.ctt_text.specs.Lists.{below, has}
-use Rattle.ctt_text.specs.Problem.{Problem, course_of, members, mates, course_count, slot_count}
-use Rattle.ctt_text.specs.Timetable.{course_row, slot_row}
-use Rattle.ctt_text.specs.declared.placed.Placed.{Placed}
+use Rattle.ctt_problem.specs.Lists.{below, has}
+use Rattle.ctt_problem.specs.Problem.{Problem, course_of, members, mates, course_count, slot_count}
+use Rattle.ctt_problem.specs.Timetable.{course_row, slot_row}
+use Rattle.ctt_problem.specs.declared.placed.Placed.{Placed}
 use Rattle.ctt_board.specs.declared.cell.Cell.{Cell}
 use Rattle.ctt_edits.specs.Edits.{EditFits, edit_fault, change}
 use Rattle.ctt_edits.specs.Looks.{LookFits, shown, told_or}
@@ -14,8 +14,7 @@ use Rattle.ctt_edits.specs.declared.edit.Edit.{Edit}
 use Rattle.ctt_edits.specs.declared.edit.Edit.TheVariants.{Place, Move, Swap, Reroom, Drop}
 use Rattle.ctt_edits.specs.declared.fault.EditFault.{EditFault}
 use Rattle.ctt_edits.specs.declared.looks.Look.{Look}
-use Rattle.ctt_edits.specs.declared.looks.Look.TheVariants.{Course, Slot, Teacher, Curriculum, CourseCost, Price, Missing, Cheapest}
-use Rattle.ctt_edits.specs.declared.looks.Look.TheVariants.{Cost as WholeCost}
+use Rattle.ctt_edits.specs.declared.looks.Look.TheVariants.{Course, Slot, Teacher, Curriculum, CourseCost, Price, Missing, Cheapest, Cost as WholeCost}
 use Rattle.ctt_edits.specs.declared.call.Call.{Call}
 use Rattle.ctt_edits.specs.declared.call.Call.TheVariants.{Look as Looks, Edit as Edits}
 use Rattle.ctt_edits.specs.declared.pattern.Pattern.{Pattern}

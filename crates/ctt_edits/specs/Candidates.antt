@@ -1,8 +1,8 @@
 -- The edits of a pattern choice by choice, and the n cheapest of a list to which more are added.
 use Rattle.std.specs.Prelude.{ℕ, ◌-◌, List, map, take, Some, None}
 use Rattle.std.specs.List.{flat_map, fold, range_with_len}
-use Rattle.ctt_text.specs.Lists.{put}
-use Rattle.ctt_text.specs.Problem.{Problem, course_count, slot_count, room_count}
+use Rattle.ctt_problem.specs.Lists.{put}
+use Rattle.ctt_problem.specs.Problem.{Problem, course_count, slot_count, room_count}
 use Rattle.ctt_edits.specs.Patterns.{choices, is_cheaper}
 use Rattle.ctt_edits.specs.declared.edit.Edit.{Edit}
 use Rattle.ctt_edits.specs.declared.edit.Edit.TheVariants.{Place, Move, Swap, Reroom}

@@ -2,9 +2,9 @@
 use Rattle.std.specs.Prelude.{ℕ, ◌<◌, Bool, cond, ◌||◌, List, [], ◌∷◌, length, ◌==◌, nat_le, Option, Some, None, is_none, is_some, Result, Ok, Err}
 use Rattle.std.specs.List.{find}
 use Rattle.std.specs.Option.{option_map}
-use Rattle.ctt_text.specs.Problem.{Problem, course_of, course_count, slot_count, room_count, clash, is_unavailable, is_barred}
-use Rattle.ctt_text.specs.Timetable.{course_row, slot_row, without}
-use Rattle.ctt_text.specs.declared.placed.Placed.{Placed}
+use Rattle.ctt_problem.specs.Problem.{Problem, course_of, course_count, slot_count, room_count, clash, is_unavailable, is_barred}
+use Rattle.ctt_problem.specs.Timetable.{course_row, slot_row, without}
+use Rattle.ctt_problem.specs.declared.placed.Placed.{Placed}
 use Rattle.ctt_board.specs.Changes.{room_of, room_at, clash_at, cell, apply, apply_at}
 use Rattle.ctt_board.specs.declared.cell.Cell.{Cell}
 use Rattle.ctt_edits.specs.declared.edit.Edit.{Edit}

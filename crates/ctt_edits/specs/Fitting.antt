@@ -1,8 +1,8 @@
 -- Faults and replies that fit an instance, with numbers within the limits of files.
 use Rattle.std.specs.Prelude.{ℕ, ◌<◌, ◌≤◌, List, length, unsigned_abs}
 use Rattle.std.specs.List.{AllByRecursion as Each}
-use Rattle.ctt_text.specs.Problem.{Problem, course_count}
-use Rattle.ctt_text.specs.Timetable.{Fits}
+use Rattle.ctt_problem.specs.Problem.{Problem, course_count}
+use Rattle.ctt_problem.specs.Timetable.{Fits}
 use Rattle.ctt_rules.specs.declared.cost.Cost.{Cost}
 use Rattle.ctt_edits.specs.Edits.{EditFits}
 use Rattle.ctt_edits.specs.declared.fault.EditFault.{EditFault}

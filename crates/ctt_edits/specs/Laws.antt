@@ -2,10 +2,10 @@
 use Rattle.std.specs.Prelude.{ℕ, ℤ, ◌≡◌, ◌<◌, ◌≤◌, true, false, List, filter, Some, None, is_none, Ok, Err}
 use Rattle.std.specs.Ordering.{int_eq}
 use Rattle.std.specs.List.{list_any, AllByRecursion as Each}
-use Rattle.ctt_text.specs.Lists.{has, Pairwise}
-use Rattle.ctt_text.specs.Problem.{Problem, IsProblem, course_count, slot_count, room_count, clash}
-use Rattle.ctt_text.specs.Timetable.{Ascending, Fits, IsTimetable}
-use Rattle.ctt_text.specs.declared.placed.Placed.{Placed}
+use Rattle.ctt_problem.specs.Lists.{has, Pairwise}
+use Rattle.ctt_problem.specs.Problem.{Problem, IsProblem, course_count, slot_count, room_count, clash}
+use Rattle.ctt_problem.specs.Timetable.{Ascending, Fits, IsTimetable}
+use Rattle.ctt_problem.specs.declared.placed.Placed.{Placed}
 use Rattle.ctt_rules.specs.Hard.{Lawful}
 use Rattle.ctt_board.specs.Changes.{room_at, ChangeFits}
 use Rattle.ctt_edits.specs.Calls.{CallFits, reply, cells_of, edit_courses, edit_slots, with_mates, pattern_reads_course, pattern_reads_slot, reads, Agree, RowBefore}

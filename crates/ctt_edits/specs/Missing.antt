@@ -1,9 +1,9 @@
 -- The lectures that are missing.
 use Rattle.std.specs.Prelude.{ℕ, ◌-◌, Bool, List, length, map, nat_lt}
-use Rattle.ctt_text.specs.Lists.{below}
-use Rattle.ctt_text.specs.Problem.{Problem, course_of, course_count}
-use Rattle.ctt_text.specs.Timetable.{course_row}
-use Rattle.ctt_text.specs.declared.placed.Placed.{Placed}
+use Rattle.ctt_problem.specs.Lists.{below}
+use Rattle.ctt_problem.specs.Problem.{Problem, course_of, course_count}
+use Rattle.ctt_problem.specs.Timetable.{course_row}
+use Rattle.ctt_problem.specs.declared.placed.Placed.{Placed}
 use Rattle.ctt_edits.specs.declared.shortfall.Shortfall.{Shortfall}
 
 -- how many lectures of the course are not placed

@@ -1,7 +1,7 @@
 -- Lectures that are placed one by one, in the order of a list.
 use Rattle.std.specs.Prelude.{ℕ, ◌+◌, List, [], ◌∷◌, Option, Some, None, Result, Ok, Err}
-use Rattle.ctt_text.specs.Problem.{Problem}
-use Rattle.ctt_text.specs.declared.placed.Placed.{Placed}
+use Rattle.ctt_problem.specs.Problem.{Problem}
+use Rattle.ctt_problem.specs.declared.placed.Placed.{Placed}
 use Rattle.ctt_edits.specs.Edits.{edit_fault, edited}
 use Rattle.ctt_edits.specs.declared.edit.Edit.TheVariants.{Place}
 use Rattle.ctt_edits.specs.declared.fault.EditFault.{EditFault}

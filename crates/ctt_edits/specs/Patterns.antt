@@ -3,10 +3,10 @@ use Rattle.std.specs.Prelude.{ℕ, ◌<◌, ◌≡◌, Bool, false, List, [], �
 use Rattle.std.specs.Str.{bytes_eq}
 use Rattle.std.specs.Int.Signed.{lt_z}
 use Rattle.std.specs.List.{flat_map, fold, range_with_len}
-use Rattle.ctt_text.specs.Lists.{put}
-use Rattle.ctt_text.specs.Problem.{Problem, course_of, course_count, slot_count, room_count}
-use Rattle.ctt_text.specs.Timetable.{course_row}
-use Rattle.ctt_text.specs.declared.placed.Placed.{Placed}
+use Rattle.ctt_problem.specs.Lists.{put}
+use Rattle.ctt_problem.specs.Problem.{Problem, course_of, course_count, slot_count, room_count}
+use Rattle.ctt_problem.specs.Timetable.{course_row}
+use Rattle.ctt_problem.specs.declared.placed.Placed.{Placed}
 use Rattle.ctt_board.specs.Boards.{delta}
 use Rattle.ctt_board.specs.Changes.{room_at}
 use Rattle.ctt_edits.specs.Edits.{fault_if, edit_fault, change}

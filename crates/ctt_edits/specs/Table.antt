@@ -1,9 +1,9 @@
 -- The table of edits, taken literally: each edit by trials, each of which gives a timetable or a
 -- fault.
 use Rattle.std.specs.Prelude.{ℕ, cond, List, ◌==◌, Option, Some, None, is_none, Result, Ok, Err}
-use Rattle.ctt_text.specs.Problem.{Problem}
-use Rattle.ctt_text.specs.Timetable.{with, without}
-use Rattle.ctt_text.specs.declared.placed.Placed.{Placed}
+use Rattle.ctt_problem.specs.Problem.{Problem}
+use Rattle.ctt_problem.specs.Timetable.{with, without}
+use Rattle.ctt_problem.specs.declared.placed.Placed.{Placed}
 use Rattle.ctt_board.specs.Changes.{room_at}
 use Rattle.ctt_edits.specs.Edits.{try_fault, edit_fault, edited}
 use Rattle.ctt_edits.specs.declared.edit.Edit.{Edit}

@@ -5,7 +5,7 @@ ghost use Rattle.ctt_edits.specs.Calls.{CallFits};
 
 use crate::edit::Edit;
 use crate::looks::Look;
-use ctt_text::Instance;
+use ctt_problem::Instance;
 
 /// A look or an edit.
 #[derive(Clone, Copy, PartialEq, Eq)]

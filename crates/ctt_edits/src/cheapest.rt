@@ -2,7 +2,7 @@
 
 ghost use Rattle.std.specs.Prelude.{◌≡◌, ◌≤◌, [], ◌∷◌, length, take, IfOk, OnOk};
 ghost use Rattle.std.specs.List.{position, position_or_len, AllByRecursion as Each};
-ghost use Rattle.ctt_text.specs.Lists.{put};
+ghost use Rattle.ctt_problem.specs.Lists.{put};
 ghost use Rattle.ctt_edits.specs.Candidates.{from_to, edits_with, edits_by, n_cheapest};
 ghost use Rattle.ctt_edits.specs.Edits.{EditFits};
 ghost use Rattle.ctt_edits.specs.Patterns.{PatternFits, pattern_fault, feasible, is_cheaper, cheapest};
@@ -13,7 +13,7 @@ use crate::pattern::Pattern;
 use crate::priced_edit::{PricedEdit, PricedEdits};
 use crate::pricing::price;
 use ctt_board::Sheet;
-use ctt_text::NoMemory;
+use ctt_problem::NoMemory;
 use std::alloc::Global;
 use std::ops::Range;
 

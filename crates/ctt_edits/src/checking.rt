@@ -1,8 +1,8 @@
 //! The check whether an edit can be made.
 
 ghost use Rattle.std.specs.Prelude.{◌≡◌, ◌<◌, ◌==◌, false, Some, None, IfOk, IsSome};
-ghost use Rattle.ctt_text.specs.Problem.{course_count, slot_count, room_count, is_barred};
-ghost use Rattle.ctt_text.specs.Timetable.{Fits, without};
+ghost use Rattle.ctt_problem.specs.Problem.{course_count, slot_count, room_count, is_barred};
+ghost use Rattle.ctt_problem.specs.Timetable.{Fits, without};
 ghost use Rattle.ctt_board.specs.Changes.{ChangeFits, cell, room_at};
 ghost use Rattle.ctt_edits.specs.Edits.{EditFits, fault_if, try_fault, fault_in_place_of, edit_fault, change, checked};
 ghost use Rattle.ctt_edits.specs.declared.edit.Edit.TheVariants.{Move, Swap, Reroom, Drop};
@@ -12,7 +12,7 @@ use crate::edit::Edit;
 use crate::fault::EditFault;
 use crate::laws;
 use ctt_board::{After, Cell, Change, Rooms, Sheet, first_clash, first_clash_without};
-use ctt_text::{CourseNo, Instance, Placed, RoomNo, SlotNo};
+use ctt_problem::{CourseNo, Instance, Placed, RoomNo, SlotNo};
 
 /// Returns the first fault of placing a lecture, if there is one.
 fn place_fault<R: Rooms>(

@@ -3,7 +3,7 @@
 ghost use Rattle.std.specs.Prelude.{◌↔◌, IsTrue};
 ghost use Rattle.ctt_edits.specs.Edits.{EditFits};
 
-use ctt_text::{CourseNo, Instance, RoomNo, SlotNo};
+use ctt_problem::{CourseNo, Instance, RoomNo, SlotNo};
 
 /// A request to change one lecture, or to swap two.
 #[derive(Clone, Copy, PartialEq, Eq)]

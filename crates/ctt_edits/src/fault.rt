@@ -3,7 +3,7 @@
 ghost use Rattle.std.specs.Prelude.{◌↔◌, IsTrue};
 ghost use Rattle.ctt_edits.specs.Fitting.{FaultFits};
 
-use ctt_text::{CourseNo, Instance};
+use ctt_problem::{CourseNo, Instance};
 use thiserror::Error;
 
 /// The reason why an edit is refused.

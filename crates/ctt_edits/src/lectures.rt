@@ -2,7 +2,7 @@
 
 ghost use Rattle.std.specs.Prelude.{◌≡◌, ◌↔◌, IfOk, IsTrue};
 
-use ctt_text::{NoMemory, Placed};
+use ctt_problem::{NoMemory, Placed};
 use std::marker::Model;
 
 /// A list of lectures; contracts see the list.
@@ -19,7 +19,7 @@ impl Drop for Lectures {
 
 impl Model for Lectures {
     ghost use Rattle.std.specs.Prelude.{List};
-    ghost use Rattle.ctt_text.specs.declared.placed.Placed.{Placed};
+    ghost use Rattle.ctt_problem.specs.declared.placed.Placed.{Placed};
 
     ghost Value = { List Placed };
 

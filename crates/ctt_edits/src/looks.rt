@@ -5,7 +5,7 @@ ghost use Rattle.ctt_edits.specs.Looks.{LookFits};
 
 use crate::edit::Edit;
 use crate::pattern::Pattern;
-use ctt_text::{CourseNo, CurriculumNo, Instance, SlotNo, TeacherNo};
+use ctt_problem::{CourseNo, CurriculumNo, Instance, SlotNo, TeacherNo};
 
 /// The maximum number of edits that a look can request.
 const MOST_EDITS: u16 = 1000;

@@ -1,12 +1,12 @@
 //! The courses with missing lectures.
 
 ghost use Rattle.std.specs.Prelude.{◌≡◌, ◌<◌, IfOk};
-ghost use Rattle.ctt_text.specs.Problem.{course_count};
+ghost use Rattle.ctt_problem.specs.Problem.{course_count};
 ghost use Rattle.ctt_edits.specs.Missing.{missing_of, missing};
 
 use crate::shortfall::{Shortfall, Shortfalls};
 use ctt_board::Sheet;
-use ctt_text::{CourseNo, NoMemory};
+use ctt_problem::{CourseNo, NoMemory};
 use std::alloc::Global;
 
 /// Returns how many lectures of a course are not placed.

@@ -1,12 +1,12 @@
 //! Patterns: edits in which a part is left open.
 
 ghost use Rattle.std.specs.Prelude.{◌≡◌, ◌↔◌, ◌-◌, IsTrue};
-ghost use Rattle.ctt_text.specs.Problem.{slot_count, room_count};
+ghost use Rattle.ctt_problem.specs.Problem.{slot_count, room_count};
 ghost use Rattle.ctt_edits.specs.Patterns.{FitsIfGiven, IsRoomIfGiven, PatternFits, choices};
 ghost use Rattle.ctt_edits.specs.Candidates.{from_to, edit_by, first_choices, second_choices};
 
 use crate::edit::Edit;
-use ctt_text::{CourseNo, Instance, RoomNo, SlotNo};
+use ctt_problem::{CourseNo, Instance, RoomNo, SlotNo};
 use std::ops::Range;
 
 /// The word that stands for any room, slot or lecture in the text of a pattern.

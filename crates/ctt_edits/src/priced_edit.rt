@@ -5,7 +5,7 @@ ghost use Rattle.ctt_edits.specs.Fitting.{PricedFits};
 
 use crate::edit::Edit;
 use crate::reply::GREATEST;
-use ctt_text::{Instance, NoMemory};
+use ctt_problem::{Instance, NoMemory};
 use std::alloc::Global;
 use std::marker::Model;
 

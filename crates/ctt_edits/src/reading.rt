@@ -2,9 +2,9 @@
 
 ghost use Rattle.std.specs.Prelude.{◌≡◌, ◌<◌, ◌≤◌, ◌==◌, ◌||◌, ◌∷◌, [], ℕ, true, IfOk};
 ghost use Rattle.std.specs.List.{list_any, AllByRecursion as Each};
-ghost use Rattle.ctt_text.specs.Lists.{has};
-ghost use Rattle.ctt_text.specs.Marks.{is_marked};
-ghost use Rattle.ctt_text.specs.Problem.{course_of, course_count, slot_count, teacher_count, mates};
+ghost use Rattle.ctt_problem.specs.Lists.{has};
+ghost use Rattle.ctt_problem.specs.Marks.{is_marked};
+ghost use Rattle.ctt_problem.specs.Problem.{course_of, course_count, slot_count, teacher_count, mates};
 ghost use Rattle.ctt_edits.specs.Calls.{CallFits, with_mates, is_choice, pattern_reads_course, pattern_reads_slot, edit_courses, edit_slots, look_reads_course, look_reads_slot, reads_course, reads_slot, reads};
 ghost use Rattle.ctt_edits.specs.Edits.{EditFits};
 ghost use Rattle.ctt_edits.specs.Looks.{LookFits};
@@ -16,7 +16,7 @@ use crate::looks::Look;
 use crate::pattern::Pattern;
 use crate::row::Row;
 use crate::rows_read::RowsRead;
-use ctt_text::{CourseNo, Instance, Marks, NoMemory, SlotNo, TeacherNo};
+use ctt_problem::{CourseNo, Instance, Marks, NoMemory, SlotNo, TeacherNo};
 use std::alloc::Global;
 
 fn mark_course(instance: &Instance, course: CourseNo, marks: &mut Marks)

@@ -2,15 +2,15 @@
 
 ghost use Rattle.std.specs.Prelude.{◌≡◌, ◌↔◌, IfOk, IsTrue};
 ghost use Rattle.std.specs.List.{AllByRecursion as Each};
-ghost use Rattle.ctt_text.specs.Timetable.{Fits};
+ghost use Rattle.ctt_problem.specs.Timetable.{Fits};
 ghost use Rattle.ctt_edits.specs.Fitting.{CostFits, ShortfallFits, PricedFits, ReplyFits};
 
 use crate::fault::EditFault;
 use crate::lectures::Lectures;
 use crate::priced_edit::{PricedEdit, PricedEdits};
 use crate::shortfall::{Shortfall, Shortfalls};
+use ctt_problem::{Instance, NoMemory, Placed};
 use ctt_rules::Cost;
-use ctt_text::{Instance, NoMemory, Placed};
 
 /// The reply to an edit or a look.
 #[derive(Drop)]

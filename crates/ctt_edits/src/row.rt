@@ -3,7 +3,7 @@
 ghost use Rattle.std.specs.Prelude.{◌↔◌, IsTrue};
 ghost use Rattle.ctt_edits.specs.Calls.{RowBefore};
 
-use ctt_text::{CourseNo, SlotNo};
+use ctt_problem::{CourseNo, SlotNo};
 
 /// A row of a timetable. Rows are ordered: courses by number, then slots by number.
 #[derive(Clone, Copy, PartialEq, Eq, PartialOrd, Ord)]

@@ -1,9 +1,9 @@
 //! The set of rows that some calls read.
 
 ghost use Rattle.std.specs.Prelude.{◌≡◌, ◌≤◌, ◌++◌, map, false, IfOk, OnOk};
-ghost use Rattle.ctt_text.specs.Lists.{below};
-ghost use Rattle.ctt_text.specs.Marks.{is_marked, IsLeast};
-ghost use Rattle.ctt_text.specs.Problem.{course_count, slot_count};
+ghost use Rattle.ctt_problem.specs.Lists.{below};
+ghost use Rattle.ctt_problem.specs.Marks.{is_marked, IsLeast};
+ghost use Rattle.ctt_problem.specs.Problem.{course_count, slot_count};
 ghost use Rattle.ctt_edits.specs.Calls.{CallFits};
 ghost use Rattle.ctt_edits.specs.declared.row.Row.TheVariants.{Course as CourseRow, Slot as SlotRow};
 ghost use Rattle.ctt_edits.specs.RowSets.{has_course, has_slot, is_in, rows_of, AddsReads, between};
@@ -11,7 +11,7 @@ ghost use Rattle.ctt_edits.specs.RowSets.{has_course, has_slot, is_in, rows_of, 
 use crate::call::Call;
 use crate::reading::mark_reads;
 use crate::row::Row;
-use ctt_text::{CourseNo, Instance, Marks, NoMemory, SlotNo};
+use ctt_problem::{CourseNo, Instance, Marks, NoMemory, SlotNo};
 use std::alloc::Global;
 use std::marker::Model;
 

@@ -3,7 +3,7 @@
 ghost use Rattle.std.specs.Prelude.{◌≡◌, ◌↔◌, IfOk, IsTrue};
 ghost use Rattle.ctt_edits.specs.Fitting.{ShortfallFits};
 
-use ctt_text::{CourseNo, Instance, NoMemory};
+use ctt_problem::{CourseNo, Instance, NoMemory};
 use std::marker::Model;
 
 /// A course with missing lectures.

@@ -1,8 +1,8 @@
 //! Replies to looks.
 
 ghost use Rattle.std.specs.Prelude.{◌≡◌, ◌<◌, IfOk, filter};
-ghost use Rattle.ctt_text.specs.Marks.{is_marked};
-ghost use Rattle.ctt_text.specs.Problem.{course_count, teacher_count, curriculum_count, members};
+ghost use Rattle.ctt_problem.specs.Marks.{is_marked};
+ghost use Rattle.ctt_problem.specs.Problem.{course_count, teacher_count, curriculum_count, members};
 ghost use Rattle.ctt_rules.specs.Penalty.{course_cost, lectures_of};
 ghost use Rattle.ctt_edits.specs.Edits.{EditFits, edit_fault};
 ghost use Rattle.ctt_edits.specs.Looks.{LookFits, price, teacher_row, told_or, shown};
@@ -20,8 +20,8 @@ use crate::reading::{mark_courses, mark_taught};
 use crate::reply::Reply;
 use crate::rows_read::next_marked;
 use ctt_board::Sheet;
+use ctt_problem::{CourseNo, CurriculumNo, Marks, NoMemory, Placed, TeacherNo};
 use ctt_rules::Cost;
-use ctt_text::{CourseNo, CurriculumNo, Marks, NoMemory, Placed, TeacherNo};
 use std::alloc::Global;
 
 /// Returns the lectures of the marked courses, course by course.

@@ -5,7 +5,7 @@ use Rattle.ctt_text.specs.BarredLaws.{IsBarredCauseOf}
 use Rattle.ctt_text.specs.BarredText.{BarSpells}
 use Rattle.ctt_text.specs.InstanceLaws.{IsCauseOf}
 use Rattle.ctt_text.specs.InstanceText.{Spells}
-use Rattle.ctt_text.specs.Problem.{Problem}
+use Rattle.ctt_problem.specs.Problem.{Problem}
 use Rattle.ctt_text.specs.SolutionLaws.{IsSolutionCauseOf}
 use Rattle.ctt_text.specs.SolutionText.{SolSpells}
 use Rattle.ctt_text.specs.Words.{words}
@@ -15,8 +15,8 @@ use Rattle.ctt_text.specs.declared.fault.ReadFault.{ReadFault}
 use Rattle.ctt_text.specs.declared.fault.ReadFault.TheVariants as instance
 use Rattle.ctt_text.specs.declared.fault.SolutionFault.{SolutionFault}
 use Rattle.ctt_text.specs.declared.fault.SolutionFault.TheVariants as solution
-use Rattle.ctt_text.specs.declared.placed.Placed.{Placed}
-use Rattle.ctt_text.proofs.FormLaws.{err_is_ok, err_same}
+use Rattle.ctt_problem.specs.declared.placed.Placed.{Placed}
+use Rattle.ctt_problem.proofs.ResultLemmas.{err_is_ok, err_same}
 use Rattle.ctt_files.specs.Refusals.{IsNoText}
 use Rattle.ctt_files.specs.Texts.{IsNoBarred, IsNoInstance, IsNoSolution}
 use Rattle.ctt_files.specs.Faults.{fault_of_barred, fault_of_instance, fault_of_solution, status_of}

@@ -3,7 +3,7 @@ use Rattle.std.proofs.Common.{◌≡◌, ⊎_elim, ◌∷◌, [], ◌∙◌, inl
 use Rattle.std.specs.Global.{Global}
 use Rattle.std.specs.String.{string_bytes}
 use Rattle.std.specs.declared.string.String.{String}
-use Rattle.ctt_text.specs.Problem.{Problem}
+use Rattle.ctt_problem.specs.Problem.{Problem}
 use Rattle.ctt_text.specs.BarredPlaces as barred
 use Rattle.ctt_text.specs.InstancePlaces as instance
 use Rattle.ctt_text.specs.SolutionPlaces.{lacks_memory}
@@ -16,7 +16,7 @@ use Rattle.ctt_files.specs.Faults.{IfUnwritten, fault_of_barred, fault_of_input,
 use Rattle.ctt_files.specs.Refusals.{IsNoText, IsOfBarred, IsOfFile, IsOfFiles, IsOfInstance, IsOfInstanceIn, IsOfInstanceOr, IsOfSolution, IsOfStart, IsOfText}
 use Rattle.ctt_files.specs.Texts.{Held, Holds, IsInstanceIn}
 use Rattle.ctt_files.specs.declared.fault.Fault.{Fault}
-use Rattle.ctt_files.specs.declared.fault.Fault.TheVariants.{BadSeats, Barred, CannotRead, CannotWrite, Instance, Journal, MinutesExist, NoCourse, NoCurriculum, NoMemory, NoPlace, NoRoom, NoTeacher, NoThread, NotYours, Opening, Solution, TooLong, TooManyScripts, Words, WordsNotText}
+use Rattle.ctt_files.specs.declared.fault.Fault.TheVariants.{BadSeats, Barred, CannotRead, CannotWrite, Instance, Journal, MinutesExist, NoCourse, NoCurriculum, NoMemory, NoPlace, NoRoom, NoTeacher, NoThread, NoWord, NotYours, Opening, Solution, TooLong, TooManyScripts, Words, WordsNotText}
 
 -- the fault is of a text, a file, a place or a thread, or memory ran out
 abbrev pub IsPlain : Fault → Type 0
@@ -49,6 +49,7 @@ plain_written (NoCurriculum name) P Q plain q = q
 plain_written (NoTeacher name) P Q plain q = q
 plain_written (NoCourse name) P Q plain q = q
 plain_written (NoRoom name) P Q plain q = q
+plain_written (NoWord word file) P Q plain q = q
 
 pub unwritten_more : (fault : Fault) (P Q R S : Type 0) → (P → R) → (Q → S) → IfUnwritten fault P Q → IfUnwritten fault R S
 unwritten_more (Instance met) P Q R S p q is = q is
@@ -72,6 +73,7 @@ unwritten_more (NoCurriculum name) P Q R S p q is = q is
 unwritten_more (NoTeacher name) P Q R S p q is = q is
 unwritten_more (NoCourse name) P Q R S p q is = q is
 unwritten_more (NoRoom name) P Q R S p q is = q is
+unwritten_more (NoWord word file) P Q R S p q is = q is
 
 -- memory ran out, or it is this fault
 plain_or_memory : (wants : Bool) (fault : Fault) → IsPlain fault → IsPlain (if wants then NoMemory else fault)

@@ -15,7 +15,7 @@ use Rattle.ctt_text.specs.declared.fault.BarredFault.{BarredFault}
 use Rattle.ctt_text.specs.declared.fault.ReadFault.{ReadFault}
 use Rattle.ctt_text.specs.declared.fault.SolutionFault.{SolutionFault}
 use Rattle.ctt_files.specs.declared.fault.Fault.{Fault}
-use Rattle.ctt_files.specs.declared.fault.Fault.TheVariants.{BadSeats, Barred, CannotRead, CannotWrite, Instance, Journal, MinutesExist, NoCourse, NoCurriculum, NoMemory, NoPlace, NoRoom, NoTeacher, NoThread, NotYours, Opening, Solution, TooLong, TooManyScripts, Words, WordsNotText}
+use Rattle.ctt_files.specs.declared.fault.Fault.TheVariants.{BadSeats, Barred, CannotRead, CannotWrite, Instance, Journal, MinutesExist, NoCourse, NoCurriculum, NoMemory, NoPlace, NoRoom, NoTeacher, NoThread, NoWord, NotYours, Opening, Solution, TooLong, TooManyScripts, Words, WordsNotText}
 
 -- the program's fault for a fault of an instance: running out of memory has a fault of its own
 abbrev pub fault_of_instance : ReadFault → Fault
@@ -47,6 +47,7 @@ status_of (NoCurriculum name) = 1
 status_of (NoTeacher name) = 1
 status_of (NoCourse name) = 1
 status_of (NoRoom name) = 1
+status_of (NoWord word file) = 1
 status_of (Words text) = 2
 status_of WordsNotText = 2
 status_of TooManyScripts = 2
@@ -80,7 +81,8 @@ abbrev pub place_line : List ℕ → List ℕ → ℕ → List ℕ
 place_line what code at = line ((codes "timedesk: " ++ what) ∷ code ∷ decimal at ∷ [])
 
 -- what is reported of a fault: the texts of Words and Opening unchanged, the line of a text that is
--- refused, a fixed line if memory ran out, and otherwise a text that ends with a line feed
+-- refused or lacks a word, a fixed line if memory ran out, and otherwise a text that ends with a
+-- line feed
 abbrev pub IsLineOf : Fault → List ℕ → Type 0
 IsLineOf (Words text) bytes = bytes ≡ string_bytes text
 IsLineOf (Opening text) bytes = bytes ≡ string_bytes text
@@ -88,4 +90,5 @@ IsLineOf NoMemory bytes = bytes ≡ codes "timedesk: no memory\n"
 IsLineOf (Instance met) bytes = bytes ≡ place_line (codes "instance") (instance_code met) (instance_at met)
 IsLineOf (Solution met) bytes = bytes ≡ place_line (codes "solution") (solution_code met) (solution_at met)
 IsLineOf (Barred met) bytes = bytes ≡ place_line (codes "barred") (barred_code met) (barred_at met)
+IsLineOf (NoWord word file) bytes = bytes ≡ line (codes "timedesk: no word" ∷ string_bytes word ∷ codes "in" ∷ string_bytes file ∷ [])
 IsLineOf _ bytes = EndsLine bytes

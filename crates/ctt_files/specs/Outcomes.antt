@@ -3,8 +3,8 @@ use Rattle.std.specs.Prelude.{ℕ}
 use Rattle.ctt_files.specs.declared.outcome.Outcome.{Outcome}
 use Rattle.ctt_files.specs.declared.outcome.Outcome.TheVariants.{Differs, Done, Incomplete, Unlawful}
 
--- 1 if an audit finds a different reply; under strict judging, 4 if the solution is not lawful and
--- 5 if it is lawful but not complete
+-- 1 if an audit finds a different reply or a comparison refuses a file; under strict judging, 4 if
+-- a solution is not lawful and 5 if all are lawful but one is not complete
 abbrev pub outcome_status : Outcome → ℕ
 outcome_status Done = 0
 outcome_status Differs = 1

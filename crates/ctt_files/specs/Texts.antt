@@ -6,10 +6,10 @@ use Rattle.std.specs.String.{string_bytes}
 use Rattle.std.specs.declared.string.String.{String}
 use Rattle.ctt_text.specs.BarredText.{BarSpells}
 use Rattle.ctt_text.specs.InstanceText.{Spells}
-use Rattle.ctt_text.specs.Problem.{Problem}
+use Rattle.ctt_problem.specs.Problem.{Problem}
 use Rattle.ctt_text.specs.SolutionText.{SolSpells}
 use Rattle.ctt_text.specs.Words.{words}
-use Rattle.ctt_text.specs.declared.placed.Placed.{Placed}
+use Rattle.ctt_problem.specs.declared.placed.Placed.{Placed}
 
 -- the bytes of files by name, if they are known
 abbrev pub Held : Type 0

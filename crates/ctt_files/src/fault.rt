@@ -79,6 +79,9 @@ pub enum Fault {
     /// The instance has no room of this name.
     #[error("timedesk: no room {0}")]
     NoRoom(String),
+    /// The file has no word of this number.
+    #[error("timedesk: no word {word} in {file}")]
+    NoWord { word: String, file: String },
 }
 
 /// The line of `NoMemory`. It is a constant, since it has to be reported without allocating.
@@ -105,6 +108,24 @@ fn place_line(alloc: Global, what: &str, code: &str, at: u64) -> Result<String, 
     Ok(text)
 }
 
+/// Returns the line for a word that a file does not have.
+fn word_line(alloc: Global, word: &str, file: &str) -> Result<String, AllocError>
+    ensures { IfOk result (λ text. string_bytes text
+        ≡ line (codes "timedesk: no word" ∷ word.now ∷ codes "in" ∷ file.now ∷ [])) }
+{
+    let mut text = String::new(alloc);
+    push_line(
+        &mut text,
+        &[
+            Word::text("timedesk: no word"),
+            Word::text(word),
+            Word::text("in"),
+            Word::text(file),
+        ],
+    )?;
+    Ok(text)
+}
+
 impl Fault {
     /// Returns the exit status of the program.
     pub fn status(&self) -> u8
@@ -119,7 +140,8 @@ impl Fault {
             | Fault::NoCurriculum(_)
             | Fault::NoTeacher(_)
             | Fault::NoCourse(_)
-            | Fault::NoRoom(_) => 1,
+            | Fault::NoRoom(_)
+            | Fault::NoWord { .. } => 1,
             Fault::Words(_) | Fault::WordsNotText | Fault::TooManyScripts | Fault::BadSeats => 2,
             Fault::CannotRead(_)
             | Fault::TooLong(_)
@@ -148,6 +170,7 @@ impl Fault {
             Fault::Barred(fault) => {
                 place_line(alloc, "timedesk: barred", fault.code(), fault.at())
             }
+            Fault::NoWord { word, file } => word_line(alloc, word, file),
             _ => end_line(self.to_string(alloc)?),
         }
     }

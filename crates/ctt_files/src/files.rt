@@ -13,7 +13,9 @@ use crate::input::{INPUT_LIMIT, InputFault, read_all};
 use crate::sink::put_whole;
 use crate::source::{Failed, Source};
 use std::alloc::Global;
-use std::{fs, rt};
+use std::io::Read;
+use std::rt::Stdin;
+use std::{fs, io, rt};
 
 /// Files that are read and written by name.
 pub trait Files {
@@ -41,31 +43,54 @@ pub trait Files {
             → held self.new other ≡ held self.old other };
 }
 
-/// The files of the system.
+/// The name under which standard input is read.
+const STANDARD: &str = "-";
+
+/// A file of the system opened for reading, or standard input.
+#[derive(Drop)]
+pub enum FileInput<T> {
+    Standard(Stdin),
+    File(T),
+}
+
+impl<T: Read> Read for FileInput<T> {
+    fn read(&mut self, buffer: &mut [u8]) -> io::Result<usize> {
+        match self {
+            FileInput::Standard(input) => input.read(buffer),
+            FileInput::File(file) => file.read(buffer),
+        }
+    }
+}
+
+/// The files of the system. The name `-` is that of standard input if it is read.
 #[derive(Drop)]
 pub struct SystemFiles<'r, R> {
     rt: &'r R,
+    input: Stdin,
 }
 
 impl<'r, R: rt::Files> SystemFiles<'r, R> {
     ghost use Rattle.ctt_files.specs.Files.{runtime_of};
 
-    /// Returns the files that the runtime can access.
-    pub fn new(rt: &'r R) -> Self
+    /// Returns the files that the runtime can access, and standard input.
+    pub fn new(rt: &'r R, input: Stdin) -> Self
         ensures { runtime_of result ≡ rt.now }
     {
-        SystemFiles { rt }
+        SystemFiles { rt, input }
     }
 }
 
 impl<'r, R: rt::Files> Files for SystemFiles<'r, R> {
-    type Input = Device<R::File>;
+    type Input = Device<FileInput<R::File>>;
 
     ghost held = { λ _ _. None };
 
-    fn fetch(&mut self, name: &str) -> Result<Device<R::File>, Failed> {
+    fn fetch(&mut self, name: &str) -> Result<Self::Input, Failed> {
+        if name == STANDARD {
+            return Ok(Device::new(FileInput::Standard(self.input)));
+        }
         match fs::open(self.rt, name) {
-            Ok(file) => Ok(Device::new(file)),
+            Ok(file) => Ok(Device::new(FileInput::File(file))),
             Err(_) => Err(Failed),
         }
     }

@@ -14,7 +14,7 @@ mod texts;
 
 pub use device::Device;
 pub use fault::{Fault, NO_MEMORY};
-pub use files::{Files, SystemFiles, read_file, read_files};
+pub use files::{FileInput, Files, SystemFiles, read_file, read_files};
 pub use input::{INPUT_LIMIT, InputFault, read_all};
 pub use outcome::Outcome;
 pub use output::{complain, print};

@@ -5,7 +5,8 @@
 pub enum Outcome {
     /// The job was done.
     Done,
-    /// A reply in the journal differs from that of the audit.
+    /// A reply in the journal differs from that of the audit, or a comparison was given a file that
+    /// is refused.
     Differs,
     /// A solution that was judged strictly is not lawful.
     Unlawful,

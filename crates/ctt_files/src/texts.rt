@@ -3,7 +3,7 @@
 ghost use Rattle.std.specs.Prelude.{◌≡◌, IfOk, OnOk, IfErr, IfSome};
 ghost use Rattle.std.specs.String.{string_bytes};
 ghost use Rattle.std.specs.List.{AllByRecursion as Each};
-ghost use Rattle.ctt_text.specs.Timetable.{Fits, IsTimetable};
+ghost use Rattle.ctt_problem.specs.Timetable.{Fits, IsTimetable};
 ghost use Rattle.ctt_files.specs.Refusals.{IsOfBarred, IsOfInstance, IsOfInstanceIn, IsOfSolution, IsOfStart};
 ghost use Rattle.ctt_files.specs.Texts.{IsBarredBy, IsInstanceIn, IsInstanceText, IsSolutionText, IsStart};
 

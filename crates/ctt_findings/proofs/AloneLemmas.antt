@@ -1,10 +1,10 @@
 -- The lectures of a course that are isolated in a curriculum, by marks on slots.
 use Rattle.std.proofs.Common.{◌≡◌, ℕ, ◌-◌, ◌+◌, ◌<◌, Bool, List, not, ◌&&◌, ◌||◌, ltb, sym, ◌∙◌, ap, ap₂}
 use Rattle.std.specs.List.{filter_map, list_any}
-use Rattle.ctt_text.specs.Problem.{Problem, members, period_of, slot_count}
-use Rattle.ctt_text.specs.Timetable.{IsTimetable, Fits, course_row}
-use Rattle.ctt_text.specs.declared.placed.Placed.{Placed}
-use Rattle.ctt_text.proofs.TimetableLemmas.{Each-map}
+use Rattle.ctt_problem.specs.Problem.{Problem, members, period_of, slot_count}
+use Rattle.ctt_problem.specs.Timetable.{IsTimetable, Fits, course_row}
+use Rattle.ctt_problem.specs.declared.placed.Placed.{Placed}
+use Rattle.ctt_problem.proofs.TimetableLemmas.{Each-map}
 use Rattle.ctt_rules.specs.Neighbours.{busy, is_beside}
 use Rattle.ctt_rules.specs.Penalty.{is_alone, next_to, lectures_of}
 use Rattle.ctt_rules.proofs.NeighbourLemmas.{neighbour_is}

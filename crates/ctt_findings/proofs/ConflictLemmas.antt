@@ -5,12 +5,12 @@ use Rattle.std.specs.Option.{unwrap_or}
 use Rattle.std.proofs.lemmas.Bool.{cases_Bool, eqb-true, lt-ltb, le-ltb, and_parts}
 use Rattle.std.proofs.lemmas.List.{take_all, drop_more, drop_all}
 use Rattle.std.proofs.lemmas.List.Folds.{list_any_more, list_any-append}
-use Rattle.ctt_text.specs.Lists.{below, has}
-use Rattle.ctt_text.specs.Belonging.{curricula_of}
-use Rattle.ctt_text.specs.Problem.{Problem, course_count, curriculum_count, members, mates, clash}
-use Rattle.ctt_text.specs.Timetable.{course_row}
-use Rattle.ctt_text.specs.declared.placed.Placed.{Placed}
-use Rattle.ctt_text.proofs.TimetableLemmas.{Each-map}
+use Rattle.ctt_problem.specs.Lists.{below, has}
+use Rattle.ctt_problem.specs.Belonging.{curricula_of}
+use Rattle.ctt_problem.specs.Problem.{Problem, course_count, curriculum_count, members, mates, clash}
+use Rattle.ctt_problem.specs.Timetable.{course_row}
+use Rattle.ctt_problem.specs.declared.placed.Placed.{Placed}
+use Rattle.ctt_problem.proofs.TimetableLemmas.{Each-map}
 use Rattle.ctt_rules.specs.Neighbours.{busy}
 use Rattle.ctt_rules.proofs.ListLemmas.{Each-every, Each-filter_passes}
 use Rattle.ctt_findings.specs.Findings.{conflict_finding, conflicts_between, for_each, where_passes, found, cause}

@@ -5,7 +5,7 @@ use Rattle.std.specs.Option.{option_to_list}
 use Rattle.std.proofs.lemmas.Bool.{cases_eq}
 use Rattle.std.proofs.lemmas.List.{append_assoc, drop_more, take-append-drop}
 use Rattle.std.proofs.lemmas.List.Elements.{filter_map-append}
-use Rattle.ctt_text.specs.Marks.{IsLeast}
+use Rattle.ctt_problem.specs.Marks.{IsLeast}
 use Rattle.ctt_findings.specs.Findings.{for_each, where_passes}
 use Rattle.ctt_findings.specs.Hearing.{Hears, HearsFront}
 use Rattle.ctt_findings.specs.declared.finding.Finding.{Finding}

@@ -6,7 +6,7 @@ use Rattle.std.proofs.lemmas.Bool.{cases_lt}
 use Rattle.std.proofs.lemmas.Bool.Decides.{nat_tests}
 use Rattle.std.proofs.lemmas.List.{take_more}
 use Rattle.std.proofs.lemmas.List.Elements.{filter_map-append}
-use Rattle.ctt_text.specs.Marks.{IsLeast}
+use Rattle.ctt_problem.specs.Marks.{IsLeast}
 use Rattle.ctt_findings.specs.Findings.{for_each, where_passes}
 use Rattle.ctt_findings.specs.Hearing.{Hears}
 use Rattle.ctt_findings.specs.declared.finding.Finding.{Finding}

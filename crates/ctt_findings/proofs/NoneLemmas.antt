@@ -3,9 +3,9 @@ use Rattle.std.proofs.Common.{◌≡◌, ℕ, zero, suc, ◌+◌, Bool, true, fa
 use Rattle.std.specs.List.{filter_map}
 use Rattle.std.specs.Option.{option_to_list}
 use Rattle.std.proofs.lemmas.List.Sums.{sum_by-append}
-use Rattle.ctt_text.specs.Problem.{Problem, clash, course_count}
-use Rattle.ctt_text.specs.Timetable.{IsTimetable, course_row}
-use Rattle.ctt_text.specs.declared.placed.Placed.{Placed}
+use Rattle.ctt_problem.specs.Problem.{Problem, clash, course_count}
+use Rattle.ctt_problem.specs.Timetable.{IsTimetable, course_row}
+use Rattle.ctt_problem.specs.declared.placed.Placed.{Placed}
 use Rattle.ctt_rules.specs.Hard.{hard_counts}
 use Rattle.ctt_rules.specs.Neighbours.{busy}
 use Rattle.ctt_findings.specs.Findings.{cause, conflict_finding, conflict_findings, conflicts_between, conflicts_of, for_each, found}

@@ -5,10 +5,10 @@ use Rattle.std.proofs.lemmas.Bool.{eqb-true, ne_eqb}
 use Rattle.std.proofs.lemmas.Bool.Decides.{nat_tests}
 use Rattle.std.proofs.lemmas.List.{append_assoc}
 use Rattle.std.proofs.lemmas.List.Sums.{sum_by-cons, sum_by-append}
-use Rattle.ctt_text.specs.Lists.{Pairwise, sum_below}
-use Rattle.ctt_text.specs.Problem.{Problem, course_count, course_of, clash, mates}
-use Rattle.ctt_text.specs.Timetable.{IsTimetable, Ascending, before, course_row}
-use Rattle.ctt_text.specs.declared.placed.Placed.{Placed}
+use Rattle.ctt_problem.specs.Lists.{Pairwise, sum_below}
+use Rattle.ctt_problem.specs.Problem.{Problem, course_count, course_of, clash, mates}
+use Rattle.ctt_problem.specs.Timetable.{IsTimetable, Ascending, before, course_row}
+use Rattle.ctt_problem.specs.declared.placed.Placed.{Placed}
 use Rattle.ctt_rules.specs.Hard.{conflicts, conflict_count}
 use Rattle.ctt_rules.specs.Earlier.{tally, new_conflicts}
 use Rattle.ctt_rules.specs.Neighbours.{busy}

@@ -5,10 +5,10 @@ use Rattle.std.specs.Option.{option_to_list}
 use Rattle.std.proofs.lemmas.Bool.{cases_eq, eq-eqb, ne_eqb, lt-ltb}
 use Rattle.std.proofs.lemmas.List.{take_all}
 use Rattle.std.proofs.lemmas.List.Sums.{sum_by-cons, sum_by-append, sum_by_more}
-use Rattle.ctt_text.specs.Lists.{sum_below, has}
-use Rattle.ctt_text.specs.Problem.{Problem, course_of, course_count, members}
-use Rattle.ctt_text.specs.Timetable.{IsTimetable, course_row}
-use Rattle.ctt_text.specs.declared.placed.Placed.{Placed}
+use Rattle.ctt_problem.specs.Lists.{sum_below, has}
+use Rattle.ctt_problem.specs.Problem.{Problem, course_of, course_count, members}
+use Rattle.ctt_problem.specs.Timetable.{IsTimetable, course_row}
+use Rattle.ctt_problem.specs.declared.placed.Placed.{Placed}
 use Rattle.ctt_rules.specs.Hard.{share_room, missing_count, unavailable_count, barred_count, occupancy_count}
 use Rattle.ctt_rules.specs.Earlier.{tally, room_taken}
 use Rattle.ctt_rules.specs.Penalty.{penalty, unseated, days_cost, rooms_cost, is_alone, lectures_of, alone_cost}

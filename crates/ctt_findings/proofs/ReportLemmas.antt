@@ -10,7 +10,7 @@ use Rattle.std.proofs.lemmas.List.Folds.{list_any-append}
 use Rattle.serde_json.specs.Data.{Data, Members, array, boolean, member, no_items, no_members, object, put, string}
 use Rattle.serde_json.specs.Written.{comma_if, compact_text, has_float, items_text, members_text}
 use Rattle.serde_json.proofs.OnLiterals.{serde_json_on_literals}
-use Rattle.ctt_text.specs.Problem.{Problem}
+use Rattle.ctt_problem.specs.Problem.{Problem}
 use Rattle.ctt_rules.specs.declared.cost.Cost.{Cost}
 use Rattle.ctt_rules.specs.declared.hard.Hard.{Hard}
 use Rattle.ctt_findings.specs.Objects.{item_texts, objects_of}

@@ -4,7 +4,7 @@ use Rattle.std.specs.List.{list_any}
 use Rattle.std.specs.Option.{option_to_list}
 use Rattle.std.proofs.lemmas.List.{append_assoc, drop_more, take_more, take-append-drop}
 use Rattle.std.proofs.lemmas.List.Folds.{list_any_more}
-use Rattle.ctt_text.specs.declared.placed.Placed.{Placed}
+use Rattle.ctt_problem.specs.declared.placed.Placed.{Placed}
 use Rattle.ctt_rules.specs.Hard.{share_room}
 use Rattle.ctt_rules.specs.Earlier.{in_row}
 use Rattle.ctt_rules.proofs.NeighbourLemmas.{any_same}

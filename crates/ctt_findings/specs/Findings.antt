@@ -1,11 +1,11 @@
 -- The findings of a timetable: what breaks a hard rule or costs points, in the order of the report.
 use Rattle.std.specs.Prelude.{ℕ, zero, suc, Bool, cond, List, [], ◌∷◌, ◌++◌, length, filter_map, ◌==◌, ◌&&◌, not, nat_lt, Option, Some, None, option_to_list, unwrap_or, if◌then◌else◌}
 use Rattle.std.specs.List.{find, list_any}
-use Rattle.ctt_text.specs.Belonging.{curricula_of}
-use Rattle.ctt_text.specs.Lists.{has}
-use Rattle.ctt_text.specs.Problem.{Problem, course_of, course_count, curriculum_count, members, clash, is_unavailable, is_barred}
-use Rattle.ctt_text.specs.Timetable.{course_row}
-use Rattle.ctt_text.specs.declared.placed.Placed.{Placed}
+use Rattle.ctt_problem.specs.Belonging.{curricula_of}
+use Rattle.ctt_problem.specs.Lists.{has}
+use Rattle.ctt_problem.specs.Problem.{Problem, course_of, course_count, curriculum_count, members, clash, is_unavailable, is_barred}
+use Rattle.ctt_problem.specs.Timetable.{course_row}
+use Rattle.ctt_problem.specs.declared.placed.Placed.{Placed}
 use Rattle.ctt_rules.specs.Hard.{share_room}
 use Rattle.ctt_rules.specs.Neighbours.{busy}
 use Rattle.ctt_rules.specs.Penalty.{unseated, days_of, rooms_of, days_cost, rooms_cost, is_alone, lectures_of}

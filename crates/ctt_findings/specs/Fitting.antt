@@ -1,7 +1,7 @@
 -- Findings whose numbers are within the ranges of an instance.
 use Rattle.std.specs.Prelude.{◌<◌}
-use Rattle.ctt_text.specs.Problem.{Problem, course_count, slot_count, teacher_count, curriculum_count}
-use Rattle.ctt_text.specs.Timetable.{Fits}
+use Rattle.ctt_problem.specs.Problem.{Problem, course_count, slot_count, teacher_count, curriculum_count}
+use Rattle.ctt_problem.specs.Timetable.{Fits}
 use Rattle.ctt_findings.specs.declared.finding.Cause.{Cause}
 use Rattle.ctt_findings.specs.declared.finding.Cause.TheVariants.{Teacher, Curriculum}
 use Rattle.ctt_findings.specs.declared.finding.Finding.{Finding}

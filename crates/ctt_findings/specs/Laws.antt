@@ -1,8 +1,8 @@
 -- What holds of findings.
 use Rattle.std.specs.Prelude.{◌≡◌, ℕ, ◌+◌, ◌-◌, ◌++◌, false, List, codes, filter_map, sum_by, []}
-use Rattle.ctt_text.specs.Problem.{Problem}
-use Rattle.ctt_text.specs.Timetable.{IsTimetable}
-use Rattle.ctt_text.specs.declared.placed.Placed.{Placed}
+use Rattle.ctt_problem.specs.Problem.{Problem}
+use Rattle.ctt_problem.specs.Timetable.{IsTimetable}
+use Rattle.ctt_problem.specs.declared.placed.Placed.{Placed}
 use Rattle.ctt_rules.specs.Hard.{hard_counts}
 use Rattle.ctt_rules.specs.Penalty.{penalty}
 use Rattle.serde_json.specs.Written.{compact_text}

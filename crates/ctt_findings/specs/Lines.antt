@@ -2,8 +2,8 @@
 use Rattle.std.specs.Prelude.{ℕ, List, [], ◌∷◌, codes, flat_map, map, slice_index_or}
 use Rattle.std.specs.Fmt.{decimal}
 use Rattle.ctt_line.specs.Lines.{line as line_of}
-use Rattle.ctt_text.specs.Problem.{Problem, day_of, period_of}
-use Rattle.ctt_text.specs.declared.placed.Placed.{Placed}
+use Rattle.ctt_problem.specs.Problem.{Problem, day_of, period_of}
+use Rattle.ctt_problem.specs.declared.placed.Placed.{Placed}
 use Rattle.ctt_findings.specs.Findings.{findings}
 use Rattle.ctt_findings.specs.declared.finding.Cause.{Cause}
 use Rattle.ctt_findings.specs.declared.finding.Cause.TheVariants.{Teacher, Curriculum}

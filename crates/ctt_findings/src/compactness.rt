@@ -2,10 +2,10 @@
 
 ghost use Rattle.std.specs.Prelude.{◌≡◌, ◌<◌, ℕ, not, filter_map, IfSome, IfErr, OnOk};
 ghost use Rattle.std.specs.List.{AllByRecursion as Each};
-ghost use Rattle.ctt_text.specs.Lists.{has};
-ghost use Rattle.ctt_text.specs.Marks.{is_marked};
-ghost use Rattle.ctt_text.specs.Problem.{curriculum_count, members};
-ghost use Rattle.ctt_text.specs.Timetable.{IsTimetable, Fits};
+ghost use Rattle.ctt_problem.specs.Lists.{has};
+ghost use Rattle.ctt_problem.specs.Marks.{is_marked};
+ghost use Rattle.ctt_problem.specs.Problem.{curriculum_count, members};
+ghost use Rattle.ctt_problem.specs.Timetable.{IsTimetable, Fits};
 ghost use Rattle.ctt_rules.specs.Neighbours.{busy, is_beside};
 ghost use Rattle.ctt_rules.specs.Penalty.{lectures_of};
 ghost use Rattle.ctt_findings.specs.Findings.{compactness_finding, compactness_findings, compactness_of};
@@ -16,8 +16,8 @@ use crate::finding::Finding;
 use crate::listener::{Listener, tell};
 use crate::rows::Rows;
 use crate::untold::Untold;
+use ctt_problem::{CourseNo, CurriculumNo, Instance, Marks, Placed};
 use ctt_rules::{count_alone, mark_slots};
-use ctt_text::{CourseNo, CurriculumNo, Instance, Marks, Placed};
 use std::alloc::Global;
 use std::slice::from_ref;
 

@@ -2,9 +2,9 @@
 
 ghost use Rattle.std.specs.Prelude.{◌≡◌, ◌<◌, true, filter_map, IfSome, IfErr, OnOk};
 ghost use Rattle.std.specs.List.{AllByRecursion as Each};
-ghost use Rattle.ctt_text.specs.Marks.{is_marked};
-ghost use Rattle.ctt_text.specs.Problem.{clash, course_count, curriculum_count, mates};
-ghost use Rattle.ctt_text.specs.Timetable.{IsTimetable, Fits};
+ghost use Rattle.ctt_problem.specs.Marks.{is_marked};
+ghost use Rattle.ctt_problem.specs.Problem.{clash, course_count, curriculum_count, mates};
+ghost use Rattle.ctt_problem.specs.Timetable.{IsTimetable, Fits};
 ghost use Rattle.ctt_findings.specs.Findings.{cause, common_curriculum, conflict_finding, conflict_findings, conflicts_of};
 ghost use Rattle.ctt_findings.specs.Fitting.{CauseFits, FindingFits};
 ghost use Rattle.ctt_findings.specs.Hearing.{Hears, HearsFront};
@@ -12,8 +12,8 @@ ghost use Rattle.ctt_findings.specs.Hearing.{Hears, HearsFront};
 use crate::finding::{Cause, Finding};
 use crate::listener::{Listener, tell};
 use crate::untold::Untold;
+use ctt_problem::{CourseNo, CurriculumNo, Instance, Marks, Placed};
 use ctt_rules::{course_row, hard_counts, mark_slots};
-use ctt_text::{CourseNo, CurriculumNo, Instance, Marks, Placed};
 
 /// Returns the least curriculum that has both courses, or the number of curricula if none has.
 fn common_curriculum(instance: &Instance, course: CourseNo, other: CourseNo) -> CurriculumNo

@@ -2,8 +2,8 @@
 
 ghost use Rattle.std.specs.Prelude.{◌≡◌, ◌<◌, ◌≤◌, ◌++◌, ◌∷◌, [], codes};
 ghost use Rattle.arrayvec.specs.ArrayVec.{array_vec_len};
-ghost use Rattle.ctt_text.specs.Problem.{course_count, curriculum_count, room_count, slot_count};
-ghost use Rattle.ctt_text.specs.Timetable.{Fits};
+ghost use Rattle.ctt_problem.specs.Problem.{course_count, curriculum_count, room_count, slot_count};
+ghost use Rattle.ctt_problem.specs.Timetable.{Fits};
 ghost use Rattle.ctt_findings.specs.Fitting.{CauseFits, FindingFits};
 ghost use Rattle.ctt_findings.specs.Lines.{cause_facts, course, day, fact, facts, kind, period, points, room, word};
 ghost use Rattle.ctt_findings.specs.declared.finding.Finding.TheVariants.{Lectures, Conflict, Availability, Occupancy, Barred, Capacity, Days, Compactness, Stability};
@@ -11,7 +11,7 @@ ghost use Rattle.ctt_findings.specs.declared.finding.Finding.TheVariants.{Lectur
 use crate::fact::Fact;
 use crate::finding::{Cause, Finding};
 use arrayvec::ArrayVec;
-use ctt_text::{CourseNo, CurriculumNo, Instance, Placed, RoomNo, SlotNo};
+use ctt_problem::{CourseNo, CurriculumNo, Instance, Placed, RoomNo, SlotNo};
 
 /// Returns the kind of a finding as a fact.
 fn kind<'i>(name: &'i str) -> Fact<'i>

@@ -1,22 +1,22 @@
 //! Rules that are checked course by course.
 
 ghost use Rattle.std.specs.Prelude.{IfErr, OnOk};
-ghost use Rattle.ctt_text.specs.Timetable.{IsTimetable};
+ghost use Rattle.ctt_problem.specs.Timetable.{IsTimetable};
 ghost use Rattle.ctt_findings.specs.Findings.{by_course};
 ghost use Rattle.ctt_findings.specs.Hearing.{Hears, HearsFront};
 
 use crate::finding::Finding;
 use crate::listener::{Listener, tell};
 use crate::untold::Untold;
+use ctt_problem::{CourseNo, Instance, Placed};
 use ctt_rules::{course_cost, course_row};
-use ctt_text::{CourseNo, Instance, Placed};
 
 /// A rule that is checked for each course by its lectures.
 pub(crate) trait OfCourse {
     ghost use Rattle.std.specs.Prelude.{◌≡◌, ◌<◌, ℕ, List, Option, IfSome};
-    ghost use Rattle.ctt_text.specs.Problem.{Problem, course_count};
-    ghost use Rattle.ctt_text.specs.Timetable.{IsTimetable, course_row};
-    ghost use Rattle.ctt_text.specs.declared.placed.Placed.{Placed as Lecture};
+    ghost use Rattle.ctt_problem.specs.Problem.{Problem, course_count};
+    ghost use Rattle.ctt_problem.specs.Timetable.{IsTimetable, course_row};
+    ghost use Rattle.ctt_problem.specs.declared.placed.Placed.{Placed as Lecture};
     ghost use Rattle.ctt_findings.specs.Fitting.{FindingFits};
     ghost use Rattle.ctt_findings.specs.declared.finding.Finding.{Finding as Found};
 

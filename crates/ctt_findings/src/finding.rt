@@ -1,6 +1,6 @@
 //! Findings: what breaks a hard rule, or costs points.
 
-use ctt_text::{CourseNo, CurriculumNo, Placed, SlotNo, TeacherNo};
+use ctt_problem::{CourseNo, CurriculumNo, Placed, SlotNo, TeacherNo};
 
 /// Why two courses clash.
 #[derive(Clone, Copy, PartialEq, Eq)]

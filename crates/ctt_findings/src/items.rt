@@ -11,7 +11,7 @@ use crate::contents::facts;
 use crate::fact::{Fact, FactValue};
 use crate::finding::Finding;
 use crate::members::{put_count, put_text};
-use ctt_text::Instance;
+use ctt_problem::Instance;
 use serde_json::{Map, Value};
 use std::alloc::{AllocError, Global};
 

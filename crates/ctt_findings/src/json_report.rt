@@ -1,18 +1,18 @@
 //! The report on a timetable as JSON, without its findings or around them.
 
-ghost use Rattle.std.specs.Prelude.{◌≡◌, ◌++◌, ◌^◌, ◌<◌, false, IfOk, OnOk, codes, position};
+ghost use Rattle.std.specs.Prelude.{◌≡◌, ◌++◌, ◌^◌, ◌<◌, false, length, IfOk, OnOk, codes, position};
 ghost use Rattle.serde_json.specs.Data.{array, boolean, no_items, object, put as with_member};
 ghost use Rattle.serde_json.specs.View.{members_view};
 ghost use Rattle.serde_json.specs.Written.{compact_text, has_float};
-ghost use Rattle.ctt_text.specs.Timetable.{IsTimetable};
+ghost use Rattle.ctt_problem.specs.Timetable.{IsTimetable};
 ghost use Rattle.ctt_rules.specs.Penalty.{total};
 ghost use Rattle.ctt_findings.specs.Findings.{findings};
 ghost use Rattle.ctt_findings.specs.Objects.{item_texts};
 ghost use Rattle.ctt_findings.specs.ReportText.{IsExplainedJson, IsJsonReport, explained_json_of, is_bracket, members_of, with_barred, with_cost, with_hard};
 
 use crate::members::{put_count, put_text};
+use ctt_problem::{Instance, NoMemory, Placed};
 use ctt_rules::{Assessment, Cost, Hard, assess};
-use ctt_text::{Instance, NoMemory, Placed};
 use serde_json::{Map, Value};
 use std::alloc::{AllocError, Global};
 
@@ -155,10 +155,11 @@ pub fn report_around(
     timetable: &[Placed],
 ) -> Result<(Vec<u8>, Vec<u8>), NoMemory>
     requires { IsTimetable instance.now timetable.now }
-    ensures { IfOk result (λ parts. IsExplainedJson instance.now timetable.now
+    ensures parts { IfOk result (λ parts. IsExplainedJson instance.now timetable.now
         (parts.0.items
         ++ (item_texts instance.now false (findings instance.now timetable.now)
         ++ parts.1.items))) }
+    ensures front { IfOk result (λ parts. 0 < length parts.0.items) }
 {
     let barred = instance.has_barred();
     let assessment = assess(instance, timetable);

@@ -2,20 +2,20 @@
 
 ghost use Rattle.std.specs.Prelude.{IfErr, OnOk, filter_map};
 ghost use Rattle.std.specs.List.{AllByRecursion as Each};
-ghost use Rattle.ctt_text.specs.Timetable.{Fits};
+ghost use Rattle.ctt_problem.specs.Timetable.{Fits};
 ghost use Rattle.ctt_findings.specs.Hearing.{Hears, HearsFront};
 
 use crate::finding::Finding;
 use crate::listener::{Listener, tell};
 use crate::untold::Untold;
-use ctt_text::{Instance, Placed};
+use ctt_problem::{Instance, Placed};
 
 /// A rule that is checked for each lecture by itself.
 pub(crate) trait OfLecture {
     ghost use Rattle.std.specs.Prelude.{◌≡◌, Option, IfSome};
-    ghost use Rattle.ctt_text.specs.Problem.{Problem};
-    ghost use Rattle.ctt_text.specs.Timetable.{Fits};
-    ghost use Rattle.ctt_text.specs.declared.placed.Placed.{Placed as Lecture};
+    ghost use Rattle.ctt_problem.specs.Problem.{Problem};
+    ghost use Rattle.ctt_problem.specs.Timetable.{Fits};
+    ghost use Rattle.ctt_problem.specs.declared.placed.Placed.{Placed as Lecture};
     ghost use Rattle.ctt_findings.specs.Fitting.{FindingFits};
     ghost use Rattle.ctt_findings.specs.declared.finding.Finding.{Finding as Found};
 

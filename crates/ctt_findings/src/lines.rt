@@ -9,7 +9,7 @@ use crate::fact::Fact;
 use crate::finding::Finding;
 use arrayvec::ArrayVec;
 use ctt_line::Word;
-use ctt_text::Instance;
+use ctt_problem::Instance;
 use std::alloc::AllocError;
 
 /// Returns the values of facts as words of a line.

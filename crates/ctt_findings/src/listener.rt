@@ -6,11 +6,11 @@ ghost use Rattle.ctt_findings.specs.Hearing.{Hears, HearsFront};
 
 use crate::finding::Finding;
 use crate::untold::Untold;
-use ctt_text::Instance;
+use ctt_problem::Instance;
 
 /// A receiver of findings, which come one at a time: for example, one that writes them.
 pub trait Listener {
-    ghost use Rattle.ctt_text.specs.Problem.{Problem};
+    ghost use Rattle.ctt_problem.specs.Problem.{Problem};
     ghost use Rattle.ctt_findings.specs.declared.finding.Finding.{Finding as Found};
     ghost use Rattle.ctt_findings.specs.declared.untold.Untold.{Untold as Fault};
 

@@ -1,7 +1,7 @@
 //! The lectures in rooms that are already taken.
 
 ghost use Rattle.std.specs.Prelude.{◌≡◌, ◌<◌, ◌==◌, ◌&&◌, ◌||◌, [], ℕ, false, length, IfOk, IfErr, OnOk};
-ghost use Rattle.ctt_text.specs.Timetable.{IsTimetable};
+ghost use Rattle.ctt_problem.specs.Timetable.{IsTimetable};
 ghost use Rattle.ctt_rules.specs.Earlier.{in_row};
 ghost use Rattle.ctt_findings.specs.Findings.{occupancy_finding, occupancy_from};
 ghost use Rattle.ctt_findings.specs.Hearing.{Hears, HearsFront};
@@ -9,7 +9,7 @@ ghost use Rattle.ctt_findings.specs.Hearing.{Hears, HearsFront};
 use crate::finding::Finding;
 use crate::listener::{Listener, tell};
 use crate::untold::Untold;
-use ctt_text::{Instance, Marks, NoMemory, Placed};
+use ctt_problem::{Instance, Marks, NoMemory, Placed};
 use std::alloc::Global;
 use std::marker::Model;
 

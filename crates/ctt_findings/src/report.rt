@@ -2,13 +2,13 @@
 
 ghost use Rattle.std.specs.Prelude.{◌≡◌, ◌++◌, ◌^◌, ◌<◌, IfOk, OnOk};
 ghost use Rattle.std.specs.String.{string_bytes};
-ghost use Rattle.ctt_text.specs.Timetable.{IsTimetable};
+ghost use Rattle.ctt_problem.specs.Timetable.{IsTimetable};
 ghost use Rattle.ctt_rules.specs.Penalty.{total};
 ghost use Rattle.ctt_findings.specs.ReportText.{IsTextReport, answer_word, barred_line, line, text_of};
 
 use ctt_line::{Word, push_line};
+use ctt_problem::{Instance, NoMemory, Placed};
 use ctt_rules::{Assessment, assess};
-use ctt_text::{Instance, NoMemory, Placed};
 use std::alloc::{AllocError, Global};
 
 /// Adds a line with a key and its value.

@@ -2,10 +2,10 @@
 
 ghost use Rattle.std.specs.Prelude.{◌≡◌, IfOk};
 ghost use Rattle.std.specs.List.{AllByRecursion as Each};
-ghost use Rattle.ctt_text.specs.Timetable.{IsTimetable, Fits, course_row};
+ghost use Rattle.ctt_problem.specs.Timetable.{IsTimetable, Fits, course_row};
 
+use ctt_problem::{CourseNo, Instance, NoMemory, Placed};
 use ctt_rules::course_row;
-use ctt_text::{CourseNo, Instance, NoMemory, Placed};
 use std::alloc::Global;
 use std::marker::Model;
 
@@ -18,7 +18,7 @@ pub(crate) struct Rows<'t> {
 
 impl<'t> Model for Rows<'t> {
     ghost use Rattle.std.specs.Prelude.{List};
-    ghost use Rattle.ctt_text.specs.declared.placed.Placed.{Placed as Lecture};
+    ghost use Rattle.ctt_problem.specs.declared.placed.Placed.{Placed as Lecture};
     ghost use Rattle.ctt_findings.specs.Rows.{AreRows};
 
     ghost Value = { List Lecture };

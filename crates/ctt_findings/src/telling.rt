@@ -1,7 +1,7 @@
 //! All findings of a timetable.
 
 ghost use Rattle.std.specs.Prelude.{OnOk, IfErr};
-ghost use Rattle.ctt_text.specs.Timetable.{IsTimetable};
+ghost use Rattle.ctt_problem.specs.Timetable.{IsTimetable};
 ghost use Rattle.ctt_findings.specs.Findings.{findings, hard_findings, soft_findings};
 ghost use Rattle.ctt_findings.specs.Hearing.{Hears, HearsFront};
 
@@ -12,7 +12,7 @@ use crate::lectures::{BarredRoom, Overfull, Unavailable, tell_of_lectures};
 use crate::listener::Listener;
 use crate::occupancy::tell_occupancy;
 use crate::untold::Untold;
-use ctt_text::{Instance, Placed};
+use ctt_problem::{Instance, Placed};
 use std::alloc::Global;
 
 /// Reports what breaks the hard rules.

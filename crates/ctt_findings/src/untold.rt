@@ -1,6 +1,6 @@
 //! Why not all findings were reported.
 
-use ctt_text::NoMemory;
+use ctt_problem::NoMemory;
 use std::alloc::AllocError;
 use thiserror::Error;
 

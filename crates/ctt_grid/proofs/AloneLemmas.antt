@@ -5,9 +5,9 @@ use Rattle.std.proofs.Math.Nat.{suc-mul, mul-le-mul_right}
 use Rattle.std.proofs.lemmas.Nat.{div-add-mod'}
 use Rattle.std.proofs.lemmas.Bool.{cases_eq, eq-eqb, ne_eqb, lt-ltb, ltb-true}
 use Rattle.std.proofs.lemmas.Bool.Decides.{nat_tests}
-use Rattle.ctt_text.specs.Lists.{has, sum_below}
-use Rattle.ctt_text.specs.Problem.{Problem, slot_count, day_of, period_of}
-use Rattle.ctt_text.specs.declared.placed.Placed.{Placed}
+use Rattle.ctt_problem.specs.Lists.{has, sum_below}
+use Rattle.ctt_problem.specs.Problem.{Problem, slot_count, day_of, period_of}
+use Rattle.ctt_problem.specs.declared.placed.Placed.{Placed}
 use Rattle.ctt_rules.specs.Penalty.{next_to, lectures_of, alone_cost}
 use Rattle.ctt_rules.specs.Neighbours.{busy, is_beside}
 use Rattle.ctt_rules.proofs.ListLemmas.{Each-filter}

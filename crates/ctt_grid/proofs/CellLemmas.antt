@@ -1,8 +1,8 @@
 -- A change, made cell by cell.
 use Rattle.std.proofs.Common.{◌≡◌, ℕ, ◌+◌, ◌<◌, ◌≤◌, true, false, List, [], ◌∷◌, drop, length, get_or, Option, Some, None, sym, ap, subst, ◌∙◌, arith, is_some}
 use Rattle.std.proofs.lemmas.List.{drop_more}
-use Rattle.ctt_text.specs.Timetable.{before}
-use Rattle.ctt_text.specs.declared.placed.Placed.{Placed}
+use Rattle.ctt_problem.specs.Timetable.{before}
+use Rattle.ctt_problem.specs.declared.placed.Placed.{Placed}
 use Rattle.ctt_board.specs.Changes.{apply, apply_at, in_turn}
 use Rattle.ctt_board.specs.declared.cell.Cell.{Cell}
 use Rattle.ctt_board.proofs.PutLemmas.{length-put}

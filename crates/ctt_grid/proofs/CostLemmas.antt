@@ -1,8 +1,8 @@
 -- What a change does to the penalty, and a bound of the penalty.
 use Rattle.std.proofs.Common.{◌≡◌, ◌+◌, List, arith}
-use Rattle.ctt_text.specs.Problem.{Problem}
-use Rattle.ctt_text.specs.Timetable.{IsTimetable}
-use Rattle.ctt_text.specs.declared.placed.Placed.{Placed}
+use Rattle.ctt_problem.specs.Problem.{Problem}
+use Rattle.ctt_problem.specs.Timetable.{IsTimetable}
+use Rattle.ctt_problem.specs.declared.placed.Placed.{Placed}
 use Rattle.ctt_rules.specs.Penalty.{penalty, total}
 use Rattle.ctt_rules.proofs.TimetableLemmas.{courses_fit}
 use Rattle.ctt_board.specs.Changes.{apply}

@@ -2,10 +2,10 @@
 use Rattle.std.proofs.Common.{◌≡◌, ℕ, zero, suc, ◌+◌, ◌<◌, Bool, true, false, cond, ◌&&◌, ◌||◌, ◌==◌, eqb, ltb, List, [], ◌∷◌, refl, ◌∙◌, sym, ap, arith, inl, inr}
 use Rattle.std.specs.List.{filter, count_by, list_any}
 use Rattle.std.proofs.lemmas.Bool.{cases_eq, eq-eqb, ne_eqb, lt-ltb}
-use Rattle.ctt_text.specs.Lists.{sum_below, count_below}
-use Rattle.ctt_text.specs.Problem.{Problem, room_count, day_of}
-use Rattle.ctt_text.specs.Timetable.{course_row}
-use Rattle.ctt_text.specs.declared.placed.Placed.{Placed}
+use Rattle.ctt_problem.specs.Lists.{sum_below, count_below}
+use Rattle.ctt_problem.specs.Problem.{Problem, room_count, day_of}
+use Rattle.ctt_problem.specs.Timetable.{course_row}
+use Rattle.ctt_problem.specs.declared.placed.Placed.{Placed}
 use Rattle.ctt_rules.specs.Penalty.{days_of, rooms_of}
 use Rattle.ctt_rules.proofs.SumLemmas.{sum_below_same, sum_below_add, sum_below_one, count_by-cons}
 use Rattle.ctt_grid.specs.Joining.{on_day, in_room}

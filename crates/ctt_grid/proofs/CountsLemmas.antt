@@ -4,11 +4,11 @@ use Rattle.std.specs.List.{count_by}
 use Rattle.std.proofs.lemmas.Bool.{cases_eq, eq-eqb, ne_eqb, lt-ltb, le-ltb}
 use Rattle.std.proofs.lemmas.Bool.Decides.{nat_tests}
 use Rattle.std.proofs.lemmas.List.Sums.{sum_by-append, length-filter}
-use Rattle.ctt_text.specs.Lists.{has, below}
-use Rattle.ctt_text.specs.Belonging.{curricula_of}
-use Rattle.ctt_text.specs.Problem.{Problem, IsProblem, course_count, room_count, curriculum_count, slot_count, members, day_of}
-use Rattle.ctt_text.specs.Timetable.{Fits, course_row}
-use Rattle.ctt_text.specs.declared.placed.Placed.{Placed}
+use Rattle.ctt_problem.specs.Lists.{has, below}
+use Rattle.ctt_problem.specs.Belonging.{curricula_of}
+use Rattle.ctt_problem.specs.Problem.{Problem, IsProblem, course_count, room_count, curriculum_count, slot_count, members, day_of}
+use Rattle.ctt_problem.specs.Timetable.{Fits, course_row}
+use Rattle.ctt_problem.specs.declared.placed.Placed.{Placed}
 use Rattle.ctt_rules.proofs.SlotLemmas.{day_fits}
 use Rattle.ctt_board.proofs.MoreLemmas.{IsMore, counted_more}
 use Rattle.ctt_grid.specs.Joining.{on_day, in_room, in_slot}

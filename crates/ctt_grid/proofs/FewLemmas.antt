@@ -4,9 +4,9 @@ use Rattle.std.specs.List.{count_by}
 use Rattle.std.proofs.lemmas.Bool.{and_parts}
 use Rattle.std.proofs.lemmas.List.{length-append}
 use Rattle.std.proofs.lemmas.List.Sums.{length-filter}
-use Rattle.ctt_text.specs.Problem.{Problem, IsProblem, slot_count, day_of}
-use Rattle.ctt_text.specs.Timetable.{IsTimetable, course_row}
-use Rattle.ctt_text.specs.declared.placed.Placed.{Placed}
+use Rattle.ctt_problem.specs.Problem.{Problem, IsProblem, slot_count, day_of}
+use Rattle.ctt_problem.specs.Timetable.{IsTimetable, course_row}
+use Rattle.ctt_problem.specs.declared.placed.Placed.{Placed}
 use Rattle.ctt_board.specs.Cells.{lecture_at, row_below}
 use Rattle.ctt_board.specs.Changes.{room_at}
 use Rattle.ctt_grid.specs.Counts.{AreCounts, HaveRoom}

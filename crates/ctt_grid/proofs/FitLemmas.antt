@@ -1,9 +1,9 @@
 -- The test of a change, cell by cell.
 use Rattle.std.proofs.Common.{◌≡◌, ℕ, zero, suc, leb, take, ◌<◌, ◌≤◌, Bool, true, false, not, ltb, ◌&&◌, ◌||◌, List, [], ◌∷◌, length, get_or, is_some, is_none, refl, subst, arith, inl, inr}
 use Rattle.std.proofs.lemmas.Bool.{cases_Bool, and_parts, le-leb, leb-true, ltb-true}
-use Rattle.ctt_text.specs.Problem.{Problem, course_count, slot_count, room_count}
-use Rattle.ctt_text.specs.Timetable.{Fits}
-use Rattle.ctt_text.specs.declared.placed.Placed.{Placed}
+use Rattle.ctt_problem.specs.Problem.{Problem, course_count, slot_count, room_count}
+use Rattle.ctt_problem.specs.Timetable.{Fits}
+use Rattle.ctt_problem.specs.declared.placed.Placed.{Placed}
 use Rattle.ctt_rules.specs.Hard.{Lawful}
 use Rattle.ctt_board.specs.Changes.{room_at, apply_at, apply, in_turn, is_change}
 use Rattle.ctt_board.specs.Fitting.{is_known, cell_fits, fits}

@@ -1,9 +1,9 @@
 -- What a cell adds to the penalty, as a signed number.
 use Rattle.std.proofs.Common.{◌≡◌, ℕ, ◌≤◌, List, ℤ, pos, ◌-ℤ◌, ◌+ℤ◌, w64, FitsSigned, to_z, of_z, ◌∙◌, ap, arith}
 use Rattle.std.proofs.lemmas.Int.{ints}
-use Rattle.ctt_text.specs.Problem.{Problem, IsProblem}
-use Rattle.ctt_text.specs.Timetable.{Fits}
-use Rattle.ctt_text.specs.declared.placed.Placed.{Placed}
+use Rattle.ctt_problem.specs.Problem.{Problem, IsProblem}
+use Rattle.ctt_problem.specs.Timetable.{Fits}
+use Rattle.ctt_problem.specs.declared.placed.Placed.{Placed}
 use Rattle.ctt_rules.specs.Hard.{Lawful}
 use Rattle.ctt_rules.specs.Penalty.{penalty, total}
 use Rattle.ctt_board.proofs.MoreLemmas.{IsMore}

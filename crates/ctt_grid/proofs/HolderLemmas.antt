@@ -1,9 +1,9 @@
 -- The table of the courses that have each room, after one lecture is added and after one is removed.
 use Rattle.std.proofs.Common.{◌≡◌, ◌<◌, ℕ, cond, ◌&&◌, ◌==◌, List, [], Option, Some, None, ◌∙◌, sym, ap, arith}
 use Rattle.std.proofs.lemmas.Bool.Decides.{nat_tests}
-use Rattle.ctt_text.specs.Problem.{Problem, slot_count, room_count}
-use Rattle.ctt_text.specs.Timetable.{with, without}
-use Rattle.ctt_text.specs.declared.placed.Placed.{Placed}
+use Rattle.ctt_problem.specs.Problem.{Problem, slot_count, room_count}
+use Rattle.ctt_problem.specs.Timetable.{with, without}
+use Rattle.ctt_problem.specs.declared.placed.Placed.{Placed}
 use Rattle.ctt_rules.specs.Hard.{Lawful}
 use Rattle.ctt_board.specs.Changes.{room_at, holder_at}
 use Rattle.ctt_grid.specs.Grids.{AreHolders}

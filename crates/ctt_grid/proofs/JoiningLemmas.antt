@@ -5,14 +5,14 @@ use Rattle.std.proofs.lemmas.Bool.{cases_Bool, cases_eq, eq-eqb, lt-ltb, ltb-tru
 use Rattle.std.proofs.lemmas.Bool.Decides.{nat_tests}
 use Rattle.std.proofs.lemmas.List.{take_all}
 use Rattle.std.proofs.lemmas.List.Sums.{sum_by-cons, sum_by-append, sum_by_more}
-use Rattle.ctt_text.specs.Lists.{has, below, sum_below}
-use Rattle.ctt_text.specs.Problem.{Problem, course_of, course_count, room_count, slot_count, members, day_of, period_of}
-use Rattle.ctt_text.specs.Belonging.{curricula_of}
-use Rattle.ctt_text.specs.Timetable.{Fits, course_row}
-use Rattle.ctt_text.specs.declared.placed.Placed.{Placed}
+use Rattle.ctt_problem.specs.Lists.{has, below, sum_below}
+use Rattle.ctt_problem.specs.Problem.{Problem, course_of, course_count, room_count, slot_count, members, day_of, period_of}
+use Rattle.ctt_problem.specs.Belonging.{curricula_of}
+use Rattle.ctt_problem.specs.Timetable.{Fits, course_row}
+use Rattle.ctt_problem.specs.declared.placed.Placed.{Placed}
 use Rattle.ctt_rules.specs.Penalty.{unseated, days_of, rooms_of, days_cost, rooms_cost, lectures_of, alone_cost}
 use Rattle.ctt_rules.proofs.SlotLemmas.{day_fits}
-use Rattle.ctt_text.proofs.TimetableLemmas.{Each-map}
+use Rattle.ctt_problem.proofs.TimetableLemmas.{Each-map}
 use Rattle.ctt_rules.proofs.ListLemmas.{Each-filter}
 use Rattle.ctt_rules.proofs.TimetableLemmas.{slots_fit}
 use Rattle.ctt_rules.proofs.SumLemmas.{sum_below_same, sum_below_zero}

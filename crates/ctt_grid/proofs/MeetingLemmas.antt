@@ -4,12 +4,12 @@ use Rattle.std.specs.List.{count_by, list_any, AllByRecursion as Each}
 use Rattle.std.proofs.lemmas.Bool.{cases_Bool, ltb-true, and_parts, eq-eqb, lt-ltb}
 use Rattle.std.proofs.lemmas.Bool.Decides.{nat_tests}
 use Rattle.std.proofs.lemmas.List.Sums.{sum_by-append}
-use Rattle.ctt_text.specs.Belonging.{curricula_of}
-use Rattle.ctt_text.specs.Lists.{has, below, Pairwise}
-use Rattle.ctt_text.specs.Problem.{Problem, curriculum_count, slot_count, members, mates, clash, period_of}
-use Rattle.ctt_text.specs.Timetable.{before}
-use Rattle.ctt_text.specs.declared.placed.Placed.{Placed}
-use Rattle.ctt_text.proofs.TimetableLemmas.{Each-at, Each-map}
+use Rattle.ctt_problem.specs.Belonging.{curricula_of}
+use Rattle.ctt_problem.specs.Lists.{has, below, Pairwise}
+use Rattle.ctt_problem.specs.Problem.{Problem, curriculum_count, slot_count, members, mates, clash, period_of}
+use Rattle.ctt_problem.specs.Timetable.{before}
+use Rattle.ctt_problem.specs.declared.placed.Placed.{Placed}
+use Rattle.ctt_problem.proofs.TimetableLemmas.{Each-at, Each-map}
 use Rattle.ctt_rules.specs.Hard.{Lawful, conflicts}
 use Rattle.ctt_rules.proofs.SumLemmas.{count_by-cons}
 use Rattle.ctt_board.proofs.MoreLemmas.{IsMore, counted_more}

@@ -3,11 +3,11 @@ use Rattle.std.proofs.Common.{◌≡◌, ℕ, ◌+◌, ◌-◌, ◌<◌, ◌≤�
 use Rattle.std.specs.List.{sum_by, count_by, AllByRecursion as Each}
 use Rattle.std.proofs.lemmas.Bool.{cases_lt, ne_eqb, lt-ltb, le-ltb}
 use Rattle.std.proofs.lemmas.List.Sums.{sum_by-cons, sum_by-append, length-filter}
-use Rattle.ctt_text.specs.Lists.{has}
-use Rattle.ctt_text.specs.Belonging.{curricula_of}
-use Rattle.ctt_text.specs.Problem.{Problem, course_count, room_count, curriculum_count, slot_count, members, day_of, period_of}
-use Rattle.ctt_text.specs.Timetable.{Fits, course_row}
-use Rattle.ctt_text.specs.declared.placed.Placed.{Placed}
+use Rattle.ctt_problem.specs.Lists.{has}
+use Rattle.ctt_problem.specs.Belonging.{curricula_of}
+use Rattle.ctt_problem.specs.Problem.{Problem, course_count, room_count, curriculum_count, slot_count, members, day_of, period_of}
+use Rattle.ctt_problem.specs.Timetable.{Fits, course_row}
+use Rattle.ctt_problem.specs.declared.placed.Placed.{Placed}
 use Rattle.ctt_rules.specs.Penalty.{days_of}
 use Rattle.ctt_rules.proofs.SlotLemmas.{day_fits}
 use Rattle.ctt_rules.proofs.TimetableLemmas.{slots_fit}
@@ -17,8 +17,8 @@ use Rattle.ctt_grid.specs.Tables.{at}
 use Rattle.ctt_grid.specs.Counts.{AreCounts}
 use Rattle.ctt_grid.specs.Seen.{Sees, seen, seen_day, seen_room, seen_lectures, seen_curriculum, seen_days, seen_joining}
 use Rattle.ctt_grid.specs.declared.later.Later.{Later}
-use Rattle.ctt_text.proofs.BelongingLemmas.{curricula_fit}
-use Rattle.ctt_text.proofs.MarkLemmas.{count_below_same}
+use Rattle.ctt_problem.proofs.BelongingLemmas.{curricula_fit}
+use Rattle.ctt_problem.proofs.MarkLemmas.{count_below_same}
 use Rattle.ctt_grid.proofs.CountedLemmas.{days_counted}
 
 pub turned_and : (a b : Bool) → (a && b) ≡ (b && a)

@@ -1,7 +1,7 @@
 -- Changes that are made in order.
 use Rattle.std.proofs.Common.{◌≡◌, List}
-use Rattle.ctt_text.specs.Problem.{Problem}
-use Rattle.ctt_text.specs.declared.placed.Placed.{Placed}
+use Rattle.ctt_problem.specs.Problem.{Problem}
+use Rattle.ctt_problem.specs.declared.placed.Placed.{Placed}
 use Rattle.ctt_board.specs.declared.cell.Cell.{Cell}
 use Rattle.ctt_board.specs.Changes.{ChangesFit, apply_all}
 

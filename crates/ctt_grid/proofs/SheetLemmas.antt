@@ -1,8 +1,8 @@
 -- A sheet of tables after one lecture is added, and after one is removed.
 use Rattle.std.proofs.Common.{◌≡◌, ◌≤◌, List, Some, ◌∙◌, sym, subst, ap, ap₂, arith}
-use Rattle.ctt_text.specs.Problem.{Problem, IsProblem}
-use Rattle.ctt_text.specs.Timetable.{Fits, without}
-use Rattle.ctt_text.specs.declared.placed.Placed.{Placed}
+use Rattle.ctt_problem.specs.Problem.{Problem, IsProblem}
+use Rattle.ctt_problem.specs.Timetable.{Fits, without}
+use Rattle.ctt_problem.specs.declared.placed.Placed.{Placed}
 use Rattle.ctt_rules.specs.Hard.{Lawful}
 use Rattle.ctt_rules.specs.Penalty.{penalty, total}
 use Rattle.ctt_rules.specs.declared.cost.Cost.{Cost}

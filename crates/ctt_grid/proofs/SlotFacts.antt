@@ -2,7 +2,7 @@
 use Rattle.std.proofs.Common.{◌≡◌, ℕ, zero, suc, ◌+◌, ◌-◌, ◌*◌, ◌/◌, ◌∙◌, ap, ◌%◌, ◌<◌, ◌≤◌, arith}
 use Rattle.std.proofs.Math.Nat.{zero-mod, div-add-mod, mul-add-mod_self_left, mod-eq_of_lt, mod-lt}
 use Rattle.std.proofs.lemmas.Bool.{lt-ltb}
-use Rattle.ctt_text.specs.Problem.{Problem, slot_count, period_of}
+use Rattle.ctt_problem.specs.Problem.{Problem, slot_count, period_of}
 use Rattle.ctt_rules.proofs.SlotLemmas.{periods_above}
 use Rattle.ctt_grid.proofs.AloneLemmas.{next_fits}
 

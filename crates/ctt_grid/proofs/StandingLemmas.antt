@@ -3,12 +3,12 @@ use Rattle.std.proofs.Common.{◌≡◌, ℕ, Bool, true, false, cond, ◌&&◌,
 use Rattle.std.specs.List.{find, list_any}
 use Rattle.std.proofs.lemmas.Bool.{cases_Bool}
 use Rattle.std.proofs.lemmas.Bool.Decides.{nat_tests}
-use Rattle.ctt_text.specs.Problem.{Problem}
-use Rattle.ctt_text.specs.Timetable.{has_lecture}
-use Rattle.ctt_text.specs.declared.placed.Placed.{Placed}
+use Rattle.ctt_problem.specs.Problem.{Problem}
+use Rattle.ctt_problem.specs.Timetable.{has_lecture}
+use Rattle.ctt_problem.specs.declared.placed.Placed.{Placed}
 use Rattle.ctt_board.specs.Changes.{room_at, room_of, apply_at, CellFits}
 use Rattle.ctt_grid.specs.Grids.{AreStanding, HaveRows}
-use Rattle.ctt_text.specs.BitRows.{BitTable, is_marked_in, SetsMark}
+use Rattle.ctt_problem.specs.BitRows.{BitTable, is_marked_in, SetsMark}
 use Rattle.ctt_board.proofs.RoomLemmas.{is_at, room_is, room_after}
 
 -- a course has a lecture in a slot exactly if it has a room there

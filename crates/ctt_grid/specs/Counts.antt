@@ -1,9 +1,9 @@
 -- The counts of a sheet, by its timetable.
 use Rattle.std.specs.Prelude.{◌≡◌, ◌<◌, ◌≤◌, ◌+◌, ℕ, List, length, count_by}
-use Rattle.ctt_text.specs.Belonging.{curricula_of}
-use Rattle.ctt_text.specs.Problem.{Problem, course_count, room_count, curriculum_count, slot_count, members, day_of}
-use Rattle.ctt_text.specs.Timetable.{course_row}
-use Rattle.ctt_text.specs.declared.placed.Placed.{Placed}
+use Rattle.ctt_problem.specs.Belonging.{curricula_of}
+use Rattle.ctt_problem.specs.Problem.{Problem, course_count, room_count, curriculum_count, slot_count, members, day_of}
+use Rattle.ctt_problem.specs.Timetable.{course_row}
+use Rattle.ctt_problem.specs.declared.placed.Placed.{Placed}
 use Rattle.ctt_grid.specs.Joining.{on_day, in_room, in_slot}
 use Rattle.ctt_grid.specs.Tables.{Grid, at, Adds, AreFew, one_at, in_column}
 use Rattle.ctt_grid.specs.declared.counts.Counts.{Counts}

@@ -1,13 +1,13 @@
 -- The tables of a sheet, by its timetable.
 use Rattle.std.specs.Prelude.{◌≡◌, ◌<◌, ℕ, List, Option, None, is_some}
-use Rattle.ctt_text.specs.Problem.{Problem, course_count, slot_count, room_count}
-use Rattle.ctt_text.specs.declared.placed.Placed.{Placed}
+use Rattle.ctt_problem.specs.Problem.{Problem, course_count, slot_count, room_count}
+use Rattle.ctt_problem.specs.declared.placed.Placed.{Placed}
 use Rattle.ctt_rules.specs.Hard.{Lawful}
 use Rattle.ctt_rules.specs.Penalty.{penalty}
 use Rattle.ctt_rules.specs.declared.cost.Cost.{Cost}
 use Rattle.ctt_board.specs.Changes.{room_at, holder_at}
 use Rattle.ctt_grid.specs.Tables.{Grid, at}
-use Rattle.ctt_text.specs.BitRows.{BitTable, is_marked_in}
+use Rattle.ctt_problem.specs.BitRows.{BitTable, is_marked_in}
 use Rattle.ctt_grid.specs.Counts.{HasSize, AreCounts}
 use Rattle.ctt_grid.specs.declared.tables.Tables.{Tables}
 use Rattle.ctt_board.specs.Cells.{rows_below}

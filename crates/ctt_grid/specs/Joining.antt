@@ -1,10 +1,10 @@
 -- What adding one lecture does to the penalty, by counts of the lectures before it.
 use Rattle.std.specs.Prelude.{◌≡◌, ◌≤◌, ℕ, ℤ, pos, ◌-ℤ◌, ◌+◌, ◌-◌, ◌*◌, Bool, cond, List, length, sum_by, count_by, ◌==◌, ◌&&◌, nat_lt}
-use Rattle.ctt_text.specs.Lists.{has}
-use Rattle.ctt_text.specs.Belonging.{curricula_of}
-use Rattle.ctt_text.specs.Problem.{Problem, course_of, members, day_of, period_of}
-use Rattle.ctt_text.specs.Timetable.{course_row}
-use Rattle.ctt_text.specs.declared.placed.Placed.{Placed}
+use Rattle.ctt_problem.specs.Lists.{has}
+use Rattle.ctt_problem.specs.Belonging.{curricula_of}
+use Rattle.ctt_problem.specs.Problem.{Problem, course_of, members, day_of, period_of}
+use Rattle.ctt_problem.specs.Timetable.{course_row}
+use Rattle.ctt_problem.specs.declared.placed.Placed.{Placed}
 use Rattle.ctt_grid.specs.declared.joining.Joining.{Joining}
 use Rattle.ctt_rules.specs.declared.cost.Cost.{Cost}
 use Rattle.ctt_rules.specs.Penalty.{penalty, unseated, days_of}

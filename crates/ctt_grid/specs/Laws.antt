@@ -1,8 +1,8 @@
 -- Laws for the crates above.
 use Rattle.std.specs.Prelude.{◌*◌, ◌≤◌, ◌<◌, ◌^◌, List, length}
-use Rattle.ctt_text.specs.Problem.{Problem, IsProblem, course_count, slot_count}
-use Rattle.ctt_text.specs.Timetable.{IsTimetable}
-use Rattle.ctt_text.specs.declared.placed.Placed.{Placed}
+use Rattle.ctt_problem.specs.Problem.{Problem, IsProblem, course_count, slot_count}
+use Rattle.ctt_problem.specs.Timetable.{IsTimetable}
+use Rattle.ctt_problem.specs.declared.placed.Placed.{Placed}
 use Rattle.ctt_rules.specs.Penalty.{penalty, total}
 
 -- a timetable has at most as many lectures as there are pairs of a course and a slot

@@ -1,7 +1,7 @@
 -- The invariant of a sheet that stores its lectures in a list.
 use Rattle.std.specs.Prelude.{ℕ, ◌*◌, ◌≤◌, List}
-use Rattle.ctt_text.specs.Problem.{Problem, course_count, slot_count}
-use Rattle.ctt_text.specs.declared.placed.Placed.{Placed}
+use Rattle.ctt_problem.specs.Problem.{Problem, course_count, slot_count}
+use Rattle.ctt_problem.specs.declared.placed.Placed.{Placed}
 use Rattle.ctt_rules.specs.Hard.{Lawful}
 
 -- a lawful timetable, in a vector with capacity for any lawful timetable

@@ -1,10 +1,10 @@
 -- Counts of a timetable, corrected for lectures that a change removes and adds.
 use Rattle.std.specs.Prelude.{◌≡◌, ◌≤◌, length, ℕ, ◌+◌, ◌-◌, Bool, cond, List, sum_by, count_by, ◌==◌, nat_lt}
 use Rattle.std.specs.List.{AllByRecursion as Each}
-use Rattle.ctt_text.specs.Lists.{count_below}
-use Rattle.ctt_text.specs.Belonging.{curricula_of}
-use Rattle.ctt_text.specs.Problem.{Problem, slot_count, members, day_of}
-use Rattle.ctt_text.specs.declared.placed.Placed.{Placed}
+use Rattle.ctt_problem.specs.Lists.{count_below}
+use Rattle.ctt_problem.specs.Belonging.{curricula_of}
+use Rattle.ctt_problem.specs.Problem.{Problem, slot_count, members, day_of}
+use Rattle.ctt_problem.specs.declared.placed.Placed.{Placed}
 use Rattle.ctt_grid.specs.Joining.{on_day, in_room, in_slot, joining_by}
 use Rattle.ctt_grid.specs.Tables.{at}
 use Rattle.ctt_grid.specs.Counts.{AreCounts}

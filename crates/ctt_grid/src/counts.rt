@@ -1,12 +1,12 @@
 //! Counts of the lectures of a timetable.
 
 ghost use Rattle.std.specs.Prelude.{◌≡◌, ◌<◌, true, IfOk, []};
-ghost use Rattle.ctt_text.specs.Timetable.{Fits};
+ghost use Rattle.ctt_problem.specs.Timetable.{Fits};
 ghost use Rattle.ctt_grid.specs.Counts.{AreCounts, HaveSizes, HaveRoom, HaveNone, HaveLecture, AddsLecture};
 
 use crate::table::Table;
 use crate::tally::{add_column, add_one, take_column, take_one};
-use ctt_text::{CourseNo, Instance, Placed, SlotNo};
+use ctt_problem::{CourseNo, Instance, Placed, SlotNo};
 use std::alloc::{AllocError, Global};
 
 /// The counts from which the costs of a timetable are computed.

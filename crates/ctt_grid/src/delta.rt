@@ -1,8 +1,8 @@
 //! What a change would do to the penalty.
 
 ghost use Rattle.std.specs.Prelude.{◌≡◌, ◌<◌, ◌≤◌, ◌+◌, ◌*◌};
-ghost use Rattle.ctt_text.specs.Problem.{AreMembers, course_count};
-ghost use Rattle.ctt_text.specs.Timetable.{course_row};
+ghost use Rattle.ctt_problem.specs.Problem.{AreMembers, course_count};
+ghost use Rattle.ctt_problem.specs.Timetable.{course_row};
 ghost use Rattle.ctt_rules.specs.Hard.{Lawful};
 ghost use Rattle.ctt_rules.specs.Penalty.{course_cost, total, alone_cost, lectures_of};
 ghost use Rattle.ctt_board.specs.Boards.{delta};
@@ -11,8 +11,8 @@ ghost use Rattle.ctt_board.specs.Costs.{touches, touches_curriculum, courses_cos
 
 use arrayvec::ArrayVec;
 use ctt_board::{After, Cell, Change, Rooms};
+use ctt_problem::{CourseNo, CurriculumNo, Instance, Marks, Placed, SlotNo};
 use ctt_rules::{count_alone, mark_slots};
-use ctt_text::{CourseNo, CurriculumNo, Instance, Marks, Placed, SlotNo};
 
 /// Returns the lectures of a course, by slot.
 fn row<R: Rooms>(after: &After<R>, course: CourseNo) -> ArrayVec<Placed, 2000>

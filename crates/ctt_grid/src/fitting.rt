@@ -1,11 +1,11 @@
 //! The test whether a change fits a lawful timetable.
 
 ghost use Rattle.std.specs.Prelude.{◌≡◌};
-ghost use Rattle.ctt_text.specs.Timetable.{Fits};
+ghost use Rattle.ctt_problem.specs.Timetable.{Fits};
 ghost use Rattle.ctt_board.specs.Fitting.{is_known, is_allowed, is_wanted, is_unhindered, can_come, cell_fits, fits};
 
 use ctt_board::{After, Cell, Change, Rooms, first_clash};
-use ctt_text::{Instance, Placed};
+use ctt_problem::{Instance, Placed};
 
 /// Returns whether the course, slot and room of a lecture are numbers of the instance.
 fn is_known(instance: &Instance, lecture: &Placed) -> bool

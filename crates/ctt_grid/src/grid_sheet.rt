@@ -1,8 +1,8 @@
 //! A sheet that stores its lectures in tables of fixed size, and its costs.
 
 ghost use Rattle.std.specs.Prelude.{◌≡◌, ◌<◌, ◌+◌, pos, ◌-ℤ◌, ◌++◌, ℕ, [], false, Some, is_some, length, OnOk};
-ghost use Rattle.ctt_text.specs.Problem.{course_count, slot_count};
-ghost use Rattle.ctt_text.specs.Timetable.{course_row, slot_row, with, without, Fits};
+ghost use Rattle.ctt_problem.specs.Problem.{course_count, slot_count};
+ghost use Rattle.ctt_problem.specs.Timetable.{course_row, slot_row, with, without, Fits};
 ghost use Rattle.ctt_rules.specs.Hard.{Lawful};
 ghost use Rattle.ctt_board.specs.Changes.{CellFits, CellsFit, room_at, apply_at, apply};
 ghost use Rattle.ctt_rules.specs.Penalty.{penalty, total};
@@ -16,8 +16,8 @@ use crate::later::Later;
 use crate::laws;
 use crate::tables::Tables;
 use ctt_board::{Cell, Change, Rooms, Sheet, Timetable, last_room};
+use ctt_problem::{CourseNo, Instance, Marks, NoMemory, Placed, RoomNo, SlotNo};
 use ctt_rules::Cost;
-use ctt_text::{CourseNo, Instance, Marks, NoMemory, Placed, RoomNo, SlotNo};
 use std::alloc::{AllocError, Global};
 use std::marker::Model;
 

@@ -1,8 +1,8 @@
 //! What adding one lecture does to the penalty.
 
 ghost use Rattle.std.specs.Prelude.{◌≡◌, ◌<◌, ◌≤◌, ◌+◌, ◌-◌, ◌*◌, ◌&&◌, ◌==◌, nat_lt, cond};
-ghost use Rattle.ctt_text.specs.Problem.{course_of, day_of};
-ghost use Rattle.ctt_text.specs.Timetable.{Fits};
+ghost use Rattle.ctt_problem.specs.Problem.{course_of, day_of};
+ghost use Rattle.ctt_problem.specs.Timetable.{Fits};
 ghost use Rattle.ctt_rules.specs.Penalty.{total};
 ghost use Rattle.ctt_grid.specs.Joining.{IsSmallJoining, with_joining, without_joining, gain_of};
 ghost use Rattle.ctt_grid.specs.Counts.{HaveSizes};
@@ -10,8 +10,8 @@ ghost use Rattle.ctt_grid.specs.Seen.{seen_day, seen_room, seen_lectures, seen_d
 
 use crate::later::Later;
 use crate::meeting::meetings;
+use ctt_problem::{Instance, Placed};
 use ctt_rules::Cost;
-use ctt_text::{Instance, Placed};
 
 /// The increases and decreases in the costs of a timetable if a lecture is added, in points.
 #[derive(Clone, Copy, Default, PartialEq, Eq)]

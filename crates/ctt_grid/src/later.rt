@@ -3,8 +3,8 @@
 
 ghost use Rattle.std.specs.Prelude.{◌≡◌, ◌<◌, ◌≤◌, ◌+◌, ◌-◌, [], count_by, length, cond, ◌==◌, ◌||◌, ◌++◌, ◌∷◌};
 ghost use Rattle.std.specs.List.{list_any};
-ghost use Rattle.ctt_text.specs.Problem.{course_count, slot_count, room_count, curriculum_count, members, day_of};
-ghost use Rattle.ctt_text.specs.Timetable.{Fits};
+ghost use Rattle.ctt_problem.specs.Problem.{course_count, slot_count, room_count, curriculum_count, members, day_of};
+ghost use Rattle.ctt_problem.specs.Timetable.{Fits};
 ghost use Rattle.ctt_grid.specs.Joining.{on_day, in_room, in_slot, gain_of};
 ghost use Rattle.ctt_grid.specs.Counts.{HaveSizes};
 ghost use Rattle.ctt_grid.specs.Seen.{seen, seen_day, seen_room, seen_lectures, seen_curriculum, seen_days, seen_joining, NoneThere, OneThere};
@@ -12,7 +12,7 @@ ghost use Rattle.ctt_grid.specs.Seen.{seen, seen_day, seen_room, seen_lectures, 
 use crate::counts::Counts;
 use crate::joining::{gain, joining_of};
 use arrayvec::ArrayVec;
-use ctt_text::{CourseNo, CurriculumNo, Instance, Placed, RoomNo, SlotNo};
+use ctt_problem::{CourseNo, CurriculumNo, Instance, Placed, RoomNo, SlotNo};
 
 /// The counts of a timetable, with the lectures that a change removes and adds.
 #[derive(Drop)]

@@ -3,8 +3,8 @@
 ghost use Rattle.std.specs.Prelude.{◌≡◌, ◌==◌, ◌&&◌, ◌≤◌, ◌<◌, ◌*◌, ◌++◌, true, false, length, IfOk, OnOk, []};
 ghost use Rattle.std.specs.List.{position_or_len};
 ghost use Rattle.std.specs.Vec.{vec_len, vec_capacity};
-ghost use Rattle.ctt_text.specs.Problem.{course_count, slot_count};
-ghost use Rattle.ctt_text.specs.Timetable.{course_row, slot_row, with, without, before};
+ghost use Rattle.ctt_problem.specs.Problem.{course_count, slot_count};
+ghost use Rattle.ctt_problem.specs.Timetable.{course_row, slot_row, with, without, before};
 ghost use Rattle.ctt_board.specs.Changes.{holder_at, apply, in_turn};
 
 use crate::delta::delta;
@@ -12,8 +12,8 @@ use crate::fitting::fits;
 use crate::laws;
 use crate::standing::standing_in;
 use ctt_board::{Cell, Change, Rooms, Sheet, Timetable};
+use ctt_problem::{CourseNo, Instance, Marks, NoMemory, Placed, RoomNo, SlotNo, is_before};
 use ctt_rules::Cost;
-use ctt_text::{CourseNo, Instance, Marks, NoMemory, Placed, RoomNo, SlotNo, is_before};
 use std::alloc::{AllocError, Global};
 use std::marker::Model;
 

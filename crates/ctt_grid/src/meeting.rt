@@ -3,13 +3,13 @@
 
 ghost use Rattle.std.specs.Prelude.{◌≡◌, ◌<◌, ◌≤◌, ◌+◌, ◌-◌, ◌*◌, nat_lt, cond, sum_by, length};
 ghost use Rattle.std.specs.List.{AllByRecursion as Each};
-ghost use Rattle.ctt_text.specs.Problem.{slot_count, curriculum_count, period_of};
+ghost use Rattle.ctt_problem.specs.Problem.{slot_count, curriculum_count, period_of};
 ghost use Rattle.ctt_grid.specs.Joining.{alone_at, alone_beside, stands_alone, count_before, count_after};
 ghost use Rattle.ctt_grid.specs.Counts.{HaveSizes};
 ghost use Rattle.ctt_grid.specs.Seen.{seen_curriculum};
 
 use crate::later::Later;
-use ctt_text::{CurriculumNo, Instance, SlotNo};
+use ctt_problem::{CurriculumNo, Instance, SlotNo};
 
 /// What adding a lecture in a slot does to the compactness of a curriculum, or of several in sum.
 #[derive(Clone, Copy, Default, PartialEq, Eq)]

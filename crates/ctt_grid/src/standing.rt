@@ -2,10 +2,10 @@
 
 ghost use Rattle.std.specs.Prelude.{◌≡◌, ◌<◌, ◌==◌, ◌&&◌, ◌||◌, ℕ};
 ghost use Rattle.std.specs.List.{AllByRecursion as Each};
-ghost use Rattle.ctt_text.specs.Marks.{is_marked};
-ghost use Rattle.ctt_text.specs.Timetable.{has_lecture};
+ghost use Rattle.ctt_problem.specs.Marks.{is_marked};
+ghost use Rattle.ctt_problem.specs.Timetable.{has_lecture};
 
-use ctt_text::{Marks, Placed, SlotNo};
+use ctt_problem::{Marks, Placed, SlotNo};
 
 /// Marks the course of a lecture if the lecture is in the slot.
 fn mark_if_there(standing: &mut Marks, lecture: &Placed, slot: SlotNo)

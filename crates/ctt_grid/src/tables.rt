@@ -1,16 +1,16 @@
 //! The tables of a sheet.
 
 ghost use Rattle.std.specs.Prelude.{◌≡◌, ◌<◌, [], List, false, Some, is_some, IfOk};
-ghost use Rattle.ctt_text.specs.Problem.{course_count, slot_count};
-ghost use Rattle.ctt_text.specs.Timetable.{with, without, Fits};
-ghost use Rattle.ctt_text.specs.declared.placed.Placed.{Placed};
+ghost use Rattle.ctt_problem.specs.Problem.{course_count, slot_count};
+ghost use Rattle.ctt_problem.specs.Timetable.{with, without, Fits};
+ghost use Rattle.ctt_problem.specs.declared.placed.Placed.{Placed};
 ghost use Rattle.ctt_rules.specs.Hard.{Lawful};
 ghost use Rattle.ctt_board.specs.Changes.{room_at};
 ghost use Rattle.ctt_grid.specs.Grids.{listed, AreTables, ArePlaces, HavePlaceSizes};
 
 use crate::counts::Counts;
 use crate::table::Table;
-use ctt_text::{BitRows, Compact, CourseNo, Instance, Placed, RoomNo, SlotNo};
+use ctt_problem::{BitRows, Compact, CourseNo, Instance, Placed, RoomNo, SlotNo};
 use std::alloc::{AllocError, Global};
 
 /// The lectures of a timetable in a table by course and slot, with tables for look-ups by slot and

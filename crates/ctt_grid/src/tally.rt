@@ -5,7 +5,7 @@ ghost use Rattle.std.specs.List.{AllByRecursion as Each};
 ghost use Rattle.ctt_grid.specs.Tables.{at, Adds, one_at, in_column};
 
 use crate::table::Table;
-use ctt_text::CurriculumNo;
+use ctt_problem::CurriculumNo;
 
 /// Adds 1 to the count in a row and a column.
 pub(crate) fn add_one(counts: &mut Table<u16>, row: usize, column: usize)

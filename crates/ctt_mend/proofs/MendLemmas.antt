@@ -1,11 +1,11 @@
 -- Mended solutions: what remains of them, and what is set aside.
 use Rattle.std.proofs.Common.{◌≡◌, ◌∙◌, ℕ, ◌+◌, true, List, [], ◌∷◌, ◌++◌, drop, Option, Some, None, Result, Ok, Err, append-nil, append_assoc, refl, sym, ap, subst}
 use Rattle.std.specs.List.{AllByRecursion as Each}
-use Rattle.ctt_text.specs.Problem.{Problem}
-use Rattle.ctt_text.specs.Timetable.{Ascending, Fits, IsTimetable, before, with}
-use Rattle.ctt_text.specs.declared.placed.Placed.{Placed}
-use Rattle.ctt_text.proofs.LectureLaws.{before_once}
-use Rattle.ctt_text.proofs.TimetableLemmas.{Each-append}
+use Rattle.ctt_problem.specs.Problem.{Problem}
+use Rattle.ctt_problem.specs.Timetable.{Ascending, Fits, IsTimetable, before, with}
+use Rattle.ctt_problem.specs.declared.placed.Placed.{Placed}
+use Rattle.ctt_problem.proofs.LectureLaws.{before_once}
+use Rattle.ctt_problem.proofs.TimetableLemmas.{Each-append}
 use Rattle.ctt_board.specs.declared.cell.Cell.{Cell}
 use Rattle.ctt_edits.specs.Edits.{checked_by, edited}
 use Rattle.ctt_edits.specs.Fitting.{FaultFits}

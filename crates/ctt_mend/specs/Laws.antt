@@ -1,8 +1,8 @@
 -- A desk opens with what remains of a solution, and all remains of a solution that opens a desk.
 use Rattle.std.specs.Prelude.{◌≡◌, List, [], Ok}
-use Rattle.ctt_text.specs.Problem.{Problem}
-use Rattle.ctt_text.specs.Timetable.{IsTimetable}
-use Rattle.ctt_text.specs.declared.placed.Placed.{Placed}
+use Rattle.ctt_problem.specs.Problem.{Problem}
+use Rattle.ctt_problem.specs.Timetable.{IsTimetable}
+use Rattle.ctt_problem.specs.declared.placed.Placed.{Placed}
 use Rattle.ctt_edits.specs.Openings.{opening}
 use Rattle.ctt_mend.specs.Mended.{mended, set_aside}
 

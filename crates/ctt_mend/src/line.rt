@@ -1,7 +1,7 @@
 //! Writing the line of a lecture that is set aside.
 
 ghost use Rattle.std.specs.Prelude.{◌≡◌, ◌++◌, OnOk, string_bytes};
-ghost use Rattle.ctt_text.specs.Timetable.{Fits};
+ghost use Rattle.ctt_problem.specs.Timetable.{Fits};
 ghost use Rattle.ctt_edits.specs.Fitting.{FaultFits};
 ghost use Rattle.ctt_mend.specs.Mended.{aside_line};
 

@@ -3,7 +3,7 @@
 ghost use Rattle.std.specs.Prelude.{◌≡◌, ◌++◌, [], OnOk, IfOk, IfSome, string_bytes};
 ghost use Rattle.std.specs.List.{AllByRecursion as Each};
 ghost use Rattle.ctt_text.specs.SolutionText.{SolSpells};
-ghost use Rattle.ctt_text.specs.Timetable.{Fits, IsTimetable};
+ghost use Rattle.ctt_problem.specs.Timetable.{Fits, IsTimetable};
 ghost use Rattle.ctt_text.specs.Words.{words};
 ghost use Rattle.ctt_text.specs.Written.{soltext};
 ghost use Rattle.ctt_edits.specs.Fitting.{FaultFits};

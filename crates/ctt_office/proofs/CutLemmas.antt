@@ -4,7 +4,8 @@ use Rattle.std.specs.List.{AllByRecursion as Each}
 use Rattle.ctt_text.specs.Left.{Left}
 use Rattle.ctt_text.specs.Forms.{Form, done, place, Fills, read}
 use Rattle.ctt_text.specs.Reading.{reading}
-use Rattle.ctt_text.proofs.FormLaws.{Yields, at_once, err_same, fills_read, ok_is_err, ok_same, one_later, read_fills}
+use Rattle.ctt_text.proofs.FormLaws.{Yields, at_once, fills_read, one_later, read_fills}
+use Rattle.ctt_problem.proofs.ResultLemmas.{err_same, ok_is_err, ok_same}
 use Rattle.ctt_office.specs.Blocks.{AreBlocks}
 
 -- if words that fill a form are cut, one is missing

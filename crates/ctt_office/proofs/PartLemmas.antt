@@ -1,6 +1,7 @@
 -- The words of whole lines, and of what follows them.
 use Rattle.std.proofs.Common.{◌≡◌, ◌∙◌, ℕ, Bool, true, false, not, List, [], ◌∷◌, ◌++◌, refl, sym, ap}
-use Rattle.ctt_text.specs.Words.{begins_word, grow, is_blank, words}
+use Rattle.ctt_text.specs.Words.{begins_word, grow, words}
+use Rattle.ctt_problem.specs.Named.{is_blank}
 
 grow_some : {P : Type 0} (b : ℕ) (t : Bool) (ws : List (List ℕ)) → grow b t ws ≡ [] → P
 grow_some b true [] is = cc

@@ -7,11 +7,11 @@ use Rattle.std.proofs.lemmas.Str.{IsCharBoundary-after_ascii, IsUtf8-nil, IsUtf8
 use mathlib.Core.List.{IsPrefix}
 use Rattle.ctt_text.specs.Forms.{◌>>=◌, read}
 use Rattle.ctt_text.specs.Left.{Left}
-use Rattle.ctt_text.specs.Named.{IsNamed}
+use Rattle.ctt_problem.specs.Named.{IsNamed}
 use Rattle.ctt_text.specs.Places.{fixed, known, one}
-use Rattle.ctt_text.specs.Problem.{IsProblem, Problem}
+use Rattle.ctt_problem.specs.Problem.{IsProblem, Problem}
 use Rattle.ctt_text.specs.Words.{words}
-use Rattle.ctt_text.proofs.TimetableLemmas.{Each-map}
+use Rattle.ctt_problem.proofs.TimetableLemmas.{Each-map}
 use Rattle.ctt_core.specs.declared.journal.JournalEntry.{JournalEntry}
 use Rattle.ctt_core.specs.Entries.{EntryFits}
 use Rattle.ctt_script.specs.Entries.{IsEntry, IsShort}

@@ -2,8 +2,8 @@
 use Rattle.std.proofs.Common.{◌≡◌, ◌∙◌, inl, inr, ℕ, suc, ◌+◌, ◌<◌, Bool, true, false, List, [], ◌∷◌, ◌++◌, length, drop, get_or, flat_map, Option, Some, None, codes, arith, refl, sym, ap, ap₂, subst, append-nil, append_assoc}
 use Rattle.std.specs.Fmt.{decimal}
 use Rattle.std.proofs.Math.Seq.{drop-cons}
-use Rattle.ctt_text.specs.Problem.{Problem}
-use Rattle.ctt_text.specs.declared.placed.Placed.{Placed}
+use Rattle.ctt_problem.specs.Problem.{Problem}
+use Rattle.ctt_problem.specs.declared.placed.Placed.{Placed}
 use Rattle.ctt_board.specs.Changes.{apply}
 use Rattle.ctt_edits.specs.Calls.{CallFits, cells_if}
 use Rattle.ctt_edits.specs.Edits.{EditFits, change, edit_fault, edited}

@@ -4,7 +4,7 @@ use Rattle.std.proofs.lemmas.Bool.{le-leb, leb-true}
 use Rattle.std.proofs.KnownBytes.{Appends-kept, Appends-nil, Appends-trans}
 use Rattle.std.specs.Io.KnownBytes.{Appends, IsAtEnd}
 use Rattle.ctt_files.specs.Output.{AppendsFront}
-use Rattle.ctt_text.specs.Problem.{Problem}
+use Rattle.ctt_problem.specs.Problem.{Problem}
 use Rattle.ctt_office.specs.Lines.{Comes, Gives, GivesNext, IsFirstLine, IsLong, IsShort, ReaderValue, coming}
 use Rattle.ctt_office.specs.declared.line_reader.Next.{Next}
 use Rattle.ctt_office.specs.declared.line_reader.Next.TheVariants.{End, Line, TooLong as LongLine}

@@ -1,7 +1,7 @@
 -- The calls of a draft that ended stale, which a workplace stores.
 use Rattle.std.specs.Prelude.{Bool, true, false, cond, List, Option, Some, None, IfSome}
 use Rattle.std.specs.List.{AllByRecursion as Each}
-use Rattle.ctt_text.specs.Problem.{Problem}
+use Rattle.ctt_problem.specs.Problem.{Problem}
 use Rattle.ctt_core.specs.declared.answer.Answer.{Answer}
 use Rattle.ctt_core.specs.declared.answer.Answer.TheVariants.{Abandoned, Committed, Opened}
 use Rattle.ctt_draft.specs.Drafts.{AskedFits}

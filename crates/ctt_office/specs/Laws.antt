@@ -1,6 +1,6 @@
 -- Laws for the layers above.
 use Rattle.std.specs.Prelude.{◌≡◌, List, [], ◌∷◌}
-use Rattle.ctt_text.specs.Problem.{Problem}
+use Rattle.ctt_problem.specs.Problem.{Problem}
 use Rattle.ctt_edits.specs.declared.call.Call.TheVariants.{Edit as Edits}
 use Rattle.ctt_edits.specs.declared.edit.Edit.{Edit}
 use Rattle.ctt_edits.specs.declared.reply.Reply.TheVariants.{Done}

@@ -1,7 +1,7 @@
 -- What a line of a seat asks for.
 use Rattle.std.specs.Prelude.{ℕ, ◌<◌, List, [], ◌∷◌, codes, length, nat_le, Option, Some, None, Result, Ok, Err, if◌then◌else◌}
 use Rattle.std.specs.Str.{bytes_eq, is_utf8}
-use Rattle.ctt_text.specs.Problem.{Problem}
+use Rattle.ctt_problem.specs.Problem.{Problem}
 use Rattle.ctt_text.specs.Words.{words}
 use Rattle.ctt_core.specs.Runs.{EventFits}
 use Rattle.ctt_core.specs.declared.event.Event.{Event}

@@ -3,7 +3,7 @@ use Rattle.std.specs.Prelude.{◌≡◌, ◌⊎◌, ◌++◌, ℕ, List, [], ◌
 use Rattle.std.specs.Global.{Global}
 use Rattle.std.specs.String.{string_bytes}
 use Rattle.std.specs.declared.string.String.{String}
-use Rattle.ctt_text.specs.Problem.{Problem}
+use Rattle.ctt_problem.specs.Problem.{Problem}
 use Rattle.ctt_office.specs.Recovery.{IsMinutesFault}
 use Rattle.ctt_office.specs.declared.office_fault.OfficeFault.{OfficeFault}
 use Rattle.ctt_office.specs.declared.office_fault.OfficeFault.TheVariants as office

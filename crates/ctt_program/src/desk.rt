@@ -20,7 +20,7 @@ use ctt_desk::{Opened, SharedFault};
 use ctt_files::{Fault, Files, Outcome, Sink, complain, fetch_instance, fetch_start};
 use ctt_grid::GridSheet;
 use ctt_office::{OfficeFault, keep_desk};
-use ctt_text::{Instance, let_go};
+use ctt_problem::{Instance, let_go};
 use std::alloc::{AllocError, Global};
 use std::marker::Sync;
 use std::sync::Wait;

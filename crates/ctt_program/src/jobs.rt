@@ -18,7 +18,7 @@ use crate::office::Office;
 use crate::printed::print_last;
 use ctt_commands::{audit, crew, list, mend, run};
 use ctt_files::{Fault, Files, NO_MEMORY, Outcome, Printed, Sink, complain, deliver};
-use ctt_reports::{explain, show};
+use ctt_reports::{compare, explain, find_word, show};
 use ctt_words::{Job, Showing, Task, WordsFault, read_words};
 use std::alloc::Global;
 use std::marker::Sync;
@@ -61,6 +61,12 @@ fn answer<R: Threads + Wait + Sync, F: Files>(
         Task::Journal { minutes } => journal(alloc, files, instance, barred, minutes),
         Task::Listing { journal, start } => list(alloc, files, instance, barred, journal, start),
         Task::Mending { solution } => mend(alloc, files, instance, barred, solution),
+        Task::Compare {
+            solutions,
+            form,
+            strict,
+        } => compare(alloc, files, instance, barred, solutions, form, strict),
+        Task::Where { word } => find_word(alloc, files, instance, word),
         Task::Run { .. } | Task::Desk { .. } => unreachable!(),
     }
 }
@@ -100,8 +106,8 @@ fn stream<R: Threads + Wait + Sync, F: Files, O: Office, W: Sink, V: Sink>(
 {
     match task {
         Task::Show { solution, showing } => match showing {
-            Showing::Report { json, strict, .. } => explain(
-                alloc, files, out, instance, barred, solution, json, strict,
+            Showing::Report { form, strict, .. } => explain(
+                alloc, files, out, instance, barred, solution, form, strict,
             ),
             _ => unreachable!(),
         },

@@ -10,8 +10,8 @@ ghost use Rattle.ctt_program.specs.Refusals.{IsNoMinutes, IsOfMinutes, IsOfRecov
 use ctt_commands::refused_journal;
 use ctt_files::{Fault, Files, Outcome, Printed, fetch_instance, read_file};
 use ctt_office::read_blocks;
+use ctt_problem::{Instance, let_go};
 use ctt_script::write_journal;
-use ctt_text::{Instance, let_go};
 use std::alloc::Global;
 
 /// Returns the line that reports an incomplete entry by the byte at which it begins, or an empty

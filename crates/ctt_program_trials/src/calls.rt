@@ -1,27 +1,27 @@
 //! The calls of the program.
 
 use crate::office::FULL;
-use crate::room::CAPACITY;
+use crate::buffer::CAPACITY;
 
 /// A call of the program.
 pub(crate) struct Call {
     /// The words of the command line, the first of which is the program's name.
     pub(crate) words: &'static [&'static str],
     /// How many bytes standard output takes.
-    pub(crate) room: usize,
+    pub(crate) limit: usize,
 }
 
 /// Builds a list of calls, each from the words after the program's name, and after `in` from the
 /// number of bytes that the output takes.
 macro_rules! calls {
-    ($([$($word:expr),* $(,)?] $(in $room:expr)?),* $(,)?) => {
+    ($([$($word:expr),* $(,)?] $(in $limit:expr)?),* $(,)?) => {
         &[$(Call {
             words: &["timedesk", $($word),*],
-            room: calls!(@room $($room)?),
+            limit: calls!(@limit $($limit)?),
         }),*]
     };
-    (@room) => { CAPACITY };
-    (@room $room:expr) => { $room };
+    (@limit) => { CAPACITY };
+    (@limit $limit:expr) => { $limit };
 }
 
 /// All calls.

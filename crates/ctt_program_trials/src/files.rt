@@ -2,7 +2,7 @@
 
 ghost use Rattle.std.specs.Prelude.{None};
 
-use crate::room::Room;
+use crate::buffer::Buffer;
 use ctt_files::{Device, Failed, Files, put_all};
 
 /// An instance of three courses: alg and geo are in one curriculum, and alg and top have one
@@ -60,12 +60,12 @@ const FILES: &[(&str, &str)] = &[
 /// The files, one of which can be stored.
 #[derive(Drop)]
 pub(crate) struct MemoryFiles<'a> {
-    stored: &'a mut Room,
+    stored: &'a mut Buffer,
 }
 
 impl<'a> MemoryFiles<'a> {
     /// Returns the files. The one that is stored is written to `stored`.
-    pub(crate) fn new(stored: &'a mut Room) -> Self {
+    pub(crate) fn new(stored: &'a mut Buffer) -> Self {
         MemoryFiles { stored }
     }
 }

@@ -6,14 +6,14 @@
 mod calls;
 mod files;
 mod office;
-mod room;
+mod buffer;
 
 use calls::{CALLS, Call};
 use ctt_files::{Device, Failed, Sink, put_all, put_whole};
 use ctt_program::program;
 use files::MemoryFiles;
 use office::ClosedOffice;
-use room::{CAPACITY, Room};
+use buffer::{CAPACITY, Buffer};
 use std::alloc::Global;
 use std::marker::Sync;
 use std::process::ExitCode;
@@ -25,36 +25,36 @@ const NO_MEMORY: &[u8] = b"timedesk: no memory\n";
 
 /// The outputs of a call, and the file that it stores.
 #[derive(Drop)]
-struct Rooms {
-    out: Room,
-    err: Room,
-    stored: Room,
+struct Outputs {
+    out: Buffer,
+    err: Buffer,
+    stored: Buffer,
 }
 
-impl Rooms {
+impl Outputs {
     /// Creates empty outputs, if there is memory.
-    fn new(alloc: Global) -> Option<Rooms> {
-        Some(Rooms {
-            out: Room::new(alloc)?,
-            err: Room::new(alloc)?,
-            stored: Room::new(alloc)?,
+    fn new(alloc: Global) -> Option<Outputs> {
+        Some(Outputs {
+            out: Buffer::new(alloc)?,
+            err: Buffer::new(alloc)?,
+            stored: Buffer::new(alloc)?,
         })
     }
 }
 
 /// Calls the program once, and returns its status.
-fn call_once<R: AllocGlobal + Threads + Wait + Sync>(rt: &R, call: &Call, rooms: &mut Rooms) -> u8 {
-    rooms.stored.clear(CAPACITY);
-    rooms.out.clear(call.room);
-    rooms.err.clear(CAPACITY);
-    let mut files = MemoryFiles::new(&mut rooms.stored);
+fn call_once<R: AllocGlobal + Threads + Wait + Sync>(rt: &R, call: &Call, outputs: &mut Outputs) -> u8 {
+    outputs.stored.clear(CAPACITY);
+    outputs.out.clear(call.limit);
+    outputs.err.clear(CAPACITY);
+    let mut files = MemoryFiles::new(&mut outputs.stored);
     program(
         rt,
         call.words,
         &mut files,
         &ClosedOffice,
-        &mut rooms.out,
-        &mut rooms.err,
+        &mut outputs.out,
+        &mut outputs.err,
     )
 }
 
@@ -63,11 +63,11 @@ fn call_once<R: AllocGlobal + Threads + Wait + Sync>(rt: &R, call: &Call, rooms:
 fn call_twice<R: AllocGlobal + Threads + Wait + Sync>(
     rt: &R,
     call: &Call,
-    rooms: &mut Rooms,
+    outputs: &mut Outputs,
 ) -> (u8, bool) {
-    let status = call_once(rt, call, rooms);
-    if status == 3 && rooms.err.text() == NO_MEMORY {
-        return (call_once(rt, call, rooms), true);
+    let status = call_once(rt, call, outputs);
+    if status == 3 && outputs.err.text() == NO_MEMORY {
+        return (call_once(rt, call, outputs), true);
     }
     (status, false)
 }
@@ -82,45 +82,45 @@ fn put_lines<W: Sink>(out: &mut W, text: &[u8]) -> Result<(), Failed> {
 }
 
 /// Writes the words of a call, its status and what it left.
-fn report<W: Sink>(out: &mut W, call: &Call, status: u8, rooms: &Rooms) -> Result<(), Failed> {
+fn report<W: Sink>(out: &mut W, call: &Call, status: u8, outputs: &Outputs) -> Result<(), Failed> {
     for word in call.words {
         put_all(out, word.as_bytes())?;
         put_all(out, b" ")?;
     }
     put_all(out, b"= ")?;
     put_all(out, &[b'0' + status.min(9), b'\n'])?;
-    put_lines(out, rooms.out.text())?;
-    put_lines(out, rooms.err.text())?;
-    put_lines(out, rooms.stored.text())
+    put_lines(out, outputs.out.text())?;
+    put_lines(out, outputs.err.text())?;
+    put_lines(out, outputs.stored.text())
 }
 
 /// Makes all calls, and writes what each left and how many were repeated.
 fn play<R: AllocGlobal + Threads + Wait + Sync, W: Sink>(
     rt: &R,
-    rooms: &mut Rooms,
+    outputs: &mut Outputs,
     out: &mut W,
     refused: bool,
 ) -> Result<(), Failed> {
     let mut again = refused;
     for call in CALLS {
-        let (status, repeated) = call_twice(rt, call, rooms);
+        let (status, repeated) = call_twice(rt, call, outputs);
         again = again || repeated;
-        report(out, call, status, rooms)?;
+        report(out, call, status, outputs)?;
     }
     let last: &[u8] = if again { b"again 1\n" } else { b"again 0\n" };
     put_whole(out, last)
 }
 
 fn main(rt: HostRuntime) -> ExitCode {
-    let (rooms, refused) = match Rooms::new(rt.alloc()) {
-        Some(rooms) => (Some(rooms), false),
-        None => (Rooms::new(rt.alloc()), true),
+    let (outputs, refused) = match Outputs::new(rt.alloc()) {
+        Some(outputs) => (Some(outputs), false),
+        None => (Outputs::new(rt.alloc()), true),
     };
-    let Some(mut rooms) = rooms else {
+    let Some(mut outputs) = outputs else {
         return ExitCode::from(3);
     };
     let mut out = Device::new(rt.stdout());
-    match play(&rt, &mut rooms, &mut out, refused) {
+    match play(&rt, &mut outputs, &mut out, refused) {
         Ok(()) => ExitCode::from(0),
         Err(_) => ExitCode::from(3),
     }

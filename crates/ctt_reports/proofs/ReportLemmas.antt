@@ -1,8 +1,10 @@
 -- The report with its findings.
-use Rattle.std.proofs.Common.{◌≡◌, ℕ, Bool, true, false, List, [], ◌∷◌, ◌++◌, refl, ◌∙◌, sym, ap, subst, append-nil}
+use Rattle.std.proofs.Common.{◌≡◌, ℕ, ◌<◌, Bool, true, false, List, [], ◌∷◌, ◌++◌, arith, codes, drop, length, refl, ◌∙◌, sym, ap, subst, append-nil, append_assoc}
 use Rattle.std.specs.List.{flat_map}
-use Rattle.ctt_text.specs.Problem.{Problem, has_barred}
-use Rattle.ctt_text.specs.declared.placed.Placed.{Placed}
+use Rattle.std.proofs.lemmas.List.{drop-append-le}
+use Rattle.json.specs.Print.{quoted}
+use Rattle.ctt_problem.specs.Problem.{Problem, has_barred}
+use Rattle.ctt_problem.specs.declared.placed.Placed.{Placed}
 use Rattle.ctt_rules.specs.Hard.{hard_counts}
 use Rattle.ctt_rules.specs.Penalty.{penalty}
 use Rattle.ctt_findings.specs.Findings.{findings}
@@ -10,7 +12,7 @@ use Rattle.ctt_findings.specs.Lines.{explained, line}
 use Rattle.ctt_findings.specs.Objects.{item_text, item_texts}
 use Rattle.ctt_findings.specs.ReportText.{IsExplainedJson, IsExplainedText, IsTextReport, text_of}
 use Rattle.ctt_findings.specs.declared.finding.Finding.{Finding}
-use Rattle.ctt_reports.specs.Checks.{found_texts}
+use Rattle.ctt_reports.specs.Checks.{found_texts, named}
 
 -- the texts of findings are JSON items, or lines
 items_found : (i : Problem) (later : Bool) (fs : List Finding) → item_texts i later fs ≡ found_texts true i later fs
@@ -36,3 +38,11 @@ text_explained i t front rest none is =
       is_complete = is.is_complete;
       shown = ap (λ bytes. bytes ++ (found ++ rest)) is.shown ∙ ap (λ bytes. text_of i.name (has_barred i) (hard_counts i t) (penalty i t) is.lawful is.complete ++ bytes) only;
     }
+
+-- an object whose first part has the name of a file
+pub named_more : (file front rest : List ℕ) → 0 < length front → named file front ++ rest ≡ named file (front ++ rest)
+named_more file front rest some =
+    let after : drop 1 (front ++ rest) ≡ drop 1 front ++ rest = drop-append-le 1 front rest (omega (arith, some)) in
+    append_assoc (codes "{\"file\":") (quoted file ++ (codes "," ++ drop 1 front)) rest
+    ∙ ap (λ t. codes "{\"file\":" ++ t) (append_assoc (quoted file) (codes "," ++ drop 1 front) rest
+    ∙ ap (λ t. quoted file ++ t) (append_assoc (codes ",") (drop 1 front) rest ∙ ap (λ t. codes "," ++ t) (sym after)))

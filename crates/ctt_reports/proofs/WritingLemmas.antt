@@ -4,7 +4,7 @@ use Rattle.std.specs.Io.KnownBytes.{Appends}
 use Rattle.std.proofs.KnownBytes.{Appends-nil, Appends-trans}
 use Rattle.std.proofs.Math.Seq.{take-append-add, take-append_seam}
 use Rattle.std.proofs.lemmas.List.{take-append-le, take_min}
-use Rattle.ctt_text.specs.Problem.{Problem}
+use Rattle.ctt_problem.specs.Problem.{Problem}
 use Rattle.ctt_findings.specs.Hearing.{Fails, Hears, HearsFront}
 use Rattle.ctt_findings.specs.declared.finding.Finding.{Finding}
 use Rattle.ctt_findings.specs.declared.untold.Untold.{Untold}

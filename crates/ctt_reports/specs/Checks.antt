@@ -1,10 +1,11 @@
 -- What the command `check` prints, and its outcome.
-use Rattle.std.specs.Prelude.{◌≡◌, ℕ, Bool, true, false, List, [], ◌∷◌, ◌++◌, Option, None}
+use Rattle.std.specs.Prelude.{◌≡◌, ℕ, Bool, true, false, List, [], ◌∷◌, ◌++◌, Option, None, codes, drop, string_bytes}
 use Rattle.std.specs.Global.{Global}
 use Rattle.std.specs.Io.KnownBytes.{Appends}
+use Rattle.json.specs.Print.{quoted}
 use Rattle.std.specs.declared.string.String.{String}
-use Rattle.ctt_text.specs.Problem.{Problem}
-use Rattle.ctt_text.specs.declared.placed.Placed.{Placed}
+use Rattle.ctt_problem.specs.Problem.{Problem}
+use Rattle.ctt_problem.specs.declared.placed.Placed.{Placed}
 use Rattle.ctt_rules.specs.Hard.{Complete, Lawful}
 use Rattle.ctt_findings.specs.Lines.{line}
 use Rattle.ctt_findings.specs.Objects.{item_text}
@@ -14,17 +15,30 @@ use Rattle.ctt_files.specs.Output.{AppendsFront}
 use Rattle.ctt_files.specs.Texts.{Held}
 use Rattle.ctt_files.specs.declared.outcome.Outcome.{Outcome}
 use Rattle.ctt_files.specs.declared.outcome.Outcome.TheVariants.{Differs, Done, Incomplete, Unlawful}
+use Rattle.ctt_words.specs.declared.job.ReportForm.{ReportForm}
+use Rattle.ctt_words.specs.declared.job.ReportForm.TheVariants.{Json, NamedJson, Text}
 use Rattle.ctt_reports.specs.Subjects.{Shows}
 
--- the report, as JSON if that is asked for, or else as text
-abbrev pub IsReport : Bool → Problem → List Placed → List ℕ → Type 0
-IsReport true = IsJsonReport
-IsReport false = IsTextReport
+-- whether a form is JSON
+abbrev pub is_json : ReportForm → Bool
+is_json Text = false
+is_json form = true
+
+-- a JSON object, which begins with a brace, with the name of a file as its first member
+abbrev pub named : List ℕ → List ℕ → List ℕ
+named file object = codes "{\"file\":" ++ (quoted file ++ (codes "," ++ drop 1 object))
+
+-- the report on the timetable of a file
+abbrev pub IsReport : ReportForm → List ℕ → Problem → List Placed → List ℕ → Type 0
+IsReport Text file i t bytes = IsTextReport i t bytes
+IsReport Json file i t bytes = IsJsonReport i t bytes
+IsReport NamedJson file i t bytes = (object : List ℕ) × IsJsonReport i t object × (bytes ≡ named file object)
 
 -- the same, with all findings
-abbrev pub IsExplained : Bool → Problem → List Placed → List ℕ → Type 0
-IsExplained true = IsExplainedJson
-IsExplained false = IsExplainedText
+abbrev pub IsExplained : ReportForm → List ℕ → Problem → List Placed → List ℕ → Type 0
+IsExplained Text file i t bytes = IsExplainedText i t bytes
+IsExplained Json file i t bytes = IsExplainedJson i t bytes
+IsExplained NamedJson file i t bytes = (object : List ℕ) × IsExplainedJson i t object × (bytes ≡ named file object)
 
 -- the text of a finding: an item of a JSON array, with a comma before it unless it is the first, or a line
 abbrev pub found_text : Bool → Problem → Bool → Finding → List ℕ
@@ -46,11 +60,11 @@ IsJudged true i t Differs = ⊥
 
 -- the files contain an instance and a solution of it, whose report with all findings is printed,
 -- with this outcome
-abbrev pub ExplainsSolution : Bool → Bool → String Global → Option (String Global) → String Global → Outcome → Held → Option (List ℕ) → Option (List ℕ) → Type 0
-ExplainsSolution json strict instance barred solution outcome held old new =
-    Shows (λ problem selection timetable. ((bytes : List ℕ) × IsExplained json problem timetable bytes × Appends old new bytes) × IsJudged strict problem timetable outcome) instance barred None solution held
+abbrev pub ExplainsSolution : ReportForm → Bool → String Global → Option (String Global) → String Global → Outcome → Held → Option (List ℕ) → Option (List ℕ) → Type 0
+ExplainsSolution form strict instance barred solution outcome held old new =
+    Shows (λ problem selection timetable. ((bytes : List ℕ) × IsExplained form (string_bytes solution) problem timetable bytes × Appends old new bytes) × IsJudged strict problem timetable outcome) instance barred None solution held
 
 -- a prefix of the report with all findings is printed
-abbrev pub PrintsFront : Bool → String Global → Option (String Global) → String Global → Held → Option (List ℕ) → Option (List ℕ) → Type 0
-PrintsFront json instance barred solution held old new =
-    Shows (λ problem selection timetable. (bytes : List ℕ) × IsExplained json problem timetable bytes × AppendsFront old new bytes) instance barred None solution held
+abbrev pub PrintsFront : ReportForm → String Global → Option (String Global) → String Global → Held → Option (List ℕ) → Option (List ℕ) → Type 0
+PrintsFront form instance barred solution held old new =
+    Shows (λ problem selection timetable. (bytes : List ℕ) × IsExplained form (string_bytes solution) problem timetable bytes × AppendsFront old new bytes) instance barred None solution held

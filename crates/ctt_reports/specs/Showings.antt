@@ -2,8 +2,8 @@
 use Rattle.std.specs.Prelude.{◌≡◌, ℕ, Bool, true, false, List, [], Option, Some, None, string_bytes}
 use Rattle.std.specs.Global.{Global}
 use Rattle.std.specs.declared.string.String.{String}
-use Rattle.ctt_text.specs.Problem.{Problem}
-use Rattle.ctt_text.specs.declared.placed.Placed.{Placed}
+use Rattle.ctt_problem.specs.Problem.{Problem}
+use Rattle.ctt_problem.specs.declared.placed.Placed.{Placed}
 use Rattle.ctt_files.specs.Answers.{IsTextAlone}
 use Rattle.ctt_files.specs.Texts.{Held}
 use Rattle.ctt_files.specs.declared.fault.Fault.{Fault}
@@ -21,7 +21,7 @@ use Rattle.ctt_reports.specs.Subjects.{Shows}
 
 -- whether all findings are asked for, which are printed as they are found
 abbrev pub explains : Showing → Bool
-explains (Report json explain strict) = explain
+explains (Report form explain strict) = explain
 explains showing = false
 
 -- whose week is shown, if one is named
@@ -34,17 +34,16 @@ abbrev pub names_of : Option (String Global) → List ℕ
 names_of None = []
 names_of (Some names) = string_bytes names
 
--- a timetable from a file of this name is shown this way by the text, and the command has this
--- outcome
-abbrev pub IsShown : Showing → String Global → Problem → Option Selection → List Placed → Printed → Type 0
-IsShown (Report json explain strict) solution i selection t p = IsReport json i t p.text.items × IsJudged strict i t p.outcome
-IsShown (Week whose) solution i selection t p = (p.text.items ≡ week i selection t) × (p.outcome ≡ Done)
-IsShown (Page days) solution i selection t p = IsPage (string_bytes solution) (names_of days) i t p.text.items × (p.outcome ≡ Done)
+-- the timetable of a file is shown this way by the text, and the command has this outcome
+abbrev pub IsShown : Showing → List ℕ → Problem → Option Selection → List Placed → Printed → Type 0
+IsShown (Report form explain strict) file i selection t p = IsReport form file i t p.text.items × IsJudged strict i t p.outcome
+IsShown (Week whose) file i selection t p = (p.text.items ≡ week i selection t) × (p.outcome ≡ Done)
+IsShown (Page days) file i selection t p = IsPage file (names_of days) i t p.text.items × (p.outcome ≡ Done)
 
 -- the solution in a file is shown this way
 abbrev pub ShowsSolution : Showing → String Global → Option (String Global) → String Global → Held → Printed → Type 0
 ShowsSolution showing instance barred solution held p =
-    Shows (λ i selection t. IsShown showing solution i selection t p) instance barred (whose_of showing) solution held × IsTextAlone p
+    Shows (λ i selection t. IsShown showing (string_bytes solution) i selection t p) instance barred (whose_of showing) solution held × IsTextAlone p
 
 -- why the solution is not shown
 abbrev pub IsOfShowing : Showing → Held → String Global → Option (String Global) → String Global → Fault → Type 0

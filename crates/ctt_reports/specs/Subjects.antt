@@ -2,8 +2,8 @@
 use Rattle.std.specs.Prelude.{◌≡◌, ℕ, List, Option, Some, None, option_map, string_bytes}
 use Rattle.std.specs.Global.{Global}
 use Rattle.std.specs.declared.string.String.{String}
-use Rattle.ctt_text.specs.Problem.{Problem, number_in}
-use Rattle.ctt_text.specs.declared.placed.Placed.{Placed}
+use Rattle.ctt_problem.specs.Problem.{Problem, number_in}
+use Rattle.ctt_problem.specs.declared.placed.Placed.{Placed}
 use Rattle.ctt_files.specs.Texts.{Held, Holds, IsInstanceIn, IsSolutionText}
 use Rattle.ctt_views.specs.declared.selection.Selection.{Selection}
 use Rattle.ctt_views.specs.declared.selection.Selection.TheVariants as number

@@ -1,6 +1,6 @@
 //! The outcome of a check.
 
-ghost use Rattle.ctt_text.specs.Timetable.{IsTimetable};
+ghost use Rattle.ctt_problem.specs.Timetable.{IsTimetable};
 ghost use Rattle.ctt_reports.specs.Checks.{IsJudged};
 
 use ctt_files::Outcome;

@@ -27,8 +27,8 @@ pub fn show<F: Files>(
         (IsOfShowing showing (F.held files.old) instance barred solution) }
 {
     match showing {
-        Showing::Report { json, strict, .. } => {
-            answer_report(alloc, files, instance, barred, solution, json, strict)
+        Showing::Report { form, strict, .. } => {
+            answer_report(alloc, files, instance, barred, solution, form, strict)
         }
         Showing::Week(whose) => answer_week(alloc, files, instance, barred, solution, whose),
         Showing::Page(days) => answer_page(alloc, files, instance, barred, solution, days),

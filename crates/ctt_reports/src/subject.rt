@@ -1,7 +1,7 @@
 //! Reading what a command shows: an instance, and a solution of it.
 
 ghost use Rattle.std.specs.Prelude.{◌≡◌, IfOk, IfErr, IfSome, string_bytes};
-ghost use Rattle.ctt_text.specs.Timetable.{IsTimetable};
+ghost use Rattle.ctt_problem.specs.Timetable.{IsTimetable};
 ghost use Rattle.ctt_files.specs.Texts.{IsInstanceIn, IsSolutionText};
 ghost use Rattle.ctt_views.specs.Week.{SelectionFits};
 ghost use Rattle.ctt_reports.specs.Refusals.{IsNoName, IsOfSubject, IsOfWeek};

@@ -5,8 +5,8 @@ use Rattle.std.specs.Int.{bit_at, bit_not, w64}
 use Rattle.std.proofs.lemmas.Nat.{ones-le, div-add-mod', mod_below, pow_pos, or_lt, and_le_r}
 use Rattle.std.proofs.lemmas.Nat.Bits.{bit_at-lt, bit_at_cat_low, bit_at_cat_high, bit_at-suc, bit_at_not, bit_at_set_same, bit_at_set_other, bit_at_mask_inside, bit_at_mask_below, bit_at_mask_above}
 use Rattle.std.proofs.lemmas.Bool.{cases_Bool, cases_eq, cases_lt, eq-eqb, ne_eqb, ltb-true, lt-ltb, le-ltb, and_from, and_left, and_right, and_parts}
-use Rattle.ctt_text.specs.Lists.{count_below}
-use Rattle.ctt_text.proofs.MarkLemmas.{both_bits, either_bit, ones_are}
+use Rattle.ctt_problem.specs.Lists.{count_below}
+use Rattle.ctt_problem.proofs.MarkLemmas.{both_bits, either_bit, ones_are}
 use Rattle.ctt_rules.specs.Windows.{has_bit}
 use Rattle.ctt_rules.proofs.SumLemmas.{sum_below_same}
 

@@ -4,10 +4,10 @@ use Rattle.std.specs.List.{count_by, list_any}
 use Rattle.std.proofs.lemmas.Bool.Decides.{nat_tests}
 use Rattle.std.proofs.lemmas.Bool.{cases_eq, cases_lt, eq-eqb, ne_eqb, lt-ltb, le-ltb, and_from, and_left, and_right}
 use Rattle.std.proofs.lemmas.List.Sums.{sum_by_push}
-use Rattle.ctt_text.specs.Lists.{sum_below}
-use Rattle.ctt_text.specs.Problem.{Problem, room_count, slot_count}
-use Rattle.ctt_text.specs.Timetable.{Fits}
-use Rattle.ctt_text.specs.declared.placed.Placed.{Placed}
+use Rattle.ctt_problem.specs.Lists.{sum_below}
+use Rattle.ctt_problem.specs.Problem.{Problem, room_count, slot_count}
+use Rattle.ctt_problem.specs.Timetable.{Fits}
+use Rattle.ctt_problem.specs.declared.placed.Placed.{Placed}
 use Rattle.ctt_rules.specs.Hard.{share_room, occupancy_count}
 use Rattle.ctt_rules.proofs.NeighbourLemmas.{any_same}
 use Rattle.ctt_rules.proofs.SumLemmas.{sum_below_same, sum_below_add, sum_below_one, sum_below_zero, count_by-cons}

@@ -6,13 +6,13 @@ use Rattle.std.proofs.lemmas.List.Sums.{sum_by_push}
 use Rattle.std.proofs.lemmas.List.Folds.{list_any_more}
 use Rattle.std.proofs.lemmas.Bool.Decides.{nat_tests}
 use Rattle.std.proofs.lemmas.Bool.{cases_Bool, lt-ltb, le-ltb, le-leb, leb-true, ltb-true, and_from, and_right, and_parts}
-use Rattle.ctt_text.specs.Lists.{Pairwise, has, count_below}
-use Rattle.ctt_text.specs.Marks.{is_marked, count_marked}
-use Rattle.ctt_text.specs.Problem.{Problem, course_count, course_of, slot_count, mates, clash}
-use Rattle.ctt_text.specs.Timetable.{IsTimetable, Fits, before}
-use Rattle.ctt_text.specs.declared.placed.Placed.{Placed}
-use Rattle.ctt_text.proofs.MarkLemmas.{past_words}
-use Rattle.ctt_text.proofs.TimetableLemmas.{Each-map}
+use Rattle.ctt_problem.specs.Lists.{Pairwise, has, count_below}
+use Rattle.ctt_problem.specs.Marks.{is_marked, count_marked}
+use Rattle.ctt_problem.specs.Problem.{Problem, course_count, course_of, slot_count, mates, clash}
+use Rattle.ctt_problem.specs.Timetable.{IsTimetable, Fits, before}
+use Rattle.ctt_problem.specs.declared.placed.Placed.{Placed}
+use Rattle.ctt_problem.proofs.MarkLemmas.{past_words}
+use Rattle.ctt_problem.proofs.TimetableLemmas.{Each-map}
 use Rattle.ctt_rules.specs.Hard.{conflicts, conflict_count, share_room, occupancy_count}
 use Rattle.ctt_rules.specs.Earlier.{clashes_with, tally, new_conflicts, room_taken, only_in, in_row}
 use Rattle.ctt_rules.proofs.ListLemmas.{Each-take, Pairwise-map}

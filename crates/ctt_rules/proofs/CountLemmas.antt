@@ -4,11 +4,11 @@ use Rattle.std.specs.List.{count_by, AllByRecursion as Each}
 use Rattle.std.proofs.lemmas.Bool.Decides.{nat_tests}
 use Rattle.std.proofs.lemmas.Bool.{cases_Bool, cases_eq, cases_lt, ne_eqb}
 use Rattle.std.proofs.lemmas.List.{get_or_past}
-use Rattle.ctt_text.specs.Lists.{Pairwise, sum_below}
-use Rattle.ctt_text.specs.Problem.{Problem, course_of, course_count, slot_count, room_count, is_unavailable, is_barred}
-use Rattle.ctt_text.specs.Timetable.{IsTimetable, Fits, course_row}
-use Rattle.ctt_text.specs.declared.placed.Placed.{Placed}
-use Rattle.ctt_text.proofs.TimetableLemmas.{Each-map}
+use Rattle.ctt_problem.specs.Lists.{Pairwise, sum_below}
+use Rattle.ctt_problem.specs.Problem.{Problem, course_of, course_count, slot_count, room_count, is_unavailable, is_barred}
+use Rattle.ctt_problem.specs.Timetable.{IsTimetable, Fits, course_row}
+use Rattle.ctt_problem.specs.declared.placed.Placed.{Placed}
+use Rattle.ctt_problem.proofs.TimetableLemmas.{Each-map}
 use Rattle.ctt_rules.specs.Hard.{Lawful, IsAllowed, conflicts, share_room, missing_count, conflict_count, unavailable_count, barred_count, occupancy_count}
 use Rattle.ctt_rules.proofs.ListLemmas.{filter_none, Each-both}
 use Rattle.ctt_rules.proofs.SumLemmas.{sum_below_zero, count_by-cons}

@@ -3,9 +3,9 @@ use Rattle.std.proofs.Common.{◌≡◌, ℕ, ◌+◌, ◌≤◌, Bool, true, fa
 use Rattle.std.specs.List.{filter, sum_by, count_by, list_any, AllByRecursion as Each}
 use Rattle.std.proofs.lemmas.Bool.{cases_Bool, eqb-true}
 use Rattle.std.proofs.lemmas.List.Sums.{sum_by-cons, count_by-le-length, length-filter}
-use Rattle.ctt_text.specs.Lists.{has, Pairwise}
-use Rattle.ctt_text.specs.Timetable.{course_row}
-use Rattle.ctt_text.specs.declared.placed.Placed.{Placed}
+use Rattle.ctt_problem.specs.Lists.{has, Pairwise}
+use Rattle.ctt_problem.specs.Timetable.{course_row}
+use Rattle.ctt_problem.specs.declared.placed.Placed.{Placed}
 use Rattle.ctt_rules.specs.Penalty.{lectures_of}
 use Rattle.ctt_rules.specs.Neighbours.{busy}
 use Rattle.ctt_rules.proofs.SumLemmas.{count_by-cons}

@@ -1,7 +1,7 @@
 -- Slots and their days.
 use Rattle.std.proofs.Common.{ℕ, zero, suc, ◌*◌, ◌<◌, arith}
 use Rattle.std.proofs.lemmas.Nat.{div_below}
-use Rattle.ctt_text.specs.Problem.{Problem, day_of, slot_count}
+use Rattle.ctt_problem.specs.Problem.{Problem, day_of, slot_count}
 
 some_periods : (d p s : ℕ) → s < d * p → 0 < p
 some_periods d zero s h = absurd (omega (arith, h))

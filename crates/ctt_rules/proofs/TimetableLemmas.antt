@@ -6,12 +6,12 @@ use Rattle.std.proofs.lemmas.Bool.Decides.{nat_tests}
 use Rattle.std.proofs.lemmas.Bool.{cases_Bool, cases_lt, eqb-true}
 use Rattle.std.proofs.lemmas.List.{get_or_past}
 use Rattle.std.proofs.lemmas.List.Sums.{sum_by-cons}
-use Rattle.ctt_text.specs.Lists.{Pairwise, sum_below}
-use Rattle.ctt_text.specs.Problem.{Problem, IsProblem, IsSmall, IsCourseFacts, course_of, course_count, slot_count}
-use Rattle.ctt_text.specs.declared.course_facts.CourseFacts.{CourseFacts}
-use Rattle.ctt_text.specs.Timetable.{IsTimetable, before, Ascending, Fits, course_row}
-use Rattle.ctt_text.specs.declared.placed.Placed.{Placed}
-use Rattle.ctt_text.proofs.TimetableLemmas.{Each-map, Each-at}
+use Rattle.ctt_problem.specs.Lists.{Pairwise, sum_below}
+use Rattle.ctt_problem.specs.Problem.{Problem, IsProblem, IsSmall, IsCourseFacts, course_of, course_count, slot_count}
+use Rattle.ctt_problem.specs.declared.course_facts.CourseFacts.{CourseFacts}
+use Rattle.ctt_problem.specs.Timetable.{IsTimetable, before, Ascending, Fits, course_row}
+use Rattle.ctt_problem.specs.declared.placed.Placed.{Placed}
+use Rattle.ctt_problem.proofs.TimetableLemmas.{Each-map, Each-at}
 use Rattle.ctt_rules.proofs.ListLemmas.{Each-filter}
 use Rattle.ctt_rules.proofs.SumLemmas.{sum_below_same, sum_below_add, sum_below_one, sum_below_zero, sum_below_le, length_is}
 

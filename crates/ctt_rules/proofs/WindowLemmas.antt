@@ -6,13 +6,13 @@ use Rattle.std.proofs.Math.Nat.{div-mul-le_self, div-zero}
 use Rattle.std.proofs.lemmas.Nat.{le-div}
 use Rattle.std.proofs.lemmas.Bool.{cases_Bool, cases_eq, cases_lt, eq-eqb, ne_eqb, leb-true, ltb-true, lt-ltb, le-ltb, le-leb, lt-leb, and_from, and_left, and_right, and_parts, both_ways}
 use Rattle.std.proofs.lemmas.List.{get_or-set_same, get_or-set_other}
-use Rattle.ctt_text.specs.Lists.{Pairwise, has, count_below}
-use Rattle.ctt_text.specs.Problem.{Problem, IsProblem, AreMembers, day_of, slot_count}
-use Rattle.ctt_text.specs.Timetable.{IsTimetable, Fits, course_row}
-use Rattle.ctt_text.specs.declared.placed.Placed.{Placed}
+use Rattle.ctt_problem.specs.Lists.{Pairwise, has, count_below}
+use Rattle.ctt_problem.specs.Problem.{Problem, IsProblem, AreMembers, day_of, slot_count}
+use Rattle.ctt_problem.specs.Timetable.{IsTimetable, Fits, course_row}
+use Rattle.ctt_problem.specs.declared.placed.Placed.{Placed}
 use Rattle.ctt_rules.specs.Penalty.{next_to, is_alone, alone_cost, lectures_of}
 use Rattle.ctt_rules.specs.Windows.{spaced, stands_at, has_bit, word_of, is_alone_within}
-use Rattle.ctt_text.proofs.TimetableLemmas.{Each-map}
+use Rattle.ctt_problem.proofs.TimetableLemmas.{Each-map}
 use Rattle.ctt_rules.proofs.BitLemmas.{bit_of_set}
 use Rattle.ctt_rules.proofs.ListLemmas.{Each-filter, Each-every, Pairwise-map}
 use Rattle.ctt_rules.proofs.SlotLemmas.{periods_above, day_fits}

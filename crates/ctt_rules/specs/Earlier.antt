@@ -1,9 +1,9 @@
 -- What each lecture of a list adds to a count, given the lectures before it.
 use Rattle.std.specs.Prelude.{ℕ, ◌+◌, Bool, cond, List, [], ◌∷◌, ◌++◌, count_by, ◌&&◌, nat_le, nat_lt, slice_index_or}
 use Rattle.std.specs.List.{list_any}
-use Rattle.ctt_text.specs.Marks.{is_marked}
-use Rattle.ctt_text.specs.Problem.{Problem, course_count, clash}
-use Rattle.ctt_text.specs.declared.placed.Placed.{Placed}
+use Rattle.ctt_problem.specs.Marks.{is_marked}
+use Rattle.ctt_problem.specs.Problem.{Problem, course_count, clash}
+use Rattle.ctt_problem.specs.declared.placed.Placed.{Placed}
 use Rattle.ctt_rules.specs.Hard.{conflicts, share_room}
 
 -- the sum of what each lecture of a list adds; `before` precedes the list

@@ -1,10 +1,10 @@
 -- The hard rules, and how often they are broken.
 use Rattle.std.specs.Prelude.{ℕ, ◌+◌, ◌-◌, ◌≤◌, ◌≡◌, Bool, false, List, [], ◌∷◌, length, count_by, ◌==◌, ◌&&◌}
 use Rattle.std.specs.List.{AllByRecursion as Each}
-use Rattle.ctt_text.specs.Lists.{Pairwise, sum_below}
-use Rattle.ctt_text.specs.Problem.{Problem, course_of, course_count, slot_count, room_count, clash, is_unavailable, is_barred}
-use Rattle.ctt_text.specs.Timetable.{IsTimetable, course_row}
-use Rattle.ctt_text.specs.declared.placed.Placed.{Placed}
+use Rattle.ctt_problem.specs.Lists.{Pairwise, sum_below}
+use Rattle.ctt_problem.specs.Problem.{Problem, course_of, course_count, slot_count, room_count, clash, is_unavailable, is_barred}
+use Rattle.ctt_problem.specs.Timetable.{IsTimetable, course_row}
+use Rattle.ctt_problem.specs.declared.placed.Placed.{Placed}
 use Rattle.ctt_rules.specs.declared.hard.Hard.{Hard}
 
 -- the lectures are in one slot, and their courses clash

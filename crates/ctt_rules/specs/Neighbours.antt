@@ -1,8 +1,8 @@
 -- The slots directly before and after a slot.
 use Rattle.std.specs.Prelude.{ℕ, ◌+◌, ◌-◌, Bool, List, ◌==◌, ◌&&◌, ◌||◌, nat_lt}
 use Rattle.std.specs.List.{list_any}
-use Rattle.ctt_text.specs.Problem.{Problem, period_of}
-use Rattle.ctt_text.specs.declared.placed.Placed.{Placed}
+use Rattle.ctt_problem.specs.Problem.{Problem, period_of}
+use Rattle.ctt_problem.specs.declared.placed.Placed.{Placed}
 
 -- some lecture is in the slot
 abbrev pub busy : List Placed → ℕ → Bool

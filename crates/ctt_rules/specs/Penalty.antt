@@ -1,10 +1,10 @@
 -- The soft costs, each a sum over the timetable as a whole.
 use Rattle.std.specs.Prelude.{ℕ, ◌+◌, ◌-◌, ◌*◌, Bool, List, filter, sum_by, count_by, ◌==◌, ◌&&◌, ◌||◌, not}
 use Rattle.std.specs.List.{list_any}
-use Rattle.ctt_text.specs.Lists.{sum_below, count_below, has}
-use Rattle.ctt_text.specs.Problem.{Problem, course_of, capacity_of, course_count, room_count, day_of}
-use Rattle.ctt_text.specs.Timetable.{course_row}
-use Rattle.ctt_text.specs.declared.placed.Placed.{Placed}
+use Rattle.ctt_problem.specs.Lists.{sum_below, count_below, has}
+use Rattle.ctt_problem.specs.Problem.{Problem, course_of, capacity_of, course_count, room_count, day_of}
+use Rattle.ctt_problem.specs.Timetable.{course_row}
+use Rattle.ctt_problem.specs.declared.placed.Placed.{Placed}
 use Rattle.ctt_rules.specs.declared.cost.Cost.{Cost}
 
 -- the students above the capacity of a lecture's room

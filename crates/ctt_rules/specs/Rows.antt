@@ -1,7 +1,7 @@
 -- The rows of a timetable, one course after another.
 use Rattle.std.specs.Prelude.{◌≡◌, ℕ, ◌+◌, List, filter, nat_le}
-use Rattle.ctt_text.specs.Timetable.{course_row}
-use Rattle.ctt_text.specs.declared.placed.Placed.{Placed}
+use Rattle.ctt_problem.specs.Timetable.{course_row}
+use Rattle.ctt_problem.specs.declared.placed.Placed.{Placed}
 
 -- the lectures of this course and of the courses after it
 abbrev pub from_course : ℕ → List Placed → List Placed

@@ -1,8 +1,8 @@
 -- The lectures of courses in a window of 64 slots, one bit each.
 use Rattle.std.specs.Prelude.{ℕ, ◌+◌, Bool, List, slice_index_or, ◌==◌, ◌&&◌, nat_le, nat_lt}
 use Rattle.std.specs.Int.{bit_at}
-use Rattle.ctt_text.specs.Problem.{Problem, day_of}
-use Rattle.ctt_text.specs.declared.placed.Placed.{Placed}
+use Rattle.ctt_problem.specs.Problem.{Problem, day_of}
+use Rattle.ctt_problem.specs.declared.placed.Placed.{Placed}
 use Rattle.ctt_rules.specs.Penalty.{is_alone}
 
 -- the number of a slot, with a gap after each day: slots are adjacent exactly if their numbers are

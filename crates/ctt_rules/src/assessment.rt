@@ -1,7 +1,7 @@
 //! The assessment of a timetable: its hard counts and soft costs, and the two judgements on it.
 
 ghost use Rattle.std.specs.Prelude.{◌≡◌, ◌<◌, ◌^◌, ◌↔◌, IsTrue};
-ghost use Rattle.ctt_text.specs.Timetable.{IsTimetable};
+ghost use Rattle.ctt_problem.specs.Timetable.{IsTimetable};
 ghost use Rattle.ctt_rules.specs.Hard.{Complete, Lawful, hard_counts};
 ghost use Rattle.ctt_rules.specs.Penalty.{penalty, total};
 
@@ -9,7 +9,7 @@ use crate::cost::Cost;
 use crate::hard::{Hard, hard_counts};
 use crate::lawful::{has_all, keeps_rules};
 use crate::soft::penalty;
-use ctt_text::{Instance, Placed};
+use ctt_problem::{Instance, Placed};
 
 /// The hard counts and soft costs of a timetable, and whether it is lawful and complete.
 #[derive(Clone, Copy, PartialEq, Eq)]

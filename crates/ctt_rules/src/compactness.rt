@@ -2,12 +2,12 @@
 
 ghost use Rattle.std.specs.Prelude.{◌≡◌, ◌<◌, ◌≤◌, ◌+◌, ◌-◌, ◌*◌, ◌&&◌, ◌||◌, ◌==◌, not, nat_lt, ℕ, length, count_by, sum_by};
 ghost use Rattle.std.specs.List.{list_any, AllByRecursion as Each};
-ghost use Rattle.ctt_text.specs.Lists.{count_below};
-ghost use Rattle.ctt_text.specs.Timetable.{IsTimetable, Fits};
+ghost use Rattle.ctt_problem.specs.Lists.{count_below};
+ghost use Rattle.ctt_problem.specs.Timetable.{IsTimetable, Fits};
 ghost use Rattle.ctt_rules.specs.Penalty.{penalty, lectures_of};
 ghost use Rattle.ctt_rules.specs.Windows.{has_bit, is_alone_within, stands_at, word_of};
 
-use ctt_text::{CourseNo, CurriculumNo, Instance, Placed};
+use ctt_problem::{CourseNo, CurriculumNo, Instance, Placed};
 use std::marker::Model;
 
 /// The places of a window at which lectures are counted, 1 to 62. Places 0 and 63 are their

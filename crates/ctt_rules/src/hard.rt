@@ -2,12 +2,12 @@
 
 ghost use Rattle.std.specs.Prelude.{◌≡◌};
 ghost use Rattle.std.specs.List.{AllByRecursion as Each};
-ghost use Rattle.ctt_text.specs.Timetable.{IsTimetable, Fits};
+ghost use Rattle.ctt_problem.specs.Timetable.{IsTimetable, Fits};
 ghost use Rattle.ctt_rules.specs.Hard.{hard_counts, missing_count, unavailable_count, barred_count};
 
 use crate::row::cut_row;
 use crate::sharing::count_sharing;
-use ctt_text::{CourseNo, Instance, Placed};
+use ctt_problem::{CourseNo, Instance, Placed};
 
 /// How often a timetable breaks each of the four hard constraints of the technical report of
 /// Di Gaspero, McCollum and Schaerf for ITC 2007, and how many lectures are in barred rooms.

@@ -1,13 +1,13 @@
 //! Whether a timetable is lawful, and whether it is complete, by its hard counts.
 
 ghost use Rattle.std.specs.Prelude.{◌≡◌, ◌≤◌, ◌↔◌, ◌==◌, ◌&&◌, ℕ, IsTrue, length};
-ghost use Rattle.ctt_text.specs.Problem.{course_of};
-ghost use Rattle.ctt_text.specs.Timetable.{IsTimetable, course_row};
+ghost use Rattle.ctt_problem.specs.Problem.{course_of};
+ghost use Rattle.ctt_problem.specs.Timetable.{IsTimetable, course_row};
 ghost use Rattle.ctt_rules.specs.Hard.{Lawful, Complete, hard_counts};
 
 use crate::hard::{Hard, hard_counts};
 use crate::row::course_row;
-use ctt_text::{CourseNo, Instance, Placed};
+use ctt_problem::{CourseNo, Instance, Placed};
 
 /// Returns whether no course has more lectures than the instance states, given the hard counts.
 fn has_no_surplus(instance: &Instance, timetable: &[Placed], hard: &Hard) -> bool

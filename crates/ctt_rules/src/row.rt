@@ -2,11 +2,11 @@
 
 ghost use Rattle.std.specs.Prelude.{◌≡◌, List};
 ghost use Rattle.std.specs.List.{AllByRecursion as Each};
-ghost use Rattle.ctt_text.specs.Timetable.{Ascending, IsTimetable, Fits, course_row};
-ghost use Rattle.ctt_text.specs.declared.placed.Placed.{Placed};
+ghost use Rattle.ctt_problem.specs.Timetable.{Ascending, IsTimetable, Fits, course_row};
+ghost use Rattle.ctt_problem.specs.declared.placed.Placed.{Placed};
 ghost use Rattle.ctt_rules.specs.Rows.{from_course, IsCut};
 
-use ctt_text::{CourseNo, Instance, Placed};
+use ctt_problem::{CourseNo, Instance, Placed};
 
 /// Returns the lectures of a course, which are contiguous in a timetable.
 pub fn course_row<'a>(

@@ -1,12 +1,12 @@
 //! Lectures in one slot whose courses clash or that share a room, counted in blocks of 64 slots.
 
 ghost use Rattle.std.specs.Prelude.{◌≡◌, ◌<◌, ◌≤◌, ◌+◌, ◌-◌, ◌*◌, ◌^◌, ◌==◌, ◌&&◌, ◌||◌, ℕ, [], cond, false, not, nat_le, nat_lt};
-ghost use Rattle.ctt_text.specs.Marks.{is_marked, count_marked};
-ghost use Rattle.ctt_text.specs.Timetable.{IsTimetable, Fits};
+ghost use Rattle.ctt_problem.specs.Marks.{is_marked, count_marked};
+ghost use Rattle.ctt_problem.specs.Timetable.{IsTimetable, Fits};
 ghost use Rattle.ctt_rules.specs.Hard.{conflict_count, occupancy_count};
 ghost use Rattle.ctt_rules.specs.Earlier.{clashes_with, in_row, new_conflicts, only_in, room_taken, tally};
 
-use ctt_text::{Instance, Marks, Placed};
+use ctt_problem::{Instance, Marks, Placed};
 use std::marker::Model;
 
 /// The numbers that are marked in each of 64 consecutive slots.

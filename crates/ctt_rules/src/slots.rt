@@ -2,12 +2,12 @@
 
 ghost use Rattle.std.specs.Prelude.{◌≡◌, ◌<◌, ◌≤◌, ◌||◌, not, ℕ, length, count_by};
 ghost use Rattle.std.specs.List.{AllByRecursion as Each};
-ghost use Rattle.ctt_text.specs.Marks.{is_marked};
-ghost use Rattle.ctt_text.specs.Problem.{slot_count};
-ghost use Rattle.ctt_text.specs.Timetable.{Fits};
+ghost use Rattle.ctt_problem.specs.Marks.{is_marked};
+ghost use Rattle.ctt_problem.specs.Problem.{slot_count};
+ghost use Rattle.ctt_problem.specs.Timetable.{Fits};
 ghost use Rattle.ctt_rules.specs.Neighbours.{busy, is_beside};
 
-use ctt_text::{Instance, Marks, Placed, SlotNo};
+use ctt_problem::{Instance, Marks, Placed, SlotNo};
 
 /// Marks the slots of lectures.
 pub fn mark_slots(instance: &Instance, slots: &mut Marks, lectures: &[Placed])

@@ -2,14 +2,14 @@
 
 ghost use Rattle.std.specs.Prelude.{◌≡◌, ◌<◌, ◌≤◌, ◌*◌, ◌^◌, length, sum_by};
 ghost use Rattle.std.specs.List.{AllByRecursion as Each};
-ghost use Rattle.ctt_text.specs.Problem.{course_count};
-ghost use Rattle.ctt_text.specs.Timetable.{IsTimetable, Fits, course_row};
+ghost use Rattle.ctt_problem.specs.Problem.{course_count};
+ghost use Rattle.ctt_problem.specs.Timetable.{IsTimetable, Fits, course_row};
 ghost use Rattle.ctt_rules.specs.Penalty.{penalty, course_cost, total, unseated, days_of, rooms_of, days_cost, rooms_cost};
 
 use crate::compactness::compactness;
 use crate::cost::Cost;
 use crate::row::{course_row, cut_row};
-use ctt_text::{CourseNo, Instance, Marks, Placed};
+use ctt_problem::{CourseNo, Instance, Marks, Placed};
 
 /// Sums the students above the capacity of the room, over all these lectures.
 fn capacity(instance: &Instance, lectures: &[Placed]) -> u64

@@ -4,8 +4,8 @@ use Rattle.std.proofs.lemmas.List.{take-append-drop}
 use Rattle.std.specs.Io.KnownBytes.{Appends}
 use Rattle.std.proofs.KnownBytes.{Appends-nil, Appends-trans}
 use Rattle.std.proofs.Math.Seq.{take-append_seam}
-use Rattle.ctt_text.specs.Problem.{Problem, IsProblem}
-use Rattle.ctt_text.specs.declared.placed.Placed.{Placed}
+use Rattle.ctt_problem.specs.Problem.{Problem, IsProblem}
+use Rattle.ctt_problem.specs.declared.placed.Placed.{Placed}
 use Rattle.ctt_rules.specs.Hard.{Lawful}
 use Rattle.ctt_core.specs.declared.event.Event.{Event}
 use Rattle.ctt_core.specs.declared.answer.Answer.{Answer}
@@ -15,9 +15,8 @@ use Rattle.ctt_core.specs.Desks.{DeskValue, SameDesk}
 use Rattle.ctt_core.specs.Laws.{Stands}
 use Rattle.ctt_script.specs.Entries.{AnswerFits}
 use Rattle.ctt_script.specs.AnswerText.{answer_words, bad_line, answered, answers_after, run_after}
-use Rattle.ctt_files.specs.Output.{WritesOut}
+use Rattle.ctt_files.specs.Output.{WritesOut, AppendsFront}
 use Rattle.ctt_script.specs.Answering.{IsAtRun, Answered, Answering, Wrote, WroteFront}
-use Rattle.ctt_files.specs.Output.{AppendsFront}
 use Rattle.ctt_script.specs.ScriptText.{items_of}
 use Rattle.ctt_line.specs.Lines.{line}
 use Rattle.ctt_script.proofs.AnswersFit.{answer_fits}

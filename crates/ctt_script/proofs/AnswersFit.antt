@@ -3,10 +3,10 @@ use Rattle.std.proofs.Common.{subst, ◌≡◌, ℕ, zero, suc, ◌+◌, ◌<◌
 use Rattle.std.specs.Prelude.{IfSome}
 use Rattle.std.specs.List.{find, AllByRecursion as Each}
 use Rattle.std.proofs.lemmas.Bool.{cases_Bool}
-use Rattle.ctt_text.specs.Lists.{below}
-use Rattle.ctt_text.specs.Problem.{Problem, IsProblem, course_count, slot_count}
-use Rattle.ctt_text.specs.declared.placed.Placed.{Placed}
-use Rattle.ctt_text.proofs.TimetableLemmas.{Each-map}
+use Rattle.ctt_problem.specs.Lists.{below}
+use Rattle.ctt_problem.specs.Problem.{Problem, IsProblem, course_count, slot_count}
+use Rattle.ctt_problem.specs.declared.placed.Placed.{Placed}
+use Rattle.ctt_problem.proofs.TimetableLemmas.{Each-map}
 use Rattle.ctt_rules.specs.Hard.{Lawful}
 use Rattle.ctt_edits.specs.declared.call.Call.{Call}
 use Rattle.ctt_edits.specs.declared.call.Call.TheVariants.{Look as Looks}
@@ -21,9 +21,8 @@ use Rattle.ctt_core.specs.declared.event.Event.{Event}
 use Rattle.ctt_core.specs.declared.event.Event.TheVariants.{Open, Ask, Peek, Status, Commit, Refresh, Abandon, Show}
 use Rattle.ctt_core.specs.declared.journal.JournalEntry.{JournalEntry}
 use Rattle.ctt_core.specs.Runs.{Turn, OpenDraft, commits, draft, accepted_of, now, base, open_answer, ask_answer, peek_answer, status_answer, acceptance, commit_answer, renewal, refresh_answer, abandon_answer, plain, Right, EventFits, RunFits}
-use Rattle.ctt_core.proofs.RunLemmas.{GoodDraft, Good, right_is_good, lawful_after, Each-join, Each-take}
+use Rattle.ctt_core.proofs.RunLemmas.{GoodDraft, Good, right_is_good, lawful_after, Each-join, Each-take, CallsFit}
 use Rattle.ctt_core.proofs.JournalLemmas.{FitsShort, IsSmallEntry, all_small, few_commits, history_fits, journal_fits}
-use Rattle.ctt_core.proofs.RunLemmas.{CallsFit}
 use Rattle.ctt_edits.specs.Fitting.{IsReply, IsShortReply, AreFew}
 use Rattle.ctt_core.specs.Entries.{EntryFits}
 use Rattle.ctt_script.specs.Entries.{IsEntry, RowFits, AnswerFits}

@@ -7,9 +7,9 @@ use Rattle.std.proofs.lemmas.Bool.{ltb-true, and_parts}
 use Rattle.std.proofs.lemmas.Nat.{mul-add-lt}
 use Rattle.ctt_text.specs.Numbers.{is_number, value}
 use Rattle.ctt_text.specs.Places.{known_name, exactly, fixed}
-use Rattle.ctt_text.specs.Problem.{Problem, IsProblem, is_among, place_of, number_in, slot_of, course_count, room_count, slot_count, teacher_count, curriculum_count}
+use Rattle.ctt_problem.specs.Problem.{Problem, IsProblem, is_among, place_of, number_in, slot_of, course_count, room_count, slot_count, teacher_count, curriculum_count}
 use Rattle.std.proofs.lemmas.List.Sums.{passes_at_first}
-use Rattle.ctt_text.proofs.ListLaws.{place_below, bytes_sound}
+use Rattle.ctt_problem.proofs.ListLaws.{place_below, bytes_sound}
 use Rattle.ctt_edits.specs.Edits.{EditFits}
 use Rattle.ctt_edits.specs.Looks.{LookFits}
 use Rattle.ctt_edits.specs.Calls.{CallFits}

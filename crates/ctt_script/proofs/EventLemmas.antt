@@ -4,7 +4,7 @@ use Rattle.std.specs.Prelude.{codes, IfOk, IfSome}
 use Rattle.std.specs.Str.{bytes_eq}
 use Rattle.std.specs.Option.{option_map}
 use Rattle.ctt_text.specs.Words.{words}
-use Rattle.ctt_text.specs.Problem.{Problem, IsProblem}
+use Rattle.ctt_problem.specs.Problem.{Problem, IsProblem}
 use Rattle.ctt_text.specs.Forms.{Form, done, read, ◌>>=◌}
 use Rattle.ctt_core.specs.declared.event.Event.{Event}
 use Rattle.ctt_core.specs.declared.event.Event.TheVariants.{Show}

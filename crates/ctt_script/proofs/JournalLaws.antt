@@ -1,6 +1,7 @@
 -- Words spell one journal, or break its grammar at one word.
 use Rattle.std.proofs.Common.{◌≡◌, ◌⊎◌, ◌∙◌, ℕ, List, Ok, Err, inl, inr, sym}
-use Rattle.ctt_text.proofs.FormLaws.{answer_breaks, breaks_answer, breaks_once, answered, ok_same, ok_is_err}
+use Rattle.ctt_text.proofs.FormLaws.{answer_breaks, breaks_answer, breaks_once, answered}
+use Rattle.ctt_problem.proofs.ResultLemmas.{ok_same, ok_is_err}
 use Rattle.ctt_core.specs.declared.journal.JournalEntry.{JournalEntry}
 use Rattle.ctt_script.specs.declared.journal_fault.JournalFault.{JournalFault}
 use Rattle.ctt_script.specs.JournalWords.{missing}

@@ -3,12 +3,13 @@ use Rattle.std.proofs.Common.{◌≡◌, ◌⊎◌, ℕ, List, [], Vec, Global, 
 use Rattle.std.specs.List.{AllByRecursion as Each}
 use Rattle.std.specs.Str.{IsUtf8}
 use Rattle.ctt_text.specs.Words.{words}
-use Rattle.ctt_text.proofs.TimetableLemmas.{Each-map}
-use Rattle.ctt_text.specs.Problem.{Problem, IsProblem}
+use Rattle.ctt_problem.proofs.TimetableLemmas.{Each-map}
+use Rattle.ctt_problem.specs.Problem.{Problem, IsProblem}
 use Rattle.ctt_text.specs.Forms.{Form, ◌>>=◌, one_more, list_of}
 use Rattle.ctt_text.specs.Places.{one, known, broken_unless, known_name, fixed, number}
 use Rattle.ctt_text.specs.Reading.{Gives, Fails}
-use Rattle.ctt_text.proofs.FormLaws.{read_fills, answer_fills, fills_answer, answer_breaks, breaks_answer, ok_same, ok_is_err, err_same}
+use Rattle.ctt_text.proofs.FormLaws.{read_fills, answer_fills, fills_answer, answer_breaks, breaks_answer}
+use Rattle.ctt_problem.proofs.ResultLemmas.{ok_same, ok_is_err, err_same}
 use Rattle.ctt_text.proofs.FaultLaws.{FormFaults, bind_faults, times_faults, answer_faults}
 use Rattle.ctt_script.specs.declared.journal_fault.JournalFault.{JournalFault}
 use Rattle.ctt_script.specs.declared.journal_fault.JournalFault.TheVariants.{NotText, Missing, BadWord, NoMemory}

@@ -5,7 +5,7 @@ use Rattle.ctt_text.specs.Left.{Left}
 use Rattle.ctt_text.specs.Forms.{Form, done, ◌>>=◌, one_more, read}
 use Rattle.ctt_text.specs.Numbers.{is_number, value}
 use Rattle.ctt_text.specs.Places.{one, known, known_name, number, broken_unless, meant}
-use Rattle.ctt_text.specs.Problem.{Problem, number_in}
+use Rattle.ctt_problem.specs.Problem.{Problem, number_in}
 use Rattle.ctt_edits.specs.declared.priced_edit.PricedEdit.{PricedEdit}
 use Rattle.ctt_text.specs.Reading.{reading, word_at}
 use Rattle.ctt_text.proofs.Steps.{and_then, judged, told_as}

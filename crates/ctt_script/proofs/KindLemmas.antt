@@ -3,7 +3,7 @@ use Rattle.std.proofs.Common.{◌≡◌, ℕ, ◌+◌, ◌<◌, ◌≤◌, List,
 use Rattle.std.specs.Str.{bytes_eq}
 use Rattle.std.proofs.lemmas.Grind.{common_steps}
 use Rattle.std.proofs.lemmas.List.{take_more}
-use Rattle.ctt_text.proofs.ListLaws.{bytes_sound, same_bytes}
+use Rattle.ctt_problem.proofs.ListLaws.{bytes_sound, same_bytes}
 
 differ : (xs ys : List ℕ) → ¬ (xs ≡ ys) → false ≡ bytes_eq xs ys
 differ xs ys not = by (bytes_eq xs ys) refl

@@ -10,10 +10,10 @@ use Rattle.std.proofs.lemmas.List.Quantifiers.{position-Some}
 use Rattle.std.proofs.lemmas.List.Sums.{fails_before_first, position_or_len_is}
 use Rattle.memchr.specs.Find.{IsFirstByte, is_byte}
 use Rattle.std.proofs.lemmas.List.Splits.{slice_split_first, slice_split_none}
-use Rattle.ctt_text.proofs.WordLemmas.{position_is, position_none}
+use Rattle.ctt_problem.proofs.ListLaws.{position_is, position_none}
 use Rattle.ctt_text.specs.Words.{words}
 use Rattle.ctt_text.specs.Left.{Left}
-use Rattle.ctt_text.specs.Problem.{Problem}
+use Rattle.ctt_problem.specs.Problem.{Problem}
 use Rattle.ctt_text.specs.Forms.{Form, Fills, ◌>>=◌, read}
 use Rattle.ctt_text.specs.Places.{one, known}
 use Rattle.ctt_text.proofs.FormLaws.{read_fills}

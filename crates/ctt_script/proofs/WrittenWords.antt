@@ -11,11 +11,10 @@ use Rattle.std.proofs.lemmas.List.{append-nil}
 use Rattle.std.proofs.lemmas.Fmt.{decimal_nonempty}
 use Rattle.std.proofs.lemmas.Nat.{div-add-mod'}
 use Rattle.ctt_text.specs.Numbers.{is_digit, value, number_of}
-use Rattle.ctt_text.specs.Problem.{Problem, IsProblem, number_in, day_of, period_of, course_count, room_count, slot_count, teacher_count, curriculum_count}
-use Rattle.ctt_text.specs.Named.{IsNamed}
-use Rattle.ctt_text.specs.InstanceText.{AreDistinct}
-use Rattle.ctt_text.specs.Timetable.{Fits}
-use Rattle.ctt_text.specs.declared.placed.Placed.{Placed}
+use Rattle.ctt_problem.specs.Problem.{Problem, IsProblem, number_in, day_of, period_of, course_count, room_count, slot_count, teacher_count, curriculum_count}
+use Rattle.ctt_problem.specs.Named.{IsNamed, AreDistinct}
+use Rattle.ctt_problem.specs.Timetable.{Fits}
+use Rattle.ctt_problem.specs.declared.placed.Placed.{Placed}
 use Rattle.ctt_text.specs.Forms.{Form, done, ◌>>=◌, Fills, list_of}
 use Rattle.ctt_text.specs.Places.{one, known, exactly, known_name, fixed, number}
 use Rattle.ctt_text.proofs.FormLaws.{fills_both, list_fills}

@@ -2,7 +2,7 @@
 use Rattle.std.specs.Prelude.{ℕ, List, Option, Some, None, if◌then◌else◌, codes}
 use Rattle.std.specs.Str.{bytes_eq}
 use Rattle.std.specs.Option.{option_map}
-use Rattle.ctt_text.specs.Problem.{Problem, number_in, slot_of}
+use Rattle.ctt_problem.specs.Problem.{Problem, number_in, slot_of}
 use Rattle.ctt_text.specs.Forms.{Form, done, ◌>>=◌}
 use Rattle.ctt_edits.specs.declared.edit.Edit.{Edit}
 use Rattle.ctt_edits.specs.declared.edit.Edit.TheVariants.{Place, Move, Swap, Reroom, Drop}

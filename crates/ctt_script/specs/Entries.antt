@@ -1,7 +1,7 @@
 -- Which answers and entries can be written.
 use Rattle.std.specs.Prelude.{◌<◌, List, IfSome}
 use Rattle.std.specs.List.{AllByRecursion as Each}
-use Rattle.ctt_text.specs.Problem.{Problem, course_count, slot_count}
+use Rattle.ctt_problem.specs.Problem.{Problem, course_count, slot_count}
 use Rattle.ctt_edits.specs.Fitting.{ReplyFits, AreFew, IsShortReply}
 use Rattle.ctt_edits.specs.declared.row.Row.{Row}
 use Rattle.ctt_edits.specs.declared.row.Row.TheVariants.{Course as CourseRow, Slot as SlotRow}

@@ -1,7 +1,7 @@
 -- The grammar of replies.
 use Rattle.std.specs.Prelude.{ℕ, List, pos}
-use Rattle.ctt_text.specs.Problem.{Problem}
-use Rattle.ctt_text.specs.declared.placed.Placed.{Placed}
+use Rattle.ctt_problem.specs.Problem.{Problem}
+use Rattle.ctt_problem.specs.declared.placed.Placed.{Placed}
 use Rattle.ctt_text.specs.Places.{number}
 use Rattle.ctt_text.specs.Forms.{Form, done, ◌>>=◌, list_of}
 use Rattle.ctt_rules.specs.declared.cost.Cost.{Cost}

@@ -1,7 +1,7 @@
 -- The faults of running a script.
 use Rattle.std.specs.Prelude.{◌≡◌, ◌<◌, ℕ, List, length, Option, IfSome, Err}
-use Rattle.ctt_text.specs.Problem.{Problem}
-use Rattle.ctt_text.specs.declared.placed.Placed.{Placed}
+use Rattle.ctt_problem.specs.Problem.{Problem}
+use Rattle.ctt_problem.specs.declared.placed.Placed.{Placed}
 use Rattle.ctt_edits.specs.Openings.{opening}
 use Rattle.ctt_core.specs.declared.desk_fault.DeskFault.{DeskFault}
 use Rattle.ctt_core.specs.declared.desk_fault.DeskFault.TheVariants as desk_fault

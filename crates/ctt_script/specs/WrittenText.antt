@@ -2,7 +2,7 @@
 use Rattle.std.specs.Prelude.{ℕ, List, [], ◌∷◌, ◌++◌, flat_map, length, codes}
 use Rattle.std.specs.Fmt.{decimal}
 use Rattle.ctt_line.specs.Lines.{line}
-use Rattle.ctt_text.specs.Problem.{Problem}
+use Rattle.ctt_problem.specs.Problem.{Problem}
 use Rattle.ctt_draft.specs.declared.asked.Asked.{Asked}
 use Rattle.ctt_core.specs.declared.journal.JournalEntry.{JournalEntry}
 use Rattle.ctt_script.specs.WrittenWords.{call_words, reply_words}

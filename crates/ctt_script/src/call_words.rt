@@ -2,7 +2,7 @@
 
 ghost use Rattle.std.specs.Prelude.{◌≡◌, ◌<◌, ◌≤◌, ◌+◌, ◌∷◌, [], codes};
 ghost use Rattle.arrayvec.specs.ArrayVec.{array_vec_len};
-ghost use Rattle.ctt_text.specs.Problem.{course_count, room_count, slot_count};
+ghost use Rattle.ctt_problem.specs.Problem.{course_count, room_count, slot_count};
 ghost use Rattle.ctt_edits.specs.Edits.{EditFits};
 ghost use Rattle.ctt_edits.specs.Looks.{LookFits};
 ghost use Rattle.ctt_edits.specs.Patterns.{FitsIfGiven, PatternFits};

@@ -3,8 +3,8 @@
 ghost use Rattle.std.specs.Prelude.{◌≡◌, ◌⊎◌, ◌↔◌, ℕ, ◌+◌, ◌++◌, ◌∷◌, [], ◌<◌, ◌≤◌, List, length, true, false, Ok, Err, IfOk, IfErr, OnOk, OnErr, IfSome, Some, string_bytes};
 ghost use Rattle.std.specs.List.{AllByRecursion as Each};
 ghost use Rattle.std.specs.Io.KnownBytes.{Appends};
-ghost use Rattle.ctt_text.specs.Timetable.{Fits};
-ghost use Rattle.ctt_text.specs.declared.placed.Placed.{Placed as Lecture};
+ghost use Rattle.ctt_problem.specs.Timetable.{Fits};
+ghost use Rattle.ctt_problem.specs.declared.placed.Placed.{Placed as Lecture};
 ghost use Rattle.ctt_edits.specs.declared.fault.EditFault.{EditFault};
 ghost use Rattle.ctt_core.specs.Runs.{EventFits};
 ghost use Rattle.ctt_core.specs.Laws.{Stands};

@@ -9,7 +9,7 @@ use ctt_text::{Instance, Placed};
 /// An item of a list in a reply: a lecture, a shortfall or a priced edit.
 pub(crate) trait Item {
     ghost use Rattle.std.specs.Prelude.{◌≡◌, List, ℕ};
-    ghost use Rattle.ctt_text.specs.Problem.{Problem};
+    ghost use Rattle.ctt_problem.specs.Problem.{Problem};
 
     /// The item fits the instance: its numbers are in range.
     ghost fits: { Problem → Self → Type 0 };
@@ -24,7 +24,7 @@ pub(crate) trait Item {
 }
 
 impl Item for Placed {
-    ghost use Rattle.ctt_text.specs.Timetable.{Fits};
+    ghost use Rattle.ctt_problem.specs.Timetable.{Fits};
     ghost use Rattle.ctt_script.specs.WrittenWords.{lecture_words};
 
     ghost fits = { Fits };

@@ -1,7 +1,7 @@
 //! Parsing edit patterns.
 
 ghost use Rattle.std.specs.Prelude.{◌≡◌, ◌<◌, IfOk, IfSome, None, codes};
-ghost use Rattle.ctt_text.specs.Problem.{number_in};
+ghost use Rattle.ctt_problem.specs.Problem.{number_in};
 ghost use Rattle.ctt_script.specs.Amounts.{number_below};
 ghost use Rattle.ctt_script.specs.JournalWords.{word, label, reads, IsRead};
 ghost use Rattle.ctt_script.specs.CallPlaces.{any_or, room_choice, slot_after, slot_choice, pattern_after, pattern_form};

@@ -1,8 +1,8 @@
 -- How a planner follows his script, and the report of a crew.
 use Rattle.std.specs.Prelude.{◌≡◌, ◌∷◌, ℕ, All, List, [], filter, length, map, zip, Option}
 use mathlib.Core.List.{IsPrefix}
-use Rattle.ctt_text.specs.Problem.{Problem}
-use Rattle.ctt_text.specs.declared.placed.Placed.{Placed}
+use Rattle.ctt_problem.specs.Problem.{Problem}
+use Rattle.ctt_problem.specs.declared.placed.Placed.{Placed}
 use Rattle.ctt_core.specs.Runs.{Legal}
 use Rattle.ctt_core.specs.declared.event.Event.{Event}
 use Rattle.ctt_core.specs.declared.journal.JournalEntry.{JournalEntry}

@@ -15,8 +15,8 @@ use ctt_desk::{
 };
 use ctt_draft::AskedCalls;
 use ctt_edits::{Call, Look, Row};
+use ctt_problem::{NoMemory, let_go};
 use ctt_script::write_entry;
-use ctt_text::{NoMemory, let_go};
 use std::sync::Wait;
 
 /// A planner at work.

@@ -6,8 +6,8 @@ ghost use Rattle.ctt_line.specs.Lines.{line};
 
 use crate::seat::Told;
 use ctt_core::Answer;
+use ctt_problem::Instance;
 use ctt_script::write_answer;
-use ctt_text::Instance;
 use std::alloc::AllocError;
 use std::fmt::Write;
 

@@ -10,16 +10,17 @@ use Rattle.ctt_text.specs.declared.fault.BarredFault.TheVariants.{Expected, BadN
 use Rattle.ctt_text.specs.Numbers.{value}
 use Rattle.ctt_text.specs.Forms.{done, ◌>>=◌, times, Fills}
 use Rattle.ctt_text.specs.Places.{one, known, known_name, number_if, fixed}
-use Rattle.ctt_text.specs.Problem.{Problem, IsProblem, course_count, room_count, place_of, is_barred}
+use Rattle.ctt_problem.specs.Problem.{Problem, IsProblem, course_count, room_count, place_of, is_barred}
 use Rattle.ctt_text.specs.InstanceText.{IsUpTo}
 use Rattle.ctt_text.specs.BarredPlaces.{pair_count, barred_pair, none_barred, barred_rooms, ends_early}
 use Rattle.ctt_text.specs.BarredText.{BarredWords, spelled_barred, spelled_pairs, IsBarredPair, bars, BarSpells, BarBreaksAt}
 use Rattle.ctt_text.specs.BarredLaws.{barred_answer, ReadsBarred, SpellsOneBarred, BarredFailsWhereBroken, BarredBreaksOnce, BarredSpellsOrBreaks}
-use Rattle.ctt_text.proofs.FormLaws.{fills_both, bind_case, answer_fills, fills_answer, answer_breaks, breaks_answer, breaks_once, answered, ok_same, ok_is_err}
+use Rattle.ctt_text.proofs.FormLaws.{fills_both, bind_case, answer_fills, fills_answer, answer_breaks, breaks_answer, breaks_once, answered}
+use Rattle.ctt_problem.proofs.ResultLemmas.{ok_same, ok_is_err}
 use Rattle.ctt_text.proofs.SectionLaws.{Entry, entries_fill, entries_taken, each_apart, each_together}
-use Rattle.ctt_text.proofs.MarkLaws.{marked, marks_made, marks_many, marks_same, place_in_rows, Row, row_of}
+use Rattle.ctt_problem.proofs.MarkLaws.{marked, marks_made, marks_many, marks_same, place_in_rows, Row, row_of}
 use Rattle.ctt_text.proofs.PlaceLaws.{a_name, name_given, up_to_passes, passed_up_to, is_fixed, after_case}
-use Rattle.ctt_text.proofs.ListLaws.{place_below}
+use Rattle.ctt_problem.proofs.ListLaws.{place_below}
 
 -- the number of pairs: what obeys that place is one number
 count_taken : (greatest : ℕ) (words : List (List ℕ)) (n : ℕ) → Fills (pair_count greatest) words n → (word : List ℕ) × (words ≡ word ∷ []) × IsUpTo greatest word × (value word ≡ n)

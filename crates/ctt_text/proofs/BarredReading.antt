@@ -4,12 +4,12 @@ use Rattle.std.specs.Str.{IsUtf8}
 use Rattle.ctt_text.specs.declared.fault.BarredFault.{BarredFault}
 use Rattle.ctt_text.specs.declared.fault.BarredFault.TheVariants.{NotText, Missing, Expected, BadNumber, TooLarge, UnknownCourse, UnknownRoom, NoMemory}
 use Rattle.ctt_text.specs.Words.{words}
-use Rattle.ctt_text.specs.Problem.{Problem, IsProblem}
+use Rattle.ctt_problem.specs.Problem.{Problem, IsProblem}
 use Rattle.ctt_text.specs.Reading.{Fails}
 use Rattle.ctt_text.specs.BarredPlaces.{wants_memory, ends_early, pair_count, barred_pair, barred_rooms}
 use Rattle.ctt_text.specs.BarredText.{BarSpells, BarBreaksAt}
 use Rattle.ctt_text.specs.BarredLaws.{barred_answer, IsBarredCauseOf}
-use Rattle.ctt_text.proofs.FormLaws.{ok_same, ok_is_err, err_same}
+use Rattle.ctt_problem.proofs.ResultLemmas.{ok_same, ok_is_err, err_same}
 use Rattle.ctt_text.proofs.FaultLaws.{FormFaults, bind_faults, times_faults, known_name_faults, number_if_faults, fixed_faults, answer_faults}
 use Rattle.ctt_text.proofs.BarredLaws.{reads_barred, barred_fails_where_broken}
 

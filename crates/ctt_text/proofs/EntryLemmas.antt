@@ -7,7 +7,7 @@ use Rattle.std.specs.Option.{is_some}
 use Rattle.std.proofs.lemmas.Bool.{or_parts}
 use Rattle.std.proofs.lemmas.Bool.Decides.{nat_tests}
 use Rattle.ctt_text.specs.Lectures.{lecture_of}
-use Rattle.ctt_text.specs.Timetable.{before, has_lecture, with}
+use Rattle.ctt_problem.specs.Timetable.{before, has_lecture, with}
 
 -- the order of the keys
 abbrev pub by_course_and_slot : ℕ × ℕ → ℕ × ℕ → Ordering

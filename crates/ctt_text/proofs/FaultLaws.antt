@@ -2,10 +2,11 @@
 use Rattle.std.proofs.Common.{◌≡◌, ℕ, zero, suc, ◌+◌, List, [], ◌∷◌, Bool, true, false, cond, Option, Some, None, Result, Ok, Err, subst, ap}
 use Rattle.ctt_text.specs.Left.{Left}
 use Rattle.ctt_text.specs.Numbers.{is_number, value, number_of}
-use Rattle.ctt_text.specs.Problem.{is_among, number_in}
+use Rattle.ctt_problem.specs.Problem.{is_among, number_in}
 use Rattle.ctt_text.specs.Forms.{Rule, Form, done, place, ◌>>=◌, times, read, without_rest}
 use Rattle.ctt_text.specs.Places.{one, any, known, broken_unless, exactly, fixed, number, number_if, new_name, known_name}
-use Rattle.ctt_text.proofs.FormLaws.{read_case, ok_is_err, err_same}
+use Rattle.ctt_text.proofs.FormLaws.{read_case}
+use Rattle.ctt_problem.proofs.ResultLemmas.{ok_is_err, err_same}
 
 module _ {F : Type 0} (P : F → Type 0) where
   -- each fault of a rule is of this kind

@@ -4,7 +4,8 @@ use Rattle.std.specs.List.{AllByRecursion as Each}
 use Rattle.std.proofs.lemmas.List.{append-nil, length-append}
 use Rattle.ctt_text.specs.Left.{Left}
 use Rattle.ctt_text.specs.Forms.{Rule, Form, done, place, ◌>>=◌, times, one_more, list_of, Fills, StandsAfter, Breaks, BreaksAt, read, without_rest}
-use Rattle.ctt_text.proofs.TimetableLemmas.{Each-append}
+use Rattle.ctt_problem.proofs.TimetableLemmas.{Each-append}
+use Rattle.ctt_problem.proofs.ResultLemmas.{ok_is_err, err_is_ok, ok_same, err_same}
 
 -- what fills one form and then the following form fills both
 pub fills_both : {F A B : Type 0} (f : Form F A) (g : A → Form F B) (us vs : List (List ℕ)) (a : A) (b : B) → Fills f us a → Fills (g a) vs b → Fills (f >>= g) (us ++ vs) b
@@ -39,19 +40,6 @@ pub read_case : {F X : Type 0} (C : Type 0) (o : Option (ℕ → F)) (n : ℕ) (
     → (o ≡ None → rest ≡ r → C) → ((broken : ℕ → F) → o ≡ Some broken → Err (broken n) ≡ r → C) → C
 read_case C None n rest r h obeyed broke = obeyed refl h
 read_case C (Some broken) n rest r h obeyed broke = broke broken refl h
-
--- a value and a fault differ, and both constructors are injective
-pub ok_is_err : {A F : Type 0} (C : Type 0) (a : A) (e : F) → ◌≡◌ {A = Result A F} (Ok a) (Err e) → C
-ok_is_err C a e h = cc
-
-pub err_is_ok : {A F : Type 0} (C : Type 0) (a : A) (e : F) → ◌≡◌ {A = Result A F} (Err e) (Ok a) → C
-err_is_ok C a e h = cc
-
-pub ok_same : {A F : Type 0} (a b : A) → ◌≡◌ {A = Result A F} (Ok a) (Ok b) → a ≡ b
-ok_same a b h = cc
-
-pub err_same : {A F : Type 0} (a b : F) → ◌≡◌ {A = Result A F} (Err a) (Err b) → a ≡ b
-err_same a b h = cc
 
 -- the number of a word, counted from the previous one
 pub one_later : (n k : ℕ) → n + 1 + k ≡ n + suc k

@@ -6,11 +6,11 @@ use Rattle.std.specs.Str.{bytes_eq}
 use Rattle.std.proofs.lemmas.List.{length-map, length-replicate}
 use Rattle.std.proofs.lemmas.Bool.{and_parts, leb-true, eqb-true}
 use Rattle.ctt_text.specs.Numbers.{is_digit, value}
-use Rattle.ctt_text.specs.Problem.{is_among, place_of, IsSmall, IsCourseFacts, AreMembers}
+use Rattle.ctt_problem.specs.Problem.{is_among, place_of, IsSmall, IsCourseFacts, AreMembers}
 use Rattle.ctt_text.specs.InstanceText.{CourseWords, CurriculumWords, Given, teacher_names, IsNumber, IsCourse, IsRoom, IsCurriculum, facts_of, members_of, Obey, SaysInstance}
 use Rattle.ctt_text.specs.InstanceLaws.{SpelledIsProblem}
-use Rattle.ctt_text.proofs.TimetableLemmas.{Each-map}
-use Rattle.ctt_text.proofs.ListLaws.{Each-mapped, once_each, once_apart, once_found, once_few, place_below, bytes_sound, each_among}
+use Rattle.ctt_problem.proofs.TimetableLemmas.{Each-map}
+use Rattle.ctt_problem.proofs.ListLaws.{Each-mapped, once_each, once_apart, once_found, once_few, place_below, bytes_sound, each_among}
 
 -- a number in a text is small
 number_small : (word : List ℕ) → IsNumber word → IsSmall (value word)

@@ -1,11 +1,12 @@
 -- The laws of the texts of instances.
 use Rattle.std.proofs.Common.{◌≡◌, ◌⊎◌, inl, inr, ℕ, List, Ok, Err, sym, ap, subst, ◌∙◌}
 use Rattle.ctt_text.specs.declared.fault.ReadFault.{ReadFault}
-use Rattle.ctt_text.specs.Problem.{Problem}
+use Rattle.ctt_problem.specs.Problem.{Problem}
 use Rattle.ctt_text.specs.InstancePlaces.{instance, missing}
 use Rattle.ctt_text.specs.InstanceText.{spelled, Spells, InstanceBreaksAt}
 use Rattle.ctt_text.specs.InstanceLaws.{answer, ReadsWhatIsSpelled, SpellsOne, FailsWhereBroken, BreaksOnce, SpellsOrBreaks}
-use Rattle.ctt_text.proofs.FormLaws.{answer_fills, fills_answer, answer_breaks, breaks_answer, breaks_once, answered, ok_same, ok_is_err}
+use Rattle.ctt_text.proofs.FormLaws.{answer_fills, fills_answer, answer_breaks, breaks_answer, breaks_once, answered}
+use Rattle.ctt_problem.proofs.ResultLemmas.{ok_same, ok_is_err}
 use Rattle.ctt_text.proofs.InstanceWhole.{instance_fills, instance_taken}
 
 -- what is parsed is spelled

@@ -1,11 +1,10 @@
 -- The parsed sections, and the instance that is made of them.
-use Rattle.std.proofs.Common.{◌≡◌, ◌<◌, ◌⊎◌, ℕ, List, [], ◌∷◌, map, Bool, ◌||◌, Result, Ok, Err, IfOk, IfErr, inl, inr, refl, sym, ap, ◌∙◌}
-use Rattle.std.specs.List.{list_any, AllByRecursion as Each}
+use Rattle.std.proofs.Common.{◌≡◌, ◌⊎◌, ℕ, List, Result, Ok, Err, IfOk, IfErr, inl, inr, refl, sym, ◌∙◌}
 use Rattle.std.specs.Str.{IsUtf8}
 use Rattle.ctt_text.specs.declared.fault.ReadFault.{ReadFault}
 use Rattle.ctt_text.specs.declared.fault.ReadFault.TheVariants.{NotText, Missing, Expected, BadNumber, TooLarge, RepeatedName, UnknownCourse, DayOut, PeriodOut, NoMemory}
 use Rattle.ctt_text.specs.Words.{words}
-use Rattle.ctt_text.specs.Problem.{Problem, AreMembers}
+use Rattle.ctt_problem.specs.Problem.{Problem}
 use Rattle.ctt_text.specs.Reading.{Gives, Fails}
 use Rattle.ctt_text.specs.InstancePlaces.{wants_memory, missing, instance}
 use Rattle.ctt_text.specs.InstanceText.{Spells, InstanceBreaksAt}
@@ -13,16 +12,6 @@ use Rattle.ctt_text.specs.InstanceLaws.{answer, IsCauseOf}
 use Rattle.ctt_text.proofs.FaultLaws.{answer_faults}
 use Rattle.ctt_text.proofs.InstanceLaws.{reads_what_is_spelled, fails_where_broken}
 use Rattle.ctt_text.proofs.InstanceFaults.{IsOfWord, instance_faults}
-
--- the members of each curriculum are courses
-pub members_known : {X : Type 0} (items : X → List ℕ) (n : ℕ) (qs : List X) → Each (AreMembers n) (map items qs) → Each (λ q. Each (λ d. d < n) (items q)) qs
-members_known items n [] h = tt
-members_known items n (q ∷ qs) h = (h.0.0, members_known items n qs h.1)
-
--- some element of a mapped list passes
-pub any_mapped : {X Y : Type 0} (p : Y → Bool) (f : X → Y) (xs : List X) → list_any p (map f xs) ≡ list_any (λ x. p (f x)) xs
-any_mapped p f [] = refl
-any_mapped p f (x ∷ xs) = ap (λ b. p (f x) || b) (any_mapped p f xs)
 
 -- parsing gives only faults of places
 of_word : (ws : List (List ℕ)) (e : ReadFault) → answer ws ≡ Err e → IsOfWord e

@@ -9,15 +9,15 @@ use Rattle.std.proofs.lemmas.Bool.{eqb-true}
 use Rattle.ctt_text.specs.declared.fault.ReadFault.{ReadFault}
 use Rattle.ctt_text.specs.declared.fault.ReadFault.TheVariants.{BadNumber, RepeatedName, UnknownCourse, DayOut, PeriodOut}
 use Rattle.ctt_text.specs.Numbers.{value}
-use Rattle.ctt_text.specs.Lists.{each_once}
-use Rattle.ctt_text.specs.Problem.{is_among, place_of}
+use Rattle.ctt_problem.specs.Lists.{each_once, with_new}
+use Rattle.ctt_problem.specs.Problem.{is_among, place_of}
 use Rattle.ctt_text.specs.Forms.{done, ◌>>=◌, times, Fills}
 use Rattle.ctt_text.specs.Places.{one, any, known, number, number_if, new_name, known_name}
-use Rattle.ctt_text.specs.InstancePlaces.{Courses, Rooms, Curricula, with_new, course, room, member, curriculum, day_below, period_below, unavailability}
+use Rattle.ctt_text.specs.InstancePlaces.{Courses, Rooms, Curricula, course, room, member, curriculum, day_below, period_below, unavailability}
 use Rattle.ctt_text.specs.InstanceText.{CourseWords, RoomWords, CurriculumWords, PairWords, spelled_course, spelled_room, spelled_curriculum, spelled_pair, IsCourse, IsRoom, IsCurriculum, IsPair, facts_of, members_of}
 use Rattle.ctt_text.proofs.FormLaws.{fills_both, bind_case, done_taken}
 use Rattle.ctt_text.proofs.SectionLaws.{Entry, Named, entries_fill, entries_taken, each_apart, each_together}
-use Rattle.ctt_text.proofs.ListLaws.{grown_once}
+use Rattle.ctt_problem.proofs.ListLaws.{grown_once}
 use Rattle.ctt_text.proofs.PlaceLaws.{failed, a_number, number_given, a_name, name_given, below_passes, passed_below}
 
 -- rooms

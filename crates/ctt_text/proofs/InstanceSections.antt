@@ -7,16 +7,18 @@ use Rattle.std.proofs.lemmas.List.{append-nil}
 use Rattle.std.proofs.lemmas.Bool.{leb-true, le-leb, and_parts}
 use Rattle.std.proofs.lemmas.Nat.{mul-add-lt}
 use Rattle.ctt_text.specs.declared.fault.ReadFault.TheVariants.{Expected, BadNumber, TooLarge}
-use Rattle.ctt_text.specs.declared.course_facts.CourseFacts.{CourseFacts}
+use Rattle.ctt_problem.specs.declared.course_facts.CourseFacts.{CourseFacts}
 use Rattle.ctt_text.specs.Numbers.{is_number, value}
-use Rattle.ctt_text.specs.Problem.{place_of}
+use Rattle.ctt_problem.specs.Problem.{place_of}
 use Rattle.ctt_text.specs.Forms.{◌>>=◌, times, Fills}
 use Rattle.ctt_text.specs.Places.{passing_number, one, any, fixed, number_if, known}
-use Rattle.ctt_text.specs.InstancePlaces.{Header, Courses, Rooms, Curricula, number_up_to, period_count, two_counts, calendar, header, with_new, course, room, curriculum, unavailability, no_courses, no_rooms, no_curricula}
-use Rattle.ctt_text.specs.InstanceText.{HeaderWords, CourseWords, RoomWords, CurriculumWords, PairWords, spelled_header, spelled_course, spelled_room, spelled_curriculum, spelled_pair, AreDistinct, course_names, room_names, curriculum_names, teacher_names, IsCourse, IsRoom, IsCurriculum, IsPair, HeaderObeys, facts_of, members_of, is_listed}
+use Rattle.ctt_text.specs.InstancePlaces.{Header, Courses, Rooms, Curricula, number_up_to, period_count, two_counts, calendar, header, course, room, curriculum, unavailability, no_courses, no_rooms, no_curricula}
+use Rattle.ctt_problem.specs.Lists.{with_new}
+use Rattle.ctt_text.specs.InstanceText.{HeaderWords, CourseWords, RoomWords, CurriculumWords, PairWords, spelled_header, spelled_course, spelled_room, spelled_curriculum, spelled_pair, course_names, room_names, curriculum_names, teacher_names, IsCourse, IsRoom, IsCurriculum, IsPair, HeaderObeys, facts_of, members_of, is_listed}
+use Rattle.ctt_problem.specs.Named.{AreDistinct}
 use Rattle.ctt_text.proofs.SectionLaws.{Section, section_fills, section_taken, entries_fill, entries_taken, list_grown, each_apart, each_together}
-use Rattle.ctt_text.proofs.ListLaws.{grown_once, bytes_sound, place_grown}
-use Rattle.ctt_text.proofs.MarkLaws.{marked, marks_made, marks_many, marks_same, place_in_rows, Row, row_of}
+use Rattle.ctt_problem.proofs.ListLaws.{grown_once, bytes_sound, place_grown}
+use Rattle.ctt_problem.proofs.MarkLaws.{marked, marks_made, marks_many, marks_same, place_in_rows, Row, row_of}
 use Rattle.ctt_text.proofs.PlaceLaws.{passed_both, up_to_passes, passed_up_to, is_fixed}
 use Rattle.ctt_text.proofs.InstanceRows.{add_room, room_fills, room_taken, add_course, course_fills, course_taken, add_curriculum, curriculum_fills, curriculum_taken, mark_of, add_pair, FitsPair, pair_fills, pair_taken}
 

@@ -5,9 +5,9 @@ use Rattle.std.proofs.lemmas.List.{length-map}
 use Rattle.std.proofs.lemmas.Bool.{lt-ltb}
 use Rattle.ctt_text.specs.declared.fault.ReadFault.{ReadFault}
 use Rattle.ctt_text.specs.declared.fault.ReadFault.TheVariants.{Expected}
-use Rattle.ctt_text.specs.declared.course_facts.CourseFacts.{CourseFacts}
+use Rattle.ctt_problem.specs.declared.course_facts.CourseFacts.{CourseFacts}
 use Rattle.ctt_text.specs.Numbers.{value}
-use Rattle.ctt_text.specs.Problem.{Problem, is_unavailable}
+use Rattle.ctt_problem.specs.Problem.{Problem, is_unavailable}
 use Rattle.ctt_text.specs.Forms.{Form, done, ◌>>=◌, times, Fills}
 use Rattle.ctt_text.specs.Places.{one, known, fixed, after}
 use Rattle.ctt_text.specs.InstancePlaces.{Header, Courses, Rooms, Curricula, header, course, room, curriculum, unavailability, no_courses, no_rooms, no_curricula, all_available, problem_of, instance}

@@ -7,7 +7,7 @@ use Rattle.ctt_text.specs.Reading.{reading}
 use Rattle.ctt_text.specs.declared.fault.ReadFault.{ReadFault}
 use Rattle.ctt_text.specs.declared.fault.ReadFault.TheVariants.{Expected}
 use Rattle.ctt_text.specs.InstancePlaces.{Header, Courses, Rooms, Curricula, curriculum, no_curricula, unavailability, all_available, problem_of, missing}
-use Rattle.ctt_text.specs.Problem.{Problem}
+use Rattle.ctt_problem.specs.Problem.{Problem}
 use Rattle.ctt_text.specs.LastSections.{last_sections}
 use Rattle.ctt_text.proofs.Steps.{and_then, read_bind, read_done}
 

@@ -5,13 +5,13 @@ use Rattle.std.specs.List.{AllByRecursion as Each}
 use Rattle.std.specs.Str.{bytes_eq}
 use Rattle.std.proofs.lemmas.Bool.{or_from}
 use Rattle.std.proofs.lemmas.List.Folds.{list_any-append}
-use Rattle.ctt_text.specs.Words.{words, is_blank, begins_word, grow, IsFirstWord}
-use Rattle.ctt_text.specs.Lists.{Pairwise, each_once}
-use Rattle.ctt_text.specs.Problem.{is_among}
-use Rattle.ctt_text.specs.InstanceText.{CourseWords, RoomWords, CurriculumWords, Given, spelled, spelled_header, spelled_course, spelled_room, spelled_curriculum, spelled_pair, AreNew, AreDistinct, course_names, room_names, curriculum_names, Obey, SaysInstance}
-use Rattle.ctt_text.specs.Named.{IsWord, AreNames}
+use Rattle.ctt_text.specs.Words.{words, begins_word, grow, IsFirstWord}
+use Rattle.ctt_problem.specs.Named.{is_blank, AreNew, AreDistinct, IsWord, AreNames}
+use Rattle.ctt_problem.specs.Lists.{Pairwise, each_once}
+use Rattle.ctt_problem.specs.Problem.{is_among}
+use Rattle.ctt_text.specs.InstanceText.{CourseWords, RoomWords, CurriculumWords, Given, spelled, spelled_header, spelled_course, spelled_room, spelled_curriculum, spelled_pair, course_names, room_names, curriculum_names, Obey, SaysInstance}
 use Rattle.ctt_text.specs.InstanceLaws.{SpelledIsNamed}
-use Rattle.ctt_text.proofs.ListLaws.{Each-front, Each-rest, once_each, once_apart, apart_turned, bytes_sound}
+use Rattle.ctt_problem.proofs.ListLaws.{Each-front, Each-rest, once_each, once_apart, apart_turned, bytes_sound}
 
 -- a byte that is not blank, added before words
 grow_words : (b : ℕ) (begins : Bool) (ws : List (List ℕ)) → is_blank b ≡ false → Each IsWord ws → Each IsWord (grow b begins ws)

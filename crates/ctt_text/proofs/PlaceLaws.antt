@@ -4,12 +4,12 @@ use Rattle.std.specs.Prelude.{nat_lt, nat_le}
 use Rattle.std.specs.Str.{bytes_eq}
 use Rattle.std.proofs.lemmas.Bool.{ltb-true, lt-ltb, leb-true, le-leb}
 use Rattle.ctt_text.specs.Numbers.{is_number, value, number_of}
-use Rattle.ctt_text.specs.Problem.{is_among, place_of, number_in}
+use Rattle.ctt_problem.specs.Problem.{is_among, place_of, number_in}
 use Rattle.ctt_text.specs.Forms.{Form, ◌>>=◌, Fills}
 use Rattle.ctt_text.specs.Places.{passing_number, broken_unless, meant, exactly, known, one, fixed, after}
 use Rattle.ctt_text.specs.InstanceText.{IsUpTo, IsBelow}
 use Rattle.ctt_text.proofs.FormLaws.{bind_case, Yields}
-use Rattle.ctt_text.proofs.ListLaws.{bytes_sound}
+use Rattle.ctt_problem.proofs.ListLaws.{bytes_sound}
 
 -- a word that obeys a rule passed its test, and one that breaks it did not
 pub passed : {F : Type 0} (b : Bool) (e : ℕ → F) → cond b None (Some e) ≡ None → b ≡ true

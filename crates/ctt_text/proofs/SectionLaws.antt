@@ -3,9 +3,9 @@ use Rattle.std.proofs.Common.{◌≡◌, ℕ, zero, suc, List, [], ◌∷◌, �
 use Rattle.std.specs.Prelude.{fold}
 use Rattle.std.specs.List.{AllByRecursion as Each}
 use Rattle.std.proofs.lemmas.List.{append-nil}
-use Rattle.ctt_text.specs.Problem.{is_among}
+use Rattle.ctt_problem.specs.Problem.{is_among}
 use Rattle.ctt_text.specs.Forms.{Form, times, Fills}
-use Rattle.ctt_text.specs.InstanceText.{AreNew}
+use Rattle.ctt_problem.specs.Named.{AreNew}
 use Rattle.ctt_text.proofs.FormLaws.{fills_both, bind_case}
 
 -- the words of one entry, and what they add to the value so far

@@ -2,7 +2,8 @@
 use Rattle.std.proofs.Common.{◌≡◌, [], ◌∷◌, true, false, Ok, Err, refl}
 use Rattle.std.specs.Prelude.{codes}
 use Rattle.ctt_text.specs.declared.fault.BarredFault.TheVariants.{Missing, Expected, BadNumber, TooLarge, UnknownCourse, UnknownRoom}
-use Rattle.ctt_text.specs.Words.{words, is_blank}
+use Rattle.ctt_text.specs.Words.{words}
+use Rattle.ctt_problem.specs.Named.{is_blank}
 use Rattle.ctt_text.specs.Forms.{read, ◌>>=◌, times}
 use Rattle.ctt_text.specs.Places.{one, known, fixed, known_name, number_if}
 use Rattle.ctt_text.specs.BarredPlaces.{pair_count, barred_pair, barred_rooms}

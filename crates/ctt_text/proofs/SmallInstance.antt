@@ -3,9 +3,10 @@ use Rattle.std.proofs.Common.{◌≡◌, ℕ, List, [], ◌∷◌, ◌++◌, ◌
 use Rattle.std.specs.Prelude.{codes}
 use Rattle.std.specs.List.{range_with_len}
 use Rattle.ctt_text.specs.declared.fault.ReadFault.TheVariants.{Expected, BadNumber, TooLarge, RepeatedName, UnknownCourse, DayOut, PeriodOut, Missing}
-use Rattle.ctt_text.specs.Words.{words, is_blank}
+use Rattle.ctt_text.specs.Words.{words}
+use Rattle.ctt_problem.specs.Named.{is_blank}
 use Rattle.ctt_text.specs.Forms.{read, ◌>>=◌, times}
-use Rattle.ctt_text.specs.Problem.{Problem}
+use Rattle.ctt_problem.specs.Problem.{Problem}
 use Rattle.ctt_text.specs.Places.{one, known, any, fixed, number, number_if, new_name, known_name}
 use Rattle.ctt_text.specs.InstancePlaces.{number_up_to, period_count, two_counts, calendar, day_below, period_below, header, course, room, member, curriculum, unavailability, instance}
 use Rattle.ctt_text.specs.InstanceText.{Spells}

@@ -3,9 +3,10 @@ use Rattle.std.proofs.Common.{◌≡◌, ℕ, ◌+◌, ◌%◌, ◌==◌, not, L
 use Rattle.std.specs.Prelude.{codes, filter}
 use Rattle.std.specs.List.{range_with_len}
 use Rattle.std.specs.Fmt.{digits}
-use Rattle.ctt_text.specs.declared.placed.Placed.{Placed}
+use Rattle.ctt_problem.specs.declared.placed.Placed.{Placed}
 use Rattle.ctt_text.specs.declared.fault.SolutionFault.TheVariants.{Cut, UnknownCourse, UnknownRoom, BadNumber, DayOut, PeriodOut, Repeated}
-use Rattle.ctt_text.specs.Words.{words, is_blank}
+use Rattle.ctt_text.specs.Words.{words}
+use Rattle.ctt_problem.specs.Named.{is_blank}
 use Rattle.ctt_text.specs.Forms.{read, ◌>>=◌, times}
 use Rattle.ctt_text.specs.Places.{one, known, known_name, number_if}
 use Rattle.ctt_text.specs.SolutionPlaces.{free_slot, entry, begun}

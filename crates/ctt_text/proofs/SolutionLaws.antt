@@ -8,21 +8,22 @@ use Rattle.std.proofs.lemmas.Nat.{mul-add-lt}
 use Rattle.std.specs.Str.{bytes_eq}
 use Rattle.ctt_text.specs.declared.fault.SolutionFault.{SolutionFault}
 use Rattle.ctt_text.specs.declared.fault.SolutionFault.TheVariants.{UnknownCourse, UnknownRoom, BadNumber, DayOut, PeriodOut, Repeated}
-use Rattle.ctt_text.specs.declared.placed.Placed.{Placed}
+use Rattle.ctt_problem.specs.declared.placed.Placed.{Placed}
 use Rattle.ctt_text.specs.Numbers.{is_number, value}
 use Rattle.ctt_text.specs.Forms.{◌>>=◌, times, Fills, read, without_rest}
-use Rattle.ctt_text.specs.Problem.{Problem, IsProblem}
-use Rattle.ctt_text.specs.Timetable.{before, Ascending, Fits, has_lecture, with}
+use Rattle.ctt_problem.specs.Problem.{Problem, IsProblem}
+use Rattle.ctt_problem.specs.Timetable.{before, Ascending, Fits, has_lecture, with, SameLectures}
 use Rattle.ctt_text.specs.Places.{one, known, known_name, number_if}
 use Rattle.ctt_text.specs.SolutionPlaces.{free_slot, entry, begun, solution, cut}
-use Rattle.ctt_text.specs.SolutionText.{EntryWords, spelled_entry, IsEntry, lecture_of, AreApart, SameLectures, SolSpells, SolutionBreaksAt}
+use Rattle.ctt_text.specs.SolutionText.{EntryWords, spelled_entry, IsEntry, lecture_of, AreApart, SolSpells, SolutionBreaksAt}
 use Rattle.ctt_text.specs.SolutionLaws.{solution_answer, ReadsSolutions, SpellsOneTimetable, SolutionFailsWhereBroken, SolutionBreaksOnce, SolutionSpellsOrBreaks, SpelledIsTimetable}
-use Rattle.ctt_text.proofs.FormLaws.{answer_fills, fills_answer, answer_breaks, breaks_answer, breaks_once, answered, ok_same, ok_is_err}
+use Rattle.ctt_text.proofs.FormLaws.{answer_fills, fills_answer, answer_breaks, breaks_answer, breaks_once, answered}
+use Rattle.ctt_problem.proofs.ResultLemmas.{ok_same, ok_is_err}
 use Rattle.ctt_text.proofs.SectionLaws.{Entry, AllFit, entries_fill, entries_taken}
 use Rattle.ctt_text.proofs.PlaceLaws.{a_name, name_given, below_passes, passed_below}
-use Rattle.ctt_text.proofs.LectureLaws.{put_any, with_ascends, one_list, Each-found}
-use Rattle.ctt_text.proofs.ListLaws.{Each-mapped, place_below}
-use Rattle.ctt_text.proofs.TimetableLemmas.{Each-map}
+use Rattle.ctt_problem.proofs.LectureLaws.{put_any, with_ascends, one_list, Each-found}
+use Rattle.ctt_problem.proofs.ListLaws.{Each-mapped, place_below}
+use Rattle.ctt_problem.proofs.TimetableLemmas.{Each-map}
 
 -- what obeys the rule of a period
 three_passed : (a b c : Bool) (bad out taken : ℕ → SolutionFault) → cond a (cond b (cond c (Some taken) None) (Some out)) (Some bad) ≡ None → (a ≡ true) × (b ≡ true) × (c ≡ false)

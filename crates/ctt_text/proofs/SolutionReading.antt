@@ -4,17 +4,17 @@ use Rattle.std.specs.Prelude.{nat_lt}
 use Rattle.std.specs.Str.{IsUtf8}
 use Rattle.ctt_text.specs.declared.fault.SolutionFault.{SolutionFault}
 use Rattle.ctt_text.specs.declared.fault.SolutionFault.TheVariants.{NotText, Cut, UnknownCourse, UnknownRoom, BadNumber, DayOut, PeriodOut, Repeated, NoMemory}
-use Rattle.ctt_text.specs.declared.placed.Placed.{Placed}
+use Rattle.ctt_problem.specs.declared.placed.Placed.{Placed}
 use Rattle.ctt_text.specs.Words.{words}
 use Rattle.ctt_text.specs.Numbers.{is_number, value}
 use Rattle.ctt_text.specs.Places.{one}
-use Rattle.ctt_text.specs.Problem.{Problem, IsProblem, slot_of}
-use Rattle.ctt_text.specs.Timetable.{has_lecture, IsTimetable}
+use Rattle.ctt_problem.specs.Problem.{Problem, IsProblem, slot_of}
+use Rattle.ctt_problem.specs.Timetable.{has_lecture, IsTimetable}
 use Rattle.ctt_text.specs.Reading.{Gives, Fails}
 use Rattle.ctt_text.specs.SolutionPlaces.{lacks_memory, cut, free_slot, entry, begun, solution}
 use Rattle.ctt_text.specs.SolutionText.{SolSpells, SolutionBreaksAt}
 use Rattle.ctt_text.specs.SolutionLaws.{solution_answer, IsSolutionCauseOf}
-use Rattle.ctt_text.proofs.FormLaws.{ok_same, ok_is_err, err_same}
+use Rattle.ctt_problem.proofs.ResultLemmas.{ok_same, ok_is_err, err_same}
 use Rattle.ctt_text.proofs.FaultLaws.{FormFaults, bind_faults, times_faults, known_name_faults, number_if_faults, taken_faults, test_faults, answer_faults}
 use Rattle.ctt_text.proofs.SolutionLaws.{reads_solutions, solution_fails_where_broken, spelled_is_timetable}
 

@@ -4,10 +4,10 @@ use Rattle.std.specs.Prelude.{nat_lt}
 use Rattle.ctt_text.specs.Left.{Left}
 use Rattle.ctt_text.specs.declared.fault.SolutionFault.{SolutionFault}
 use Rattle.ctt_text.specs.declared.fault.SolutionFault.TheVariants.{BadNumber, PeriodOut, Repeated}
-use Rattle.ctt_text.specs.declared.placed.Placed.{Placed}
+use Rattle.ctt_problem.specs.declared.placed.Placed.{Placed}
 use Rattle.ctt_text.specs.Places.{number}
-use Rattle.ctt_text.specs.Problem.{Problem, slot_of}
-use Rattle.ctt_text.specs.Timetable.{has_lecture}
+use Rattle.ctt_problem.specs.Problem.{Problem, slot_of}
+use Rattle.ctt_problem.specs.Timetable.{has_lecture}
 use Rattle.ctt_text.specs.Forms.{◌>>=◌, times}
 use Rattle.ctt_text.specs.Reading.{Fails, reading}
 use Rattle.ctt_text.specs.SolutionPlaces.{free_slot, entry, begun, cut, lacks_memory}

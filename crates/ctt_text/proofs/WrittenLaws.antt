@@ -10,20 +10,20 @@ use Rattle.std.proofs.lemmas.Fmt.{digits_decimal, digits_value-decimal, decimal_
 use Rattle.std.proofs.lemmas.Bool.{lt-ltb, le-leb, and_parts, or_left, or_right}
 use Rattle.std.proofs.lemmas.Bool.Decides.{nat_tests}
 use Rattle.std.proofs.lemmas.Str.Parse.{IsNumeralModel, numerals_by_fold}
-use Rattle.ctt_text.specs.declared.placed.Placed.{Placed}
+use Rattle.ctt_problem.specs.declared.placed.Placed.{Placed}
 use Rattle.ctt_text.specs.Numbers.{is_digit, with_digit, value}
-use Rattle.ctt_text.specs.Words.{words, is_blank, grow}
-use Rattle.ctt_text.specs.Problem.{Problem, IsProblem, is_among, place_of, day_of, period_of}
-use Rattle.ctt_text.specs.Named.{IsWord, IsNamed}
-use Rattle.ctt_text.specs.Timetable.{Fits, before, Ascending}
-use Rattle.ctt_text.specs.InstanceText.{AreNew, AreDistinct, IsNumber}
+use Rattle.ctt_text.specs.Words.{words, grow}
+use Rattle.ctt_problem.specs.Named.{is_blank, IsWord, IsNamed, AreNew, AreDistinct}
+use Rattle.ctt_problem.specs.Problem.{Problem, IsProblem, is_among, place_of, day_of, period_of}
+use Rattle.ctt_problem.specs.Timetable.{Fits, before, Ascending}
+use Rattle.ctt_text.specs.InstanceText.{IsNumber}
 use Rattle.ctt_text.specs.SolutionText.{EntryWords, spelled_entry, IsEntry, lecture_of, AreApart, SolSpells}
 use Rattle.ctt_text.specs.Written.{words_of, line_of, soltext}
 use Rattle.ctt_text.specs.SolutionLaws.{WrittenSpells}
-use Rattle.ctt_text.proofs.ListLaws.{place_new, same_bytes}
-use Rattle.ctt_text.proofs.MarkLaws.{some_columns}
-use Rattle.ctt_text.proofs.TimetableLemmas.{Each-at, Each-map}
-use Rattle.ctt_text.proofs.LectureLaws.{placed_same, before_apart_turned}
+use Rattle.ctt_problem.proofs.ListLaws.{place_new, same_bytes}
+use Rattle.ctt_problem.proofs.MarkLaws.{some_columns}
+use Rattle.ctt_problem.proofs.TimetableLemmas.{Each-at, Each-map}
+use Rattle.ctt_problem.proofs.LectureLaws.{placed_same, before_apart_turned}
 use Rattle.ctt_text.proofs.SolutionLaws.{spells_one_timetable}
 
 -- numbers in decimal

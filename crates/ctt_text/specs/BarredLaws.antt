@@ -6,7 +6,7 @@ use Rattle.ctt_text.specs.declared.fault.BarredFault.{BarredFault}
 use Rattle.ctt_text.specs.declared.fault.BarredFault.TheVariants.{NotText, NoMemory}
 use Rattle.ctt_text.specs.Words.{words}
 use Rattle.ctt_text.specs.Forms.{read, without_rest}
-use Rattle.ctt_text.specs.Problem.{Problem, IsProblem}
+use Rattle.ctt_problem.specs.Problem.{Problem, IsProblem}
 use Rattle.ctt_text.specs.BarredPlaces.{barred_rooms, ends_early}
 use Rattle.ctt_text.specs.BarredText.{BarSpells, BarBreaksAt}
 

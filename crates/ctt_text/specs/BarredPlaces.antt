@@ -6,7 +6,7 @@ use Rattle.ctt_text.specs.declared.fault.BarredFault.TheVariants.{Missing, Expec
 use Rattle.ctt_text.specs.Left.{Left}
 use Rattle.ctt_text.specs.Forms.{Form, done, ◌>>=◌, times}
 use Rattle.ctt_text.specs.Places.{fixed, number_if, known_name, after}
-use Rattle.ctt_text.specs.Problem.{Problem, course_count, room_count}
+use Rattle.ctt_problem.specs.Problem.{Problem, course_count, room_count}
 use Rattle.ctt_text.specs.Reading.{Gives, reading}
 
 -- the number of pairs, up to a limit

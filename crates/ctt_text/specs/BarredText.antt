@@ -3,7 +3,7 @@ use Rattle.std.specs.Prelude.{◌≡◌, ◌<◌, ℕ, ◌*◌, List, [], ◌∷
 use Rattle.std.specs.List.{list_any, AllByRecursion as Each}
 use Rattle.ctt_text.specs.declared.fault.BarredFault.{BarredFault}
 use Rattle.ctt_text.specs.Numbers.{value}
-use Rattle.ctt_text.specs.Problem.{Problem, course_count, room_count, is_among, place_of, is_barred}
+use Rattle.ctt_problem.specs.Problem.{Problem, course_count, room_count, is_among, place_of, is_barred}
 use Rattle.ctt_text.specs.Forms.{BreaksAt}
 use Rattle.ctt_text.specs.InstanceText.{IsUpTo}
 use Rattle.ctt_text.specs.BarredPlaces.{barred_rooms, ends_early}

@@ -6,10 +6,10 @@ use Rattle.std.specs.Str.{IsUtf8}
 use Rattle.std.specs.Str.Lossy.{utf8_valid_len}
 use Rattle.ctt_text.specs.Words.{words}
 use Rattle.ctt_text.specs.Forms.{read, without_rest}
-use Rattle.ctt_text.specs.Problem.{Problem, IsProblem}
+use Rattle.ctt_problem.specs.Problem.{Problem, IsProblem}
 use Rattle.ctt_text.specs.InstancePlaces.{instance, missing}
 use Rattle.ctt_text.specs.InstanceText.{Spells, InstanceBreaksAt}
-use Rattle.ctt_text.specs.Named.{IsNamed}
+use Rattle.ctt_problem.specs.Named.{IsNamed}
 
 -- the result of parsing the words
 abbrev pub answer : List (List ℕ) → Result Problem ReadFault

@@ -1,15 +1,16 @@
 -- The form of the text of an instance: its places in order, each with its rule and its faults.
-use Rattle.std.specs.Prelude.{ℕ, ◌+◌, ◌*◌, List, [], ◌∷◌, ◌++◌, length, Bool, true, false, ◌&&◌, nat_lt, nat_le, ◌==◌, if◌then◌else◌, codes, replicate, Result}
-use Rattle.std.specs.List.{list_any, slice_set}
+use Rattle.std.specs.Prelude.{ℕ, ◌+◌, ◌*◌, List, [], ◌∷◌, ◌++◌, length, Bool, true, false, ◌&&◌, nat_lt, nat_le, ◌==◌, codes, replicate, Result}
+use Rattle.std.specs.List.{slice_set}
 use Rattle.std.specs.Str.{bytes_eq}
 use Rattle.ctt_text.specs.declared.fault.ReadFault.{ReadFault}
 use Rattle.ctt_text.specs.declared.fault.ReadFault.TheVariants.{Missing, Expected, BadNumber, TooLarge, RepeatedName, UnknownCourse, DayOut, PeriodOut, NoMemory}
-use Rattle.ctt_text.specs.declared.course_facts.CourseFacts.{CourseFacts}
+use Rattle.ctt_problem.specs.declared.course_facts.CourseFacts.{CourseFacts}
 use Rattle.ctt_text.specs.Left.{Left}
 use Rattle.ctt_text.specs.Forms.{Form, done, ◌>>=◌, times}
 use Rattle.ctt_text.specs.Places.{any, fixed, number, number_if, new_name, known_name, after}
-use Rattle.ctt_text.specs.Problem.{Problem, place_of}
+use Rattle.ctt_problem.specs.Problem.{Problem, place_of}
 use Rattle.ctt_text.specs.Reading.{Gives, reading}
+use Rattle.ctt_problem.specs.Lists.{with_new}
 
 -- the name and the counts of the header
 pub record Header : Type 0 where
@@ -64,10 +65,6 @@ header = do
   times ← calendar
   lists ← two_counts (codes "Curricula:") 20000 (codes "Constraints:") 2000000
   done (record { name = name; courses = places.0; rooms = places.1; days = times.0; periods = times.1; curricula = lists.0; constraints = lists.1 })
-
--- the list, with x appended if it is new
-abbrev pub with_new : {X : Type 0} → (X → X → Bool) → List X → X → List X
-with_new same xs x = if list_any (same x) xs then xs else xs ++ x ∷ []
 
 unfoldable pub course : Courses → Form ReadFault Courses
 course so_far = do

@@ -2,13 +2,14 @@
 use Rattle.std.specs.Prelude.{◌≡◌, ◌≤◌, ◌<◌, ℕ, ◌+◌, ◌*◌, List, [], ◌∷◌, ◌++◌, map, flat_map, length, Bool, true, false, ◌==◌, ◌&&◌, codes, replicate}
 use Rattle.std.specs.List.{list_any, AllByRecursion as Each}
 use Rattle.std.specs.Str.{bytes_eq}
-use Rattle.ctt_text.specs.declared.course_facts.CourseFacts.{CourseFacts}
+use Rattle.ctt_problem.specs.declared.course_facts.CourseFacts.{CourseFacts}
 use Rattle.ctt_text.specs.declared.fault.ReadFault.{ReadFault}
 use Rattle.ctt_text.specs.Numbers.{is_number, value}
-use Rattle.ctt_text.specs.Lists.{each_once}
-use Rattle.ctt_text.specs.Problem.{Problem, is_among, place_of, is_unavailable}
+use Rattle.ctt_problem.specs.Lists.{each_once}
+use Rattle.ctt_problem.specs.Problem.{Problem, is_among, place_of, is_unavailable}
 use Rattle.ctt_text.specs.Forms.{BreaksAt}
 use Rattle.ctt_text.specs.InstancePlaces.{instance, missing}
+use Rattle.ctt_problem.specs.Named.{AreDistinct}
 
 -- the words of the header
 pub record HeaderWords : Type 0 where
@@ -80,14 +81,6 @@ spelled g =
     ++ (codes "CURRICULA:" ∷ flat_map spelled_curriculum g.curricula
     ++ (codes "UNAVAILABILITY_CONSTRAINTS:" ∷ flat_map spelled_pair g.pairs
     ++ (codes "END." ∷ [])))))
-
--- the names are distinct, and none is among the earlier ones
-abbrev pub AreNew : List (List ℕ) → List (List ℕ) → Type 0
-AreNew before [] = Unit {0}
-AreNew before (name ∷ names) = (is_among before name ≡ false) × AreNew (before ++ name ∷ []) names
-
-abbrev pub AreDistinct : List (List ℕ) → Type 0
-AreDistinct names = AreNew [] names
 
 abbrev pub IsNumber : List ℕ → Type 0
 IsNumber word = is_number word ≡ true

@@ -2,7 +2,7 @@
 use Rattle.std.specs.Prelude.{ℕ, List, Bool, Option, Some, None, if◌then◌else◌}
 use Rattle.std.specs.Str.{bytes_eq}
 use Rattle.ctt_text.specs.Numbers.{is_number, value, number_of}
-use Rattle.ctt_text.specs.Problem.{is_among, number_in}
+use Rattle.ctt_problem.specs.Problem.{is_among, number_in}
 use Rattle.ctt_text.specs.Forms.{Rule, Form, done, place, ◌>>=◌}
 
 -- the rule of a number that passes the test, with the faults of a word that is not a number and of

@@ -4,12 +4,12 @@ use Rattle.std.specs.Str.{IsUtf8}
 use Rattle.std.specs.Str.Lossy.{utf8_valid_len}
 use Rattle.ctt_text.specs.declared.fault.SolutionFault.{SolutionFault}
 use Rattle.ctt_text.specs.declared.fault.SolutionFault.TheVariants.{NotText, NoMemory}
-use Rattle.ctt_text.specs.declared.placed.Placed.{Placed}
+use Rattle.ctt_problem.specs.declared.placed.Placed.{Placed}
 use Rattle.ctt_text.specs.Words.{words}
 use Rattle.ctt_text.specs.Forms.{read, without_rest}
-use Rattle.ctt_text.specs.Problem.{Problem, IsProblem}
-use Rattle.ctt_text.specs.Named.{IsNamed}
-use Rattle.ctt_text.specs.Timetable.{IsTimetable}
+use Rattle.ctt_problem.specs.Problem.{Problem, IsProblem}
+use Rattle.ctt_problem.specs.Named.{IsNamed}
+use Rattle.ctt_problem.specs.Timetable.{IsTimetable}
 use Rattle.ctt_text.specs.SolutionPlaces.{solution, cut}
 use Rattle.ctt_text.specs.SolutionText.{SolSpells, SolutionBreaksAt}
 use Rattle.ctt_text.specs.Written.{soltext}

@@ -2,11 +2,11 @@
 use Rattle.std.specs.Prelude.{ℕ, suc, List, [], ◌∷◌, Bool, true, false, nat_lt, if◌then◌else◌, Some, None, Result}
 use Rattle.ctt_text.specs.declared.fault.SolutionFault.{SolutionFault}
 use Rattle.ctt_text.specs.declared.fault.SolutionFault.TheVariants.{Cut, UnknownCourse, UnknownRoom, BadNumber, DayOut, PeriodOut, Repeated, NoMemory}
-use Rattle.ctt_text.specs.declared.placed.Placed.{Placed}
+use Rattle.ctt_problem.specs.declared.placed.Placed.{Placed}
 use Rattle.ctt_text.specs.Left.{Left}
 use Rattle.ctt_text.specs.Numbers.{is_number, value}
-use Rattle.ctt_text.specs.Problem.{Problem, slot_of}
-use Rattle.ctt_text.specs.Timetable.{has_lecture, with}
+use Rattle.ctt_problem.specs.Problem.{Problem, slot_of}
+use Rattle.ctt_problem.specs.Timetable.{has_lecture, with}
 use Rattle.ctt_text.specs.Forms.{Rule, Form, done, ◌>>=◌, times}
 use Rattle.ctt_text.specs.Places.{one, known_name, number_if}
 use Rattle.ctt_text.specs.Reading.{Gives, reading}

@@ -1,12 +1,12 @@
 -- How a timetable is spelled: a relation between the whole list of words and the timetable.
-use Rattle.std.specs.Prelude.{◌≡◌, ℕ, List, [], ◌∷◌, map, flat_map, Bool, true, false, ◌==◌, ◌&&◌}
-use Rattle.std.specs.List.{list_any, AllByRecursion as Each}
+use Rattle.std.specs.Prelude.{◌≡◌, ℕ, List, [], ◌∷◌, map, flat_map, true, false, ◌==◌, ◌&&◌}
+use Rattle.std.specs.List.{AllByRecursion as Each}
 use Rattle.ctt_text.specs.declared.fault.SolutionFault.{SolutionFault}
-use Rattle.ctt_text.specs.declared.placed.Placed.{Placed}
+use Rattle.ctt_problem.specs.declared.placed.Placed.{Placed}
 use Rattle.ctt_text.specs.Numbers.{value}
-use Rattle.ctt_text.specs.Lists.{Pairwise}
-use Rattle.ctt_text.specs.Problem.{Problem, is_among, place_of, slot_of}
-use Rattle.ctt_text.specs.Timetable.{Ascending}
+use Rattle.ctt_problem.specs.Lists.{Pairwise}
+use Rattle.ctt_problem.specs.Problem.{Problem, is_among, place_of, slot_of}
+use Rattle.ctt_problem.specs.Timetable.{Ascending, SameLectures}
 use Rattle.ctt_text.specs.Forms.{BreaksAt}
 use Rattle.ctt_text.specs.InstanceText.{IsBelow}
 use Rattle.ctt_text.specs.SolutionPlaces.{solution, cut}
@@ -33,10 +33,6 @@ lecture_of i w = record { course = place_of i.course_names w.course; slot = slot
 -- no two lectures are of the same course in the same slot
 abbrev pub AreApart : List Placed → Type 0
 AreApart ls = Pairwise (λ a b. (a.course == b.course && a.slot == b.slot) ≡ false) ls
-
--- every test passes for some lecture of both lists or of neither
-abbrev pub SameLectures : List Placed → List Placed → Type 0
-SameLectures ls ms = (wanted : Placed → Bool) → list_any wanted ls ≡ list_any wanted ms
 
 -- The words are entries of four words, with distinct pairs of course and slot, and t is the
 -- ascending list of their lectures.

@@ -1,8 +1,8 @@
 -- The written form of a timetable.
 use Rattle.std.specs.Prelude.{ℕ, List, [], flat_map, slice_index_or}
 use Rattle.std.specs.Fmt.{decimal}
-use Rattle.ctt_text.specs.declared.placed.Placed.{Placed}
-use Rattle.ctt_text.specs.Problem.{Problem, day_of, period_of}
+use Rattle.ctt_problem.specs.declared.placed.Placed.{Placed}
+use Rattle.ctt_problem.specs.Problem.{Problem, day_of, period_of}
 use Rattle.ctt_line.specs.Lines.{line}
 use Rattle.ctt_text.specs.SolutionText.{EntryWords, spelled_entry}
 

@@ -2,13 +2,12 @@
 
 ghost use Rattle.std.specs.Prelude.{◌≡◌, ◌<◌, nat_lt, IfOk};
 ghost use Rattle.ctt_text.specs.Places.{fixed, number, number_if, known_name};
-ghost use Rattle.ctt_text.specs.Problem.{course_count, room_count};
+ghost use Rattle.ctt_problem.specs.Problem.{course_count, room_count};
 ghost use Rattle.ctt_text.specs.Reading.{Reads, reading, word_at};
-ghost use Rattle.ctt_text.specs.Named.{IsWord};
+ghost use Rattle.ctt_problem.specs.Named.{IsWord};
 
-use crate::ids::{CourseNo, RoomNo};
-use crate::instance::Instance;
 use crate::reader::Reader;
+use ctt_problem::{CourseNo, Instance, RoomNo};
 
 /// The faults that every text has. A fault takes the number of its word, counted from 1.
 pub trait PlaceFault: Sized {

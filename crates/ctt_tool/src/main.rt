@@ -6,7 +6,7 @@ use ctt_program::{SystemOffice, serve};
 use std::process::ExitCode;
 
 fn main(rt: HostRuntime) -> ExitCode {
-    let mut files = SystemFiles::new(&rt);
+    let mut files = SystemFiles::new(&rt, rt.stdin());
     let mut out = Device::new(rt.stdout());
     let mut err = Device::new(rt.stderr());
     let office = SystemOffice::new(&rt, rt.alloc(), rt.stdin(), rt.stdout());

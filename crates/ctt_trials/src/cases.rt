@@ -1,7 +1,7 @@
 //! Cases: rows of a table, each of which is a script with its opening and the ways in which it is
 //! run.
 
-ghost use Rattle.ctt_text.specs.Timetable.{IsTimetable};
+ghost use Rattle.ctt_problem.specs.Timetable.{IsTimetable};
 ghost use Rattle.ctt_trials.specs.Scripts.{IsTimetable-prop};
 
 use crate::story::Story;

@@ -1,7 +1,7 @@
 //! Cases on one sheet: edits, looks and refusals.
 
 ghost use Rattle.std.specs.Prelude.{◌↔◌, IfSome, IsTrue};
-ghost use Rattle.ctt_text.specs.Timetable.{Fits};
+ghost use Rattle.ctt_problem.specs.Timetable.{Fits};
 ghost use Rattle.ctt_edits.specs.Calls.{CallFits};
 
 use crate::cases::{On, Script};

@@ -4,11 +4,11 @@ use Rattle.std.specs.List.{AllByRecursion as Each}
 use Rattle.std.proofs.lemmas.Bool.{cases_eq}
 use Rattle.std.proofs.lemmas.List.{get_or-map, get_or_append_left, get_or_default, get_or_push, length-append, length-map, same_lists}
 use Rattle.std.proofs.lemmas.List.Elements.{filter_more}
-use Rattle.ctt_text.specs.NumberLists.{AddsNumber}
-use Rattle.ctt_text.specs.Problem.{Problem, slot_count}
-use Rattle.ctt_text.specs.Timetable.{Fits, slot_row}
-use Rattle.ctt_text.specs.declared.placed.Placed.{Placed}
-use Rattle.ctt_text.proofs.TimetableLemmas.{Each-append, Each-at}
+use Rattle.ctt_problem.specs.NumberLists.{AddsNumber}
+use Rattle.ctt_problem.specs.Problem.{Problem, slot_count}
+use Rattle.ctt_problem.specs.Timetable.{Fits, slot_row}
+use Rattle.ctt_problem.specs.declared.placed.Placed.{Placed}
+use Rattle.ctt_problem.proofs.TimetableLemmas.{Each-append, Each-at}
 use Rattle.ctt_rules.proofs.ListLemmas.{Each-filter}
 use Rattle.ctt_views.specs.Weeks.{WeekFits, by_slot, lectures_in}
 

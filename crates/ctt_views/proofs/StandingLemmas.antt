@@ -4,10 +4,10 @@ use Rattle.std.specs.List.{count_by, filter, AllByRecursion as Each}
 use Rattle.std.proofs.lemmas.Bool.{cases_Bool}
 use Rattle.std.proofs.lemmas.Bool.Decides.{nat_tests}
 use Rattle.std.proofs.lemmas.List.Sums.{sum_by-cons}
-use Rattle.ctt_text.specs.Lists.{has}
-use Rattle.ctt_text.specs.Problem.{Problem, course_of, members, slot_count}
-use Rattle.ctt_text.specs.Timetable.{Ascending, before}
-use Rattle.ctt_text.specs.declared.placed.Placed.{Placed}
+use Rattle.ctt_problem.specs.Lists.{has}
+use Rattle.ctt_problem.specs.Problem.{Problem, course_of, members, slot_count}
+use Rattle.ctt_problem.specs.Timetable.{Ascending, before}
+use Rattle.ctt_problem.specs.declared.placed.Placed.{Placed}
 use Rattle.ctt_views.specs.Cells.{cell_lectures}
 use Rattle.ctt_views.specs.Grids.{is_of}
 use Rattle.ctt_views.specs.Laws.{LecturesStandOnce, times}

@@ -1,7 +1,7 @@
 -- The cells of grids, and the lectures in them.
 use Rattle.std.specs.Prelude.{ℕ, ◌++◌, Bool, List, [], Some, codes, cond, filter, flat_map, if◌then◌else◌, slice_index_or}
-use Rattle.ctt_text.specs.Problem.{Problem}
-use Rattle.ctt_text.specs.declared.placed.Placed.{Placed}
+use Rattle.ctt_problem.specs.Problem.{Problem}
+use Rattle.ctt_problem.specs.declared.placed.Placed.{Placed}
 use Rattle.ctt_views.specs.Escape.{escaped}
 use Rattle.ctt_views.specs.Grids.{is_closed, is_of, place_id}
 use Rattle.ctt_views.specs.Signs.{signs}

@@ -1,8 +1,8 @@
 -- Grids: days as columns, periods as lines.
 use Rattle.std.specs.Prelude.{ℕ, zero, suc, ◌+◌, ◌++◌, List, [], codes}
 use Rattle.std.specs.Fmt.{decimal}
-use Rattle.ctt_text.specs.Problem.{Problem, slot_of}
-use Rattle.ctt_text.specs.declared.placed.Placed.{Placed}
+use Rattle.ctt_problem.specs.Problem.{Problem, slot_of}
+use Rattle.ctt_problem.specs.declared.placed.Placed.{Placed}
 use Rattle.ctt_views.specs.Cells.{cell}
 use Rattle.ctt_views.specs.Headings.{grid_start}
 use Rattle.ctt_views.specs.Phrases.{day_text}

@@ -1,9 +1,9 @@
 -- The grids of the page.
 use Rattle.std.specs.Prelude.{ℕ, ◌<◌, ◌==◌, ◌++◌, Bool, false, List, [], Option, Some, None, codes, slice_index_or}
 use Rattle.std.specs.Fmt.{decimal}
-use Rattle.ctt_text.specs.Lists.{has}
-use Rattle.ctt_text.specs.Problem.{Problem, course_count, course_of, members, curriculum_count, is_unavailable, room_count, teacher_count}
-use Rattle.ctt_text.specs.declared.placed.Placed.{Placed}
+use Rattle.ctt_problem.specs.Lists.{has}
+use Rattle.ctt_problem.specs.Problem.{Problem, course_count, course_of, members, curriculum_count, is_unavailable, room_count, teacher_count}
+use Rattle.ctt_problem.specs.declared.placed.Placed.{Placed}
 use Rattle.ctt_views.specs.declared.grid.Grid.{Grid}
 use Rattle.ctt_views.specs.declared.grid.Grid.TheVariants.{Curriculum, Teacher, Room, Course}
 

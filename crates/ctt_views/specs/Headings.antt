@@ -1,6 +1,6 @@
 -- The headings of grids.
 use Rattle.std.specs.Prelude.{ℕ, ◌++◌, List, [], codes, slice_index_or}
-use Rattle.ctt_text.specs.Problem.{Problem, capacity_of, course_of}
+use Rattle.ctt_problem.specs.Problem.{Problem, capacity_of, course_of}
 use Rattle.ctt_views.specs.Grids.{grid_id, name_of, word_of}
 use Rattle.ctt_views.specs.Phrases.{amount, named}
 use Rattle.ctt_views.specs.declared.grid.Grid.{Grid}

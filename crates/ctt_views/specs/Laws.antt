@@ -1,9 +1,9 @@
 -- What holds of the page.
 use Rattle.std.specs.Prelude.{◌≡◌, ◌≤◌, ◌<◌, ◌==◌, ◌&&◌, ℕ, false, List, cond, count_by, filter}
 use Rattle.std.specs.List.{list_any}
-use Rattle.ctt_text.specs.Problem.{Problem, slot_count}
-use Rattle.ctt_text.specs.Timetable.{IsTimetable}
-use Rattle.ctt_text.specs.declared.placed.Placed.{Placed}
+use Rattle.ctt_problem.specs.Problem.{Problem, slot_count}
+use Rattle.ctt_problem.specs.Timetable.{IsTimetable}
+use Rattle.ctt_problem.specs.declared.placed.Placed.{Placed}
 use Rattle.ctt_views.specs.Cells.{cell_lectures}
 use Rattle.ctt_views.specs.Escape.{escaped}
 use Rattle.ctt_views.specs.Grids.{is_of}

@@ -1,7 +1,7 @@
 -- The page as a whole.
 use Rattle.std.specs.Prelude.{◌≡◌, ◌↔◌, ◌++◌, ℕ, Bool, IsTrue, List, codes}
-use Rattle.ctt_text.specs.Problem.{Problem, has_barred, slot_count}
-use Rattle.ctt_text.specs.declared.placed.Placed.{Placed}
+use Rattle.ctt_problem.specs.Problem.{Problem, has_barred, slot_count}
+use Rattle.ctt_problem.specs.declared.placed.Placed.{Placed}
 use Rattle.ctt_rules.specs.Hard.{Complete, Lawful, hard_counts}
 use Rattle.ctt_rules.specs.Penalty.{penalty}
 use Rattle.ctt_rules.specs.declared.cost.Cost.{Cost}

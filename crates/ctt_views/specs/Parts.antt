@@ -1,7 +1,7 @@
 -- The parts of the page with grids, and their index.
 use Rattle.std.specs.Prelude.{ℕ, ◌++◌, List, codes}
-use Rattle.ctt_text.specs.Problem.{Problem, course_count, curriculum_count, room_count, teacher_count}
-use Rattle.ctt_text.specs.declared.placed.Placed.{Placed}
+use Rattle.ctt_problem.specs.Problem.{Problem, course_count, curriculum_count, room_count, teacher_count}
+use Rattle.ctt_problem.specs.declared.placed.Placed.{Placed}
 use Rattle.ctt_views.specs.GridTexts.{each_below, grid_text}
 use Rattle.ctt_views.specs.Grids.{grid_id, name_of, word_of}
 use Rattle.ctt_views.specs.Phrases.{named}

@@ -2,7 +2,7 @@
 -- cell.
 use Rattle.std.specs.Prelude.{ℕ, ◌++◌, Bool, List, Option, Some, None, codes, filter, flat_map, take}
 use Rattle.std.specs.Str.{bytes_eq}
-use Rattle.ctt_text.specs.Problem.{Problem}
+use Rattle.ctt_problem.specs.Problem.{Problem}
 use Rattle.ctt_rules.specs.Penalty.{total}
 use Rattle.ctt_rules.specs.declared.cost.Cost.{Cost}
 use Rattle.ctt_rules.specs.declared.hard.Hard.{Hard}

@@ -1,7 +1,7 @@
 -- Findings as sentences.
 use Rattle.std.specs.Prelude.{ℕ, ◌++◌, List, [], codes, slice_index_or}
 use Rattle.std.specs.Fmt.{decimal}
-use Rattle.ctt_text.specs.Problem.{Problem, capacity_of, course_of, day_of, period_of}
+use Rattle.ctt_problem.specs.Problem.{Problem, capacity_of, course_of, day_of, period_of}
 use Rattle.ctt_findings.specs.declared.finding.Cause.{Cause}
 use Rattle.ctt_findings.specs.declared.finding.Cause.TheVariants.{Teacher, Curriculum}
 use Rattle.ctt_findings.specs.declared.finding.Finding.{Finding}

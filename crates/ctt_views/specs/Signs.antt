@@ -1,8 +1,8 @@
 -- The signs of a lecture that breaks a rule or costs points.
 use Rattle.std.specs.Prelude.{ℕ, Bool, false, ◌==◌, ◌&&◌, ◌++◌, not, List, [], codes, if◌then◌else◌}
 use Rattle.std.specs.List.{list_any}
-use Rattle.ctt_text.specs.Problem.{Problem, clash, is_barred, is_unavailable}
-use Rattle.ctt_text.specs.declared.placed.Placed.{Placed}
+use Rattle.ctt_problem.specs.Problem.{Problem, clash, is_barred, is_unavailable}
+use Rattle.ctt_problem.specs.declared.placed.Placed.{Placed}
 use Rattle.ctt_rules.specs.Neighbours.{is_beside}
 use Rattle.ctt_rules.specs.Penalty.{unseated}
 use Rattle.ctt_views.specs.Grids.{is_of}

@@ -2,10 +2,10 @@
 use Rattle.std.specs.Prelude.{ℕ, zero, suc, ◌+◌, ◌-◌, ◌<◌, max, Bool, false, List, [], ◌∷◌, ◌++◌, length, get_or, replicate, fold, filter, flat_map, ◌==◌, Option, Some, None, codes, chars, slice_index_or, if◌then◌else◌}
 use Rattle.std.specs.Fmt.{decimal}
 use Rattle.unicode_width.specs.Width.{str_width}
-use Rattle.ctt_text.specs.Lists.{has}
-use Rattle.ctt_text.specs.Problem.{Problem, course_of, members, course_count, room_count, teacher_count, curriculum_count, slot_of, is_unavailable}
-use Rattle.ctt_text.specs.Timetable.{slot_row}
-use Rattle.ctt_text.specs.declared.placed.Placed.{Placed}
+use Rattle.ctt_problem.specs.Lists.{has}
+use Rattle.ctt_problem.specs.Problem.{Problem, course_of, members, course_count, room_count, teacher_count, curriculum_count, slot_of, is_unavailable}
+use Rattle.ctt_problem.specs.Timetable.{slot_row}
+use Rattle.ctt_problem.specs.declared.placed.Placed.{Placed}
 use Rattle.ctt_views.specs.declared.selection.Selection.{Selection}
 use Rattle.ctt_views.specs.declared.selection.Selection.TheVariants.{Curriculum, Teacher, Course, Room}
 

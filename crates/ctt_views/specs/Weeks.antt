@@ -1,9 +1,9 @@
 -- The lectures of a timetable, slot by slot.
 use Rattle.std.specs.Prelude.{◌≡◌, ℕ, zero, suc, List, [], ◌∷◌, ◌++◌, length, slice_index_or}
 use Rattle.std.specs.List.{AllByRecursion as Each}
-use Rattle.ctt_text.specs.Problem.{Problem, slot_count}
-use Rattle.ctt_text.specs.Timetable.{Fits, slot_row}
-use Rattle.ctt_text.specs.declared.placed.Placed.{Placed}
+use Rattle.ctt_problem.specs.Problem.{Problem, slot_count}
+use Rattle.ctt_problem.specs.Timetable.{Fits, slot_row}
+use Rattle.ctt_problem.specs.declared.placed.Placed.{Placed}
 
 -- the lectures in each of the first n slots
 abbrev pub by_slot : ℕ → List Placed → List (List Placed)

@@ -2,12 +2,12 @@
 
 ghost use Rattle.std.specs.Prelude.{◌≡◌, ◌<◌, ◌++◌, IfOk, OnOk, string_bytes};
 ghost use Rattle.std.specs.List.{AllByRecursion as Each};
-ghost use Rattle.ctt_text.specs.Problem.{slot_count};
-ghost use Rattle.ctt_text.specs.Timetable.{Fits, slot_row};
+ghost use Rattle.ctt_problem.specs.Problem.{slot_count};
+ghost use Rattle.ctt_problem.specs.Timetable.{Fits, slot_row};
 ghost use Rattle.ctt_views.specs.Week.{SelectionFits, cell, comma, entries, entry, mark};
 
 use crate::selection::{Selection, is_closed};
-use ctt_text::{Instance, Placed, SlotNo};
+use ctt_problem::{Instance, Placed, SlotNo};
 use std::alloc::{AllocError, Global};
 use std::fmt::Write;
 

@@ -2,8 +2,8 @@
 
 ghost use Rattle.std.specs.Prelude.{◌≡◌, ◌<◌, ◌++◌, OnOk, filter, flat_map, string_bytes};
 ghost use Rattle.std.specs.List.{AllByRecursion as Each};
-ghost use Rattle.ctt_text.specs.Problem.{slot_count};
-ghost use Rattle.ctt_text.specs.Timetable.{Fits};
+ghost use Rattle.ctt_problem.specs.Problem.{slot_count};
+ghost use Rattle.ctt_problem.specs.Timetable.{Fits};
 ghost use Rattle.ctt_views.specs.Cells.{cell, cell_start, lecture_text, mark, names_text, shown_text};
 ghost use Rattle.ctt_views.specs.Grids.{GridFits, is_of};
 ghost use Rattle.ctt_views.specs.Weeks.{WeekFits};
@@ -12,7 +12,7 @@ use crate::escape::Escaped;
 use crate::grid::{Grid, Place, is_closed, is_of};
 use crate::signs::push_signs;
 use crate::week::Week;
-use ctt_text::{Instance, Placed, SlotNo};
+use ctt_problem::{Instance, Placed, SlotNo};
 use std::alloc::AllocError;
 use std::fmt::Write;
 

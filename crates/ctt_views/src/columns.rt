@@ -2,13 +2,13 @@
 
 ghost use Rattle.std.specs.Prelude.{◌≡◌, ◌<◌, IfOk};
 ghost use Rattle.std.specs.List.{AllByRecursion as Each};
-ghost use Rattle.ctt_text.specs.Timetable.{Fits};
+ghost use Rattle.ctt_problem.specs.Timetable.{Fits};
 ghost use Rattle.ctt_views.specs.Week.{SelectionFits, columns, day_column, period_column};
 
 use crate::cell::cell;
 use crate::column::Column;
 use crate::selection::Selection;
-use ctt_text::{Instance, Placed};
+use ctt_problem::{Instance, Placed};
 use std::alloc::{AllocError, Global};
 
 /// Builds the column of the periods.

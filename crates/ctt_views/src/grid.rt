@@ -1,11 +1,11 @@
 //! The grids of the page.
 
 ghost use Rattle.std.specs.Prelude.{◌≡◌, ◌<◌, Some};
-ghost use Rattle.ctt_text.specs.Problem.{slot_count};
-ghost use Rattle.ctt_text.specs.Timetable.{Fits};
+ghost use Rattle.ctt_problem.specs.Problem.{slot_count};
+ghost use Rattle.ctt_problem.specs.Timetable.{Fits};
 ghost use Rattle.ctt_views.specs.Grids.{GridFits, grid_id, is_closed, is_of, name_of, place_id, word_of};
 
-use ctt_text::{CourseNo, CurriculumNo, Instance, Placed, RoomNo, SlotNo, TeacherNo};
+use ctt_problem::{CourseNo, CurriculumNo, Instance, Placed, RoomNo, SlotNo, TeacherNo};
 use std::fmt;
 
 /// The curriculum, teacher, room or course whose lectures a grid shows. Displayed as the id of the grid.

@@ -1,7 +1,7 @@
 //! Grids: days as columns, periods as lines.
 
 ghost use Rattle.std.specs.Prelude.{◌≡◌, ◌<◌, ◌++◌, OnOk, string_bytes};
-ghost use Rattle.ctt_text.specs.Problem.{slot_of};
+ghost use Rattle.ctt_problem.specs.Problem.{slot_of};
 ghost use Rattle.ctt_views.specs.Cells.{cell};
 ghost use Rattle.ctt_views.specs.GridTexts.{day_head, each_below, grid_text, line};
 ghost use Rattle.ctt_views.specs.Grids.{GridFits};
@@ -12,7 +12,7 @@ use crate::grid::Grid;
 use crate::heading::push_grid_start;
 use crate::phrases::Day;
 use crate::week::Week;
-use ctt_text::Instance;
+use ctt_problem::Instance;
 use std::alloc::AllocError;
 use std::fmt::Write;
 

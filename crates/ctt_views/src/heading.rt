@@ -6,7 +6,7 @@ ghost use Rattle.ctt_views.specs.Headings.{course_note, grid_start, heading, not
 
 use crate::grid::{Grid, name_of, word_of};
 use crate::phrases::{Amount, Named};
-use ctt_text::Instance;
+use ctt_problem::Instance;
 use std::alloc::AllocError;
 use std::fmt::Write;
 

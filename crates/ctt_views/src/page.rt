@@ -1,8 +1,8 @@
 //! The page as a whole.
 
 ghost use Rattle.std.specs.Prelude.{◌≡◌, ◌<◌, ◌^◌, ◌++◌, IfOk, OnOk, string_bytes};
-ghost use Rattle.ctt_text.specs.Problem.{slot_count};
-ghost use Rattle.ctt_text.specs.Timetable.{IsTimetable};
+ghost use Rattle.ctt_problem.specs.Problem.{slot_count};
+ghost use Rattle.ctt_problem.specs.Timetable.{IsTimetable};
 ghost use Rattle.ctt_rules.specs.Penalty.{total};
 ghost use Rattle.ctt_views.specs.Parts.{parts};
 ghost use Rattle.ctt_views.specs.Page.{HasFindings, IsPage, page_end, page_head};
@@ -16,8 +16,8 @@ use crate::script::script;
 use crate::sections::push_sections;
 use crate::style::style;
 use crate::week::Week;
+use ctt_problem::{Instance, NoMemory, Placed};
 use ctt_rules::{Assessment, assess};
-use ctt_text::{Instance, NoMemory, Placed};
 use std::alloc::{AllocError, Global};
 use std::fmt::Write;
 

@@ -9,7 +9,7 @@ use crate::grid::{Grid, name_of, word_of};
 use crate::grids::push_grid;
 use crate::phrases::Named;
 use crate::week::Week;
-use ctt_text::{CourseNo, CurriculumNo, Instance, RoomNo, TeacherNo};
+use ctt_problem::{CourseNo, CurriculumNo, Instance, RoomNo, TeacherNo};
 use std::alloc::AllocError;
 use std::fmt::Write;
 

@@ -2,13 +2,13 @@
 
 ghost use Rattle.std.specs.Prelude.{◌≡◌, ◌++◌, ◌∷◌, [], IfOk, OnOk};
 ghost use Rattle.std.specs.List.{AllByRecursion as Each};
-ghost use Rattle.ctt_text.specs.Timetable.{IsTimetable};
+ghost use Rattle.ctt_problem.specs.Timetable.{IsTimetable};
 ghost use Rattle.ctt_findings.specs.Findings.{findings};
 ghost use Rattle.ctt_findings.specs.Fitting.{FindingFits};
 ghost use Rattle.ctt_views.specs.Ranking.{AreRanked, kind_word, points, rank};
 
 use ctt_findings::{Finding, Listener, Untold, tell_findings};
-use ctt_text::{Instance, NoMemory, Placed};
+use ctt_problem::{Instance, NoMemory, Placed};
 use std::alloc::{AllocError, Global};
 
 /// Returns the word that names the kind of a finding.

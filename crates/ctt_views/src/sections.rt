@@ -12,8 +12,8 @@ use crate::phrases::{Amount, Price};
 use crate::ranking::{kind_word, points};
 use crate::sentences::push_sentence;
 use ctt_findings::{Cause, Finding};
+use ctt_problem::{Instance, SlotNo};
 use ctt_rules::{Assessment, Cost, Hard};
-use ctt_text::{Instance, SlotNo};
 use std::alloc::AllocError;
 use std::fmt::Write;
 

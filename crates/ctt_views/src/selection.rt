@@ -2,11 +2,11 @@
 
 ghost use Rattle.std.specs.Prelude.{◌≡◌, ◌<◌, IfOk, filter};
 ghost use Rattle.std.specs.List.{AllByRecursion as Each};
-ghost use Rattle.ctt_text.specs.Problem.{slot_count};
-ghost use Rattle.ctt_text.specs.Timetable.{Fits};
+ghost use Rattle.ctt_problem.specs.Problem.{slot_count};
+ghost use Rattle.ctt_problem.specs.Timetable.{Fits};
 ghost use Rattle.ctt_views.specs.Week.{SelectionFits, is_closed, is_selected};
 
-use ctt_text::{CourseNo, CurriculumNo, Instance, Placed, RoomNo, SlotNo, TeacherNo};
+use ctt_problem::{CourseNo, CurriculumNo, Instance, Placed, RoomNo, SlotNo, TeacherNo};
 use std::alloc::{AllocError, Global};
 
 /// The curriculum, teacher, course or room whose week is shown.

@@ -1,15 +1,15 @@
 //! Findings as sentences.
 
 ghost use Rattle.std.specs.Prelude.{◌≡◌, ◌<◌, ◌++◌, OnOk, string_bytes};
-ghost use Rattle.ctt_text.specs.Problem.{capacity_of, course_of, day_of, period_of, slot_count};
-ghost use Rattle.ctt_text.specs.Timetable.{Fits};
+ghost use Rattle.ctt_problem.specs.Problem.{capacity_of, course_of, day_of, period_of, slot_count};
+ghost use Rattle.ctt_problem.specs.Timetable.{Fits};
 ghost use Rattle.ctt_findings.specs.Fitting.{CauseFits, FindingFits};
 ghost use Rattle.ctt_views.specs.Phrases.{when};
 ghost use Rattle.ctt_views.specs.Sentences.{availability_text, barred_text, capacity_text, compactness_text, conflict_by, conflict_text, course, days_text, lectures_text, occupancy_text, room, sentence, stability_text, time};
 
 use crate::phrases::{Amount, Named, When};
 use ctt_findings::{Cause, Finding};
-use ctt_text::{Instance, Placed, SlotNo};
+use ctt_problem::{Instance, Placed, SlotNo};
 use std::alloc::AllocError;
 use std::fmt::Write;
 

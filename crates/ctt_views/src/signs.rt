@@ -2,8 +2,8 @@
 
 ghost use Rattle.std.specs.Prelude.{◌≡◌, ◌<◌, ◌++◌, OnOk, Some, if◌then◌else◌, string_bytes};
 ghost use Rattle.std.specs.List.{AllByRecursion as Each, list_any};
-ghost use Rattle.ctt_text.specs.Problem.{slot_count};
-ghost use Rattle.ctt_text.specs.Timetable.{Fits};
+ghost use Rattle.ctt_problem.specs.Problem.{slot_count};
+ghost use Rattle.ctt_problem.specs.Timetable.{Fits};
 ghost use Rattle.ctt_rules.specs.Neighbours.{is_beside};
 ghost use Rattle.ctt_rules.specs.Penalty.{unseated};
 ghost use Rattle.ctt_views.specs.Grids.{GridFits, is_of};
@@ -13,7 +13,7 @@ ghost use Rattle.ctt_views.specs.Weeks.{WeekFits};
 use crate::grid::{Grid, is_of};
 use crate::phrases::Amount;
 use crate::week::Week;
-use ctt_text::{Instance, Placed, SlotNo};
+use ctt_problem::{Instance, Placed, SlotNo};
 use std::alloc::AllocError;
 use std::fmt;
 use std::fmt::Write;

@@ -1,13 +1,13 @@
 //! The tables of a week as text.
 
 ghost use Rattle.std.specs.Prelude.{◌≡◌, ◌<◌, ◌++◌, ℕ, List, IfOk, IfSome, OnOk, string_bytes};
-ghost use Rattle.ctt_text.specs.Timetable.{IsTimetable};
+ghost use Rattle.ctt_problem.specs.Timetable.{IsTimetable};
 ghost use Rattle.ctt_views.specs.Week.{SelectionFits, for_each, gap, line, table, tables, title, week};
 
 use crate::column::Column;
 use crate::columns::columns;
 use crate::selection::{Selection, select};
-use ctt_text::{Instance, NoMemory, Placed, RoomNo};
+use ctt_problem::{Instance, NoMemory, Placed, RoomNo};
 use std::alloc::{AllocError, Global};
 use std::fmt::Write;
 

@@ -2,11 +2,11 @@
 
 ghost use Rattle.std.specs.Prelude.{◌≡◌, ◌<◌, ℕ, [], length, map, get_or, IfOk, OnOk};
 ghost use Rattle.std.specs.List.{AllByRecursion as Each};
-ghost use Rattle.ctt_text.specs.Problem.{slot_count};
-ghost use Rattle.ctt_text.specs.Timetable.{Fits, IsTimetable, slot_row};
+ghost use Rattle.ctt_problem.specs.Problem.{slot_count};
+ghost use Rattle.ctt_problem.specs.Timetable.{Fits, IsTimetable, slot_row};
 ghost use Rattle.ctt_views.specs.Weeks.{WeekFits, by_slot, lectures_in};
 
-use ctt_text::{Instance, Placed, SlotNo, add_to, empty_lists};
+use ctt_problem::{Instance, Placed, SlotNo, add_to, empty_lists};
 use std::alloc::{AllocError, Global};
 use std::marker::Model;
 
@@ -18,7 +18,7 @@ pub(crate) struct Week {
 
 impl Model for Week {
     ghost use Rattle.std.specs.Prelude.{List, map};
-    ghost use Rattle.ctt_text.specs.declared.placed.Placed.{Placed as Lecture};
+    ghost use Rattle.ctt_problem.specs.declared.placed.Placed.{Placed as Lecture};
 
     ghost Value = { List (List Lecture) };
 

@@ -12,7 +12,7 @@ use Rattle.ctt_words.specs.CommandLine.{is_on, timedesk}
 use Rattle.ctt_words.specs.Jobs.{HasAll, HasScripts, IsJobIn, IsJobOf, IsTaskBy, count_given}
 use Rattle.ctt_words.specs.declared.job.Job.{Job}
 use Rattle.ctt_words.specs.declared.job.Task.{Task}
-use Rattle.ctt_words.specs.declared.job.Task.TheVariants.{Audit, Crew, Desk, Journal, Listing, Mending, Run, Show}
+use Rattle.ctt_words.specs.declared.job.Task.TheVariants.{Audit, Compare, Crew, Desk, Journal, Listing, Mending, Run, Show, Where}
 
 given_here : (o : Option Row) → is_some (option_and_then (λ (r : Row). slice_get r.values 0) o) ≡ true → is_some (option_map (λ (r : Row). r.values) o) ≡ true
 given_here None first = first
@@ -60,6 +60,7 @@ job_has_scripts words job is = in_matched (subcommand_of timedesk words) job is
   where
     in_task : (name : Text) (rows : List Row) (task : Task) → IsTaskBy name rows task → HasScripts task
     in_task name rows (Show solution showing) is = tt
+    in_task name rows (Compare solutions form strict) is = is.1.1
     in_task name rows (Run script start journal) is = tt
     in_task name rows (Audit journal start) is = tt
     in_task name rows (Crew scripts) is = is.1.1
@@ -67,6 +68,7 @@ job_has_scripts words job is = in_matched (subcommand_of timedesk words) job is
     in_task name rows (Journal minutes) is = tt
     in_task name rows (Listing journal start) is = tt
     in_task name rows (Mending solution) is = tt
+    in_task name rows (Where word) is = tt
 
     in_matched : (matched : Option (Text × List Row)) (job : Job) → IsJobIn matched job → HasScripts job.task
     in_matched None job is = absurd is

@@ -7,13 +7,13 @@ use Rattle.clap.specs.Words.{IsAmong, Kinds, Row, Text, is_simple, is_simple_and
 use Rattle.clap.specs.declared.error.kind.ErrorKind.{ErrorKind}
 use Rattle.clap.specs.declared.error.kind.ErrorKind.TheVariants.{OutOfMemory}
 use Rattle.clap.proofs.OnLiterals.{clap_on_literals}
-use Rattle.ctt_words.specs.CommandLine.{audit, check, crew, desk, journal, list, mend, page, run, timedesk, week}
+use Rattle.ctt_words.specs.CommandLine.{audit, check, compare, crew, desk, find, journal, list, mend, page, run, timedesk, week}
 use Rattle.ctt_words.specs.Jobs.{AsksForSeveral, IsFaultOf, IsHelp, IsJobIn, IsNoJobIn, IsOfKind, IsRequest, IsTaskBy, SaysSeveral, WantsSeveral, WantsSeveralIn, choices, choices_of, count_given, faults_of}
 use Rattle.ctt_words.specs.Outlines.{commands, name_of, named, named_in, with_name}
 use Rattle.ctt_words.specs.declared.job.Job.{Job}
 use Rattle.ctt_words.specs.declared.job.Showing.TheVariants.{Page, Report, Week}
 use Rattle.ctt_words.specs.declared.job.Task.{Task}
-use Rattle.ctt_words.specs.declared.job.Task.TheVariants.{Audit, Crew, Desk, Journal, Listing, Mending, Run, Show}
+use Rattle.ctt_words.specs.declared.job.Task.TheVariants.{Audit, Compare, Crew, Desk, Journal, Listing, Mending, Run, Show, Where}
 use Rattle.ctt_words.specs.declared.job.Whose.{Whose}
 use Rattle.ctt_words.specs.declared.job.Whose.TheVariants.{Course, Curriculum, Room, Teacher}
 use Rattle.ctt_words.specs.declared.job.WordsFault.{WordsFault}
@@ -21,11 +21,11 @@ use Rattle.ctt_words.specs.declared.job.WordsFault.TheVariants.{Help, NoMemory, 
 use Rattle.ctt_words.specs.declared.outline.Name.{Name}
 
 pub timedesk_simple : is_simple timedesk ≡ true
-unfolding clap_on_literals timedesk check week page run audit crew desk journal list mend
+unfolding clap_on_literals timedesk check compare week page run audit crew desk journal list mend find
 timedesk_simple = refl
 
 pub timedesk_free : is_simple_and_free timedesk ≡ true
-unfolding clap_on_literals timedesk check week page run audit crew desk journal list mend
+unfolding clap_on_literals timedesk check compare week page run audit crew desk journal list mend find
 timedesk_free = refl
 
 no_help : (kind : ErrorKind) → IsHelp kind → kind ≡ OutOfMemory → ⊥
@@ -69,9 +69,10 @@ other_name name a b other is_a is_b = true≢false (sym ((bytes_eq-Decides a b).
 
 -- such words do not ask for a job
 task_not_several : (name : Text) (rows : List Row) (task : Task) → IsTaskBy name rows task → WantsSeveral name rows → ⊥
-task_not_several name rows (Show solution (Report json explain strict)) is several = other_name name _ _ refl is.0.0 several.0
+task_not_several name rows (Show solution (Report form explain strict)) is several = other_name name _ _ refl is.0.0 several.0
 task_not_several name rows (Show solution (Week whose)) is several = no_several rows whose is.0.1 several.1
 task_not_several name rows (Show solution (Page days)) is several = other_name name _ _ refl is.0.0 several.0
+task_not_several name rows (Compare solutions form strict) is several = other_name name _ _ refl is.0 several.0
 task_not_several name rows (Run script start stored) is several = other_name name _ _ refl is.0 several.0
 task_not_several name rows (Audit audited start) is several = other_name name _ _ refl is.0 several.0
 task_not_several name rows (Crew scripts) is several = other_name name _ _ refl is.0 several.0
@@ -79,6 +80,7 @@ task_not_several name rows (Desk seats start minutes) is several = other_name na
 task_not_several name rows (Journal minutes) is several = other_name name _ _ refl is.0 several.0
 task_not_several name rows (Listing audited start) is several = other_name name _ _ refl is.0 several.0
 task_not_several name rows (Mending mended) is several = other_name name _ _ refl is.0 several.0
+task_not_several name rows (Where word) is several = other_name name _ _ refl is.0 several.0
 
 not_several : (matched : Option (Text × List Row)) (job : Job) → IsJobIn matched job → WantsSeveralIn matched → ⊥
 not_several None job is several = several

@@ -11,8 +11,8 @@ use Rattle.clap.specs.Walk.{Text, answers_to, is_empty, nothing_held, rows_after
 use Rattle.clap.specs.Words.{fault_of, subcommand_of}
 use Rattle.clap.proofs.OnLiterals.{clap_on_literals}
 use Rattle.clap.proofs.SimpleLemmas.{is_nil}
-use Rattle.ctt_words.specs.CommandLine.{audit, check, crew, desk, journal, list, mend, page, run, timedesk, week}
-use Rattle.ctt_words.specs.Jobs.{HasFlags, HasFlagsOf, IsMatched, IsWhole, wanted_by}
+use Rattle.ctt_words.specs.CommandLine.{audit, check, compare, crew, desk, find, journal, list, mend, page, run, timedesk, week}
+use Rattle.ctt_words.specs.Jobs.{HasCheckFlags, HasCompareFlags, HasFlagsOf, IsMatched, IsWhole, wanted_by}
 use Rattle.ctt_words.specs.Outlines.{named}
 use Rattle.ctt_words.specs.declared.outline.Name.{Name}
 use Rattle.ctt_words.specs.declared.outline.Name.TheVariants as by
@@ -23,12 +23,21 @@ use Rattle.ctt_clap.proofs.Entered.{enters, has_flag, has_required, is_flag, is_
 abbrev requires : Shape → Text → Bool
 requires s id = list_any (is_required (codes "instance")) s.rules && list_any (is_required id) s.rules
 
--- `json`, `explain` and `strict` are options without a value
-abbrev has_flags : Shape → Bool
-has_flags s = list_all (is_flag (codes "json")) s.rules && (list_all (is_flag (codes "explain")) s.rules && list_all (is_flag (codes "strict")) s.rules)
+-- the option has no value
+abbrev has_no_value : Shape → Text → Bool
+has_no_value s id = list_all (is_flag id) s.rules
+
+-- the options without a value of `check`, and of `compare`
+abbrev has_check_flags : Shape → Bool
+has_check_flags s = (has_no_value s (codes "json") && has_no_value s (codes "name"))
+    && (has_no_value s (codes "explain") && has_no_value s (codes "strict"))
+
+abbrev has_compare_flags : Shape → Bool
+has_compare_flags s = has_no_value s (codes "csv") && (has_no_value s (codes "json") && has_no_value s (codes "strict"))
 
 abbrev has_flags_of : Name → Shape → Bool
-has_flags_of by.Check s = has_flags s
+has_flags_of by.Check s = has_check_flags s
+has_flags_of by.Compare s = has_compare_flags s
 has_flags_of _ s = true
 
 -- the command requires what its name needs
@@ -50,17 +59,29 @@ either true b e = inl refl
 either false b e = inr e
 
 module _ (s : Shape) (rest : List Text) (gives : list_all is_giving s.rules ≡ true) (none : level_fault s [] nothing_held rest false [] ≡ []) where
-  flags_of : has_flags s ≡ true → HasFlags (rows_after s.rules [] rest)
-  flags_of has =
+  check_flags : has_check_flags s ≡ true → HasCheckFlags (rows_after s.rules [] rest)
+  check_flags has =
+      let first = both _ _ (both _ _ has).0 in
       let later = both _ _ (both _ _ has).1 in
       record {
-        json = has_flag s rest (codes "json") gives none (both _ _ has).0;
+        json = has_flag s rest (codes "json") gives none first.0;
+        name = has_flag s rest (codes "name") gives none first.1;
         explain = has_flag s rest (codes "explain") gives none later.0;
         strict = has_flag s rest (codes "strict") gives none later.1;
       }
 
+  compare_flags : has_compare_flags s ≡ true → HasCompareFlags (rows_after s.rules [] rest)
+  compare_flags has =
+      let later = both _ _ (both _ _ has).1 in
+      record {
+        csv = has_flag s rest (codes "csv") gives none (both _ _ has).0;
+        json = has_flag s rest (codes "json") gives none later.0;
+        strict = has_flag s rest (codes "strict") gives none later.1;
+      }
+
   flags_by : (command : Name) → has_flags_of command s ≡ true → HasFlagsOf command (rows_after s.rules [] rest)
-  flags_by by.Check has = flags_of has
+  flags_by by.Check has = check_flags has
+  flags_by by.Compare has = compare_flags has
   flags_by _ has = tt
 
   whole_by : (o : Option Name) → named s.name ≡ o → option_map_or (has_needs s) o false ≡ true → IsWhole s.name (rows_after s.rules [] rest)
@@ -91,15 +112,15 @@ help_label s is =
 -- ---- the program
 
 command_required : (built timedesk).top.subcommand_required ≡ true
-unfolding clap_on_literals timedesk check week page run audit crew desk journal list mend
+unfolding clap_on_literals timedesk check compare week page run audit crew desk journal list mend find
 command_required = refl
 
 help_is_no_command : (built timedesk).top.disable_help_subcommand ≡ false
-unfolding clap_on_literals timedesk check week page run audit crew desk journal list mend
+unfolding clap_on_literals timedesk check compare week page run audit crew desk journal list mend find
 help_is_no_command = refl
 
 all_have : list_all (λ s. has_all s || is_help s) (built timedesk).subs ≡ true
-unfolding clap_on_literals timedesk check week page run audit crew desk journal list mend
+unfolding clap_on_literals timedesk check compare week page run audit crew desk journal list mend find
 all_have = refl
 
 -- words in which `clap` finds no fault match a command with all that it needs

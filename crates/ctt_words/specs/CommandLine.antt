@@ -33,10 +33,15 @@ with_rules app (rule ∷ rules) = with_rules (with_rule app rule) rules
 abbrev pub command_of : List ℕ → List Rule → App
 command_of name rules = with_rules (new_app name) rules
 
--- `check INSTANCE SOLUTION [--barred FILE] [--json] [--explain] [--strict]`
+-- `check INSTANCE SOLUTION [--barred FILE] [--json] [--name] [--explain] [--strict]`
 unfoldable pub check : App
 check = command_of (codes "check") (required_word (codes "instance") ∷ required_word (codes "solution") ∷ valued (codes "barred")
-    ∷ flag (codes "json") ∷ flag (codes "explain") ∷ flag (codes "strict") ∷ [])
+    ∷ flag (codes "json") ∷ flag (codes "name") ∷ flag (codes "explain") ∷ flag (codes "strict") ∷ [])
+
+-- `compare INSTANCE SOLUTION.. [--barred FILE] [--csv] [--json] [--strict]`
+unfoldable pub compare : App
+compare = command_of (codes "compare") (required_word (codes "instance") ∷ required_words (codes "solution") ∷ valued (codes "barred")
+    ∷ flag (codes "csv") ∷ flag (codes "json") ∷ flag (codes "strict") ∷ [])
 
 -- `week INSTANCE SOLUTION [--barred FILE] [--curriculum NAME] [--teacher NAME] [--course NAME] [--room NAME]`
 unfoldable pub week : App
@@ -80,6 +85,10 @@ list = command_of (codes "list") (required_word (codes "instance") ∷ required_
 unfoldable pub mend : App
 mend = command_of (codes "mend") (required_word (codes "instance") ∷ required_word (codes "solution") ∷ valued (codes "barred") ∷ [])
 
+-- `where FILE WORD`
+unfoldable pub find : App
+find = command_of (codes "where") (required_word (codes "instance") ∷ required_word (codes "word") ∷ [])
+
 -- the program without its commands: it has a version, and requires a command
 abbrev pub bare : App
 bare = on_top (λ s. record s { has_version = true; subcommand_required = true }) (new_app (codes "timedesk"))
@@ -91,7 +100,7 @@ with_commands app (one ∷ more) = with_commands (with_subcommand app one.top) m
 
 -- the commands, in the order of the help
 abbrev pub apps : List App
-apps = check ∷ week ∷ page ∷ run ∷ audit ∷ crew ∷ desk ∷ journal ∷ list ∷ mend ∷ []
+apps = check ∷ compare ∷ week ∷ page ∷ run ∷ audit ∷ crew ∷ desk ∷ journal ∷ list ∷ mend ∷ find ∷ []
 
 -- the program with its commands
 unfoldable pub timedesk : App

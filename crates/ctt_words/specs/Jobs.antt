@@ -1,5 +1,5 @@
 -- Which job the words of a command line ask for, and which fault they have if they ask for none.
-use Rattle.std.specs.Prelude.{◌≡◌, ◌≢◌, ◌≤◌, ◌<◌, ◌⊎◌, ℕ, suc, Bool, List, [], ◌∷◌, Option, Some, None, IsSome, codes, length, map, option_map}
+use Rattle.std.specs.Prelude.{◌≡◌, ◌≢◌, ◌≤◌, ◌<◌, ◌⊎◌, ℕ, suc, Bool, true, false, List, [], ◌∷◌, Option, Some, None, IsSome, codes, length, map, option_map}
 use Rattle.std.specs.Global.{Global}
 use Rattle.std.specs.String.{string_bytes}
 use Rattle.std.specs.declared.string.String.{String}
@@ -10,10 +10,14 @@ use Rattle.ctt_clap.specs.Flags.{IsOnOrOff}
 use Rattle.ctt_words.specs.CommandLine.{is_on, timedesk}
 use Rattle.ctt_words.specs.Outlines.{named}
 use Rattle.ctt_words.specs.declared.job.Job.{Job}
+use Rattle.ctt_words.specs.declared.job.ReportForm.{ReportForm}
+use Rattle.ctt_words.specs.declared.job.ReportForm.TheVariants as report
 use Rattle.ctt_words.specs.declared.job.Showing.{Showing}
 use Rattle.ctt_words.specs.declared.job.Showing.TheVariants.{Page, Report, Week}
+use Rattle.ctt_words.specs.declared.job.TableForm.{TableForm}
+use Rattle.ctt_words.specs.declared.job.TableForm.TheVariants as table
 use Rattle.ctt_words.specs.declared.job.Task.{Task}
-use Rattle.ctt_words.specs.declared.job.Task.TheVariants.{Audit, Crew, Desk, Journal, Listing, Mending, Run, Show}
+use Rattle.ctt_words.specs.declared.job.Task.TheVariants.{Audit, Compare, Crew, Desk, Journal, Listing, Mending, Run, Show, Where}
 use Rattle.ctt_words.specs.declared.job.Whose.{Whose}
 use Rattle.ctt_words.specs.declared.job.Whose.TheVariants.{Course, Curriculum, Room, Teacher}
 use Rattle.ctt_words.specs.declared.job.WordsFault.{WordsFault}
@@ -62,6 +66,7 @@ count_given (Some text ∷ others) = suc (count_given others)
 -- the argument that the command requires besides the instance
 abbrev pub wanted_by : Name → Text
 wanted_by by.Check = codes "solution"
+wanted_by by.Compare = codes "solution"
 wanted_by by.Week = codes "solution"
 wanted_by by.Page = codes "solution"
 wanted_by by.Run = codes "script"
@@ -71,6 +76,7 @@ wanted_by by.Desk = codes "seat"
 wanted_by by.Journal = codes "minutes"
 wanted_by by.List = codes "journal"
 wanted_by by.Mend = codes "solution"
+wanted_by by.Where = codes "word"
 
 -- the matches contain the instance and this argument
 pub record HasFiles (id : Text) (rows : List Row) : Type 0 where
@@ -78,14 +84,22 @@ pub record HasFiles (id : Text) (rows : List Row) : Type 0 where
   pub other : IsSome (first_of id rows)
 
 -- the matches of `check` say whether each of its options without a value is given
-pub record HasFlags (rows : List Row) : Type 0 where
+pub record HasCheckFlags (rows : List Row) : Type 0 where
   pub json : IsOnOrOff (one_of (codes "json") rows)
+  pub name : IsOnOrOff (one_of (codes "name") rows)
   pub explain : IsOnOrOff (one_of (codes "explain") rows)
   pub strict : IsOnOrOff (one_of (codes "strict") rows)
 
--- the same for `check`; other commands have no such options
+-- the same for `compare`
+pub record HasCompareFlags (rows : List Row) : Type 0 where
+  pub csv : IsOnOrOff (one_of (codes "csv") rows)
+  pub json : IsOnOrOff (one_of (codes "json") rows)
+  pub strict : IsOnOrOff (one_of (codes "strict") rows)
+
+-- the same for these two; other commands have no such options
 abbrev pub HasFlagsOf : Name → List Row → Type 0
-HasFlagsOf by.Check rows = HasFlags rows
+HasFlagsOf by.Check rows = HasCheckFlags rows
+HasFlagsOf by.Compare rows = HasCompareFlags rows
 HasFlagsOf _ rows = Unit {0}
 
 -- the matches of the command of this name contain what it needs
@@ -102,16 +116,34 @@ IsMatched (Some (name, rows)) = IsWhole name rows
 
 -- ---- the job
 
+-- the form of a report, by whether JSON and the name of the file are asked for
+abbrev pub report_form : Bool → Bool → ReportForm
+report_form false name = report.Text
+report_form true false = report.Json
+report_form true true = report.NamedJson
+
+-- the form of a comparison, by whether JSON and CSV are asked for
+abbrev pub table_form : Bool → Bool → TableForm
+table_form true csv = table.Json
+table_form false true = table.Csv
+table_form false false = table.Aligned
+
+-- whether the option is given
+abbrev pub set_in : List Row → Text → Bool
+set_in rows id = is_on (one_of id rows)
+
 -- the command of this name, with these matches, shows a solution this way
 abbrev pub IsShowingBy : Text → List Row → Showing → Type 0
-IsShowingBy name rows (Report json explain strict) = (name ≡ codes "check")
-    × IsSet rows (codes "json") json × IsSet rows (codes "explain") explain × IsSet rows (codes "strict") strict
+IsShowingBy name rows (Report form explain strict) = (name ≡ codes "check")
+    × (form ≡ report_form (set_in rows (codes "json")) (set_in rows (codes "name"))) × IsSet rows (codes "explain") explain × IsSet rows (codes "strict") strict
 IsShowingBy name rows (Week whose) = (name ≡ codes "week") × (choices rows ≡ choices_of whose)
 IsShowingBy name rows (Page days) = (name ≡ codes "page") × MayHave rows (codes "days") days
 
 -- the task is that of the command of this name, with these matches
 abbrev pub IsTaskBy : Text → List Row → Task → Type 0
 IsTaskBy name rows (Show solution showing) = IsShowingBy name rows showing × Has rows (codes "solution") solution
+IsTaskBy name rows (Compare solutions form strict) = (name ≡ codes "compare") × HasAll rows (codes "solution") solutions.items
+    × (form ≡ table_form (set_in rows (codes "json")) (set_in rows (codes "csv"))) × IsSet rows (codes "strict") strict
 IsTaskBy name rows (Run script start journal) = (name ≡ codes "run") × Has rows (codes "script") script
     × MayHave rows (codes "start") start × MayHave rows (codes "journal") journal
 IsTaskBy name rows (Audit journal start) = (name ≡ codes "audit") × Has rows (codes "journal") journal × MayHave rows (codes "start") start
@@ -121,6 +153,7 @@ IsTaskBy name rows (Desk seats start minutes) = (name ≡ codes "desk") × HasAl
 IsTaskBy name rows (Journal minutes) = (name ≡ codes "journal") × Has rows (codes "minutes") minutes
 IsTaskBy name rows (Listing journal start) = (name ≡ codes "list") × Has rows (codes "journal") journal × MayHave rows (codes "start") start
 IsTaskBy name rows (Mending solution) = (name ≡ codes "mend") × Has rows (codes "solution") solution
+IsTaskBy name rows (Where word) = (name ≡ codes "where") × Has rows (codes "word") word
 
 -- the job is that of the command of this name, with these matches
 abbrev pub IsJobBy : Text → List Row → Job → Type 0
@@ -135,8 +168,9 @@ IsJobIn (Some (name, rows)) job = IsJobBy name rows job
 abbrev pub IsJobOf : List Text → Job → Type 0
 IsJobOf words job = IsJobIn (subcommand_of timedesk words) job
 
--- a crew has at least one script, and a desk at least one seat
+-- a comparison has at least one solution, a crew at least one script, and a desk at least one seat
 abbrev pub HasScripts : Task → Type 0
+HasScripts (Compare solutions form strict) = 1 ≤ length solutions.items
 HasScripts (Crew scripts) = 1 ≤ length scripts.items
 HasScripts (Desk seats start minutes) = 1 ≤ length seats.items
 HasScripts task = Unit {0}

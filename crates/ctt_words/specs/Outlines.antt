@@ -6,7 +6,7 @@ use Rattle.ctt_words.specs.CommandLine.{command_of, flag, required_word, require
 use Rattle.ctt_words.specs.declared.outline.Argument.{Argument}
 use Rattle.ctt_words.specs.declared.outline.Argument.TheVariants.{Flag, Valued, Word, Words}
 use Rattle.ctt_words.specs.declared.outline.Name.{Name}
-use Rattle.ctt_words.specs.declared.outline.Name.TheVariants.{Audit, Check, Crew, Desk, Journal, List as Listing, Mend, Page, Run, Week}
+use Rattle.ctt_words.specs.declared.outline.Name.TheVariants.{Audit, Check, Compare, Crew, Desk, Journal, List as Listing, Mend, Page, Run, Week, Where}
 use Rattle.ctt_words.specs.declared.outline.Outline.{Outline}
 
 -- the `clap` rule for an argument of a table
@@ -23,6 +23,7 @@ app_by outline = command_of outline.name.now (map rule_by outline.arguments.now)
 -- the name of each command
 abbrev pub name_of : Name → Text
 name_of Check = codes "check"
+name_of Compare = codes "compare"
 name_of Week = codes "week"
 name_of Page = codes "page"
 name_of Run = codes "run"
@@ -32,6 +33,7 @@ name_of Desk = codes "desk"
 name_of Journal = codes "journal"
 name_of Listing = codes "list"
 name_of Mend = codes "mend"
+name_of Where = codes "where"
 
 -- a command with its name
 abbrev pub with_name : Name → Text × Name
@@ -47,7 +49,7 @@ named_in known name = option_map (λ (one : Text × Name). one.1) (find (λ (one
 
 -- all commands, in the order of the help
 abbrev pub commands : List Name
-commands = Check ∷ Week ∷ Page ∷ Run ∷ Audit ∷ Crew ∷ Desk ∷ Journal ∷ Listing ∷ Mend ∷ []
+commands = Check ∷ Compare ∷ Week ∷ Page ∷ Run ∷ Audit ∷ Crew ∷ Desk ∷ Journal ∷ Listing ∷ Mend ∷ Where ∷ []
 
 -- the command of this name
 abbrev pub named : Text → Option Name

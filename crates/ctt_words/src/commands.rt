@@ -50,12 +50,33 @@ Example: timedesk check comp07.ctt comp07.sol --explain",
             BARRED,
             Argument::Flag("json", "Print the report as JSON"),
             Argument::Flag(
+                "name",
+                "Begin the JSON with the name of the solution's file",
+            ),
+            Argument::Flag(
                 "explain",
                 "Print after the report each thing that breaks a rule or costs points",
             ),
             Argument::Flag(
                 "strict",
                 "End with status 4 if the solution is not lawful, 5 if it is lawful but not complete",
+            ),
+        ],
+    },
+    Outline {
+        command: Name::Compare,
+        name: "compare",
+        about: "Print a row for each solution, with what it breaks and what it costs",
+        example: "Example: timedesk compare comp07.ctt monday.sol tuesday.sol --csv",
+        arguments: &[
+            INSTANCE,
+            Argument::Words("solution", "SOLUTION", "The files of the solutions"),
+            BARRED,
+            Argument::Flag("csv", "Print the rows as CSV"),
+            Argument::Flag("json", "Print the rows as a JSON array"),
+            Argument::Flag(
+                "strict",
+                "End with status 4 if a solution is not lawful, 5 if all are lawful but one is not complete",
             ),
         ],
     },
@@ -179,12 +200,27 @@ Example: timedesk check comp07.ctt comp07.sol --explain",
         example: "Example: timedesk mend comp07.ctt comp07.sol >mended.sol",
         arguments: &[INSTANCE, SOLUTION, BARRED],
     },
+    Outline {
+        command: Name::Where,
+        name: "where",
+        about: "Print the line and the column of a word of a file, and the line",
+        example: "Example: timedesk where comp07.ctt 14",
+        arguments: &[
+            Argument::Word("instance", "FILE", "The file"),
+            Argument::Word(
+                "word",
+                "WORD",
+                "The number of the word, from 1, as faults count them",
+            ),
+        ],
+    },
 ];
 
 /// The text below the help: an example of each command, and the exit statuses.
 const BELOW_HELP: &str = "\
 Examples:
   timedesk check comp07.ctt comp07.sol --explain
+  timedesk compare comp07.ctt monday.sol tuesday.sol --csv
   timedesk week comp07.ctt comp07.sol --teacher t067
   timedesk page comp07.ctt comp07.sol >comp07.html
   timedesk run comp07.ctt planners.txt --start comp07.sol --journal monday.journal
@@ -194,13 +230,14 @@ Examples:
   timedesk journal comp07.ctt monday.minutes >monday.journal
   timedesk list comp07.ctt monday.journal --start comp07.sol >tuesday.sol
   timedesk mend comp07.ctt comp07.sol >mended.sol
+  timedesk where comp07.ctt 14
 
 Status: 0 if it is done, also if a report says that a solution is unlawful;
 1 if the content of a file is refused, a name is not in it, or an audit does not agree; 2 if the
 words are refused; 3 if a file cannot be read, is too long, minutes exist, or output or memory fails;
 with --strict 4 if the solution is not lawful, and 5 if it is lawful but not complete.
 A refused file is one line, as in 'timedesk: instance I2 14': docs/FORMATS.md has
-each fault by its number, and how to see the word that it names.";
+each fault by its number, and 'timedesk where' shows the word that it names.";
 
 /// Returns the commands of the program, in the order of the help.
 fn outlines() -> &'static [Outline]

@@ -2,26 +2,65 @@
 
 ghost use Rattle.std.specs.Prelude.{◌≡◌, ◌≤◌, codes, IfOk};
 ghost use Rattle.clap.specs.Words.{found_of, rows_of};
-ghost use Rattle.ctt_words.specs.Jobs.{HasFiles, HasFlags, IsTaskBy, choices, choices_of, count_given};
+ghost use Rattle.ctt_words.specs.Jobs.{HasCheckFlags, HasCompareFlags, HasFiles, IsTaskBy, choices, choices_of, count_given, report_form, table_form};
 
 use crate::arguments::{is_set, option, text, texts};
-use crate::job::{Showing, Task, Whose};
+use crate::job::{ReportForm, Showing, TableForm, Task, Whose};
 use clap::ArgMatches;
 use std::alloc::{AllocError, Global};
+
+/// Returns the form of a report, by whether JSON and the name of the file are asked for.
+fn report_form(json: bool, name: bool) -> ReportForm
+    ensures { result ≡ report_form json name }
+{
+    if !json {
+        ReportForm::Text
+    } else if name {
+        ReportForm::NamedJson
+    } else {
+        ReportForm::Json
+    }
+}
+
+/// Returns the form of a comparison, by whether JSON and CSV are asked for. JSON comes first.
+fn table_form(json: bool, csv: bool) -> TableForm
+    ensures { result ≡ table_form json csv }
+{
+    if json {
+        TableForm::Json
+    } else if csv {
+        TableForm::Csv
+    } else {
+        TableForm::Aligned
+    }
+}
 
 /// Builds the task of the command `check` from its matches.
 pub(crate) fn check_task(alloc: Global, given: &ArgMatches<'_>) -> Result<Task, AllocError>
     requires files { HasFiles (codes "solution") (rows_of (found_of given.now)) }
-    requires flags { HasFlags (rows_of (found_of given.now)) }
+    requires flags { HasCheckFlags (rows_of (found_of given.now)) }
     ensures { IfOk result (IsTaskBy (codes "check") (rows_of (found_of given.now))) }
 {
     Ok(Task::Show {
         solution: text(alloc, given, "solution")?,
         showing: Showing::Report {
-            json: is_set(given, "json"),
+            form: report_form(is_set(given, "json"), is_set(given, "name")),
             explain: is_set(given, "explain"),
             strict: is_set(given, "strict"),
         },
+    })
+}
+
+/// Builds the task of the command `compare` from its matches.
+pub(crate) fn compare_task(alloc: Global, given: &ArgMatches<'_>) -> Result<Task, AllocError>
+    requires files { HasFiles (codes "solution") (rows_of (found_of given.now)) }
+    requires flags { HasCompareFlags (rows_of (found_of given.now)) }
+    ensures { IfOk result (IsTaskBy (codes "compare") (rows_of (found_of given.now))) }
+{
+    Ok(Task::Compare {
+        solutions: texts(alloc, given, "solution")?,
+        form: table_form(is_set(given, "json"), is_set(given, "csv")),
+        strict: is_set(given, "strict"),
     })
 }
 
@@ -141,5 +180,15 @@ pub(crate) fn mend_task(alloc: Global, given: &ArgMatches<'_>) -> Result<Task, A
 {
     Ok(Task::Mending {
         solution: text(alloc, given, "solution")?,
+    })
+}
+
+/// Builds the task of the command `where` from its matches.
+pub(crate) fn where_task(alloc: Global, given: &ArgMatches<'_>) -> Result<Task, AllocError>
+    requires { HasFiles (codes "word") (rows_of (found_of given.now)) }
+    ensures { IfOk result (IsTaskBy (codes "where") (rows_of (found_of given.now))) }
+{
+    Ok(Task::Where {
+        word: text(alloc, given, "word")?,
     })
 }

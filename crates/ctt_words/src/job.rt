@@ -16,13 +16,35 @@ pub enum Whose {
     Room(String),
 }
 
+/// The form of a report.
+#[derive(Clone, Copy, PartialEq, Eq)]
+pub enum ReportForm {
+    /// Lines of text.
+    Text,
+    /// A JSON object.
+    Json,
+    /// A JSON object that begins with the name of the solution's file.
+    NamedJson,
+}
+
+/// The form of a comparison.
+#[derive(Clone, Copy, PartialEq, Eq)]
+pub enum TableForm {
+    /// A table with aligned columns.
+    Aligned,
+    /// Comma-separated values.
+    Csv,
+    /// A JSON array.
+    Json,
+}
+
 /// How a solution is shown.
 #[derive(Drop)]
 pub enum Showing {
-    /// As a report, in text or in JSON. `explain` adds the findings, and `strict` makes the exit
-    /// status say whether the solution is lawful and complete.
+    /// As a report. `explain` adds the findings, and `strict` makes the exit status say whether the
+    /// solution is lawful and complete.
     Report {
-        json: bool,
+        form: ReportForm,
         explain: bool,
         strict: bool,
     },
@@ -35,7 +57,7 @@ pub enum Showing {
 /// What the program is asked to do. Files are given by name.
 #[derive(Drop)]
 pub struct Job {
-    /// The file of the instance.
+    /// The file of the instance, or the file that `where` looks into.
     pub instance: String,
     /// The file of the rooms that are barred for courses, if there is one.
     pub barred: Option<String>,
@@ -50,6 +72,13 @@ pub enum Task {
     Show {
         solution: String,
         showing: Showing,
+    },
+    /// To compare solutions. `strict` makes the exit status say whether all of them are lawful and
+    /// complete.
+    Compare {
+        solutions: Vec<String>,
+        form: TableForm,
+        strict: bool,
     },
     /// To run a script on a desk that opens with a solution or empty, and to store the journal if a
     /// file is given for it.
@@ -86,6 +115,10 @@ pub enum Task {
     /// To print a solution without the lectures that cannot be placed.
     Mending {
         solution: String,
+    },
+    /// To find the word of this number in a file.
+    Where {
+        word: String,
     },
 }
 

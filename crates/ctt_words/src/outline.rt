@@ -6,7 +6,7 @@ ghost use Rattle.ctt_words.specs.Outlines.{app_by, named_in, names_by, rule_by};
 ghost use Rattle.ctt_words.specs.CommandLine.{IsCommand, bare, with_commands};
 
 use clap::{Arg, ArgAction, Command};
-use ctt_text::let_go;
+use ctt_problem::let_go;
 use std::alloc::{AllocError, Global};
 
 /// An argument of a command: its name, what the help calls its value if it has one, and its help.
@@ -25,6 +25,7 @@ pub(crate) enum Argument {
 #[derive(Clone, Copy)]
 pub(crate) enum Name {
     Check,
+    Compare,
     Week,
     Page,
     Run,
@@ -34,6 +35,7 @@ pub(crate) enum Name {
     Journal,
     List,
     Mend,
+    Where,
 }
 
 /// A command with its texts for the help and its arguments.

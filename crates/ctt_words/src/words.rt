@@ -7,8 +7,8 @@ ghost use Rattle.ctt_words.specs.Jobs.{AsksForSeveral, IsFaultOf, IsJobBy, IsJob
 use crate::arguments::{count, option, text};
 use crate::commands::{command_line, command_named};
 use crate::found::{
-    audit_task, check_task, crew_task, desk_task, journal_task, list_task, mend_task, page_task,
-    run_task, week_task,
+    audit_task, check_task, compare_task, crew_task, desk_task, journal_task, list_task, mend_task,
+    page_task, run_task, week_task, where_task,
 };
 use crate::job::{Job, Task, WordsFault};
 use crate::outline::Name;
@@ -55,6 +55,7 @@ fn task_by(alloc: Global, name: &str, given: &ArgMatches<'_>) -> Result<Task, Al
 {
     match command_named(name) {
         Some(Name::Check) => check_task(alloc, given),
+        Some(Name::Compare) => compare_task(alloc, given),
         Some(Name::Week) => week_task(alloc, given),
         Some(Name::Page) => page_task(alloc, given),
         Some(Name::Run) => run_task(alloc, given),
@@ -64,6 +65,7 @@ fn task_by(alloc: Global, name: &str, given: &ArgMatches<'_>) -> Result<Task, Al
         Some(Name::Journal) => journal_task(alloc, given),
         Some(Name::List) => list_task(alloc, given),
         Some(Name::Mend) => mend_task(alloc, given),
+        Some(Name::Where) => where_task(alloc, given),
         None => unreachable!(),
     }
 }

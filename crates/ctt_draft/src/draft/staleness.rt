@@ -9,7 +9,7 @@ use crate::draft::Draft;
 use crate::laws;
 use ctt_board::Sheet;
 use ctt_edits::Row;
-use ctt_text::NoMemory;
+use ctt_problem::NoMemory;
 
 impl<'i, S: Sheet<'i>> Draft<'i, S> {
     /// Returns the first row, courses before slots, that the calls read and that differs between

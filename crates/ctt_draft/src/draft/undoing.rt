@@ -1,7 +1,7 @@
 //! Finding the edit that undoes a draft's last accepted edit.
 
 ghost use Rattle.std.specs.Prelude.{◌≡◌, ◌<◌, ◌≤◌, ◌++◌, ◌∷◌, [], length, take, IfOk, IfSome, OnOk};
-ghost use Rattle.ctt_text.specs.Problem.{course_count, slot_count};
+ghost use Rattle.ctt_problem.specs.Problem.{course_count, slot_count};
 ghost use Rattle.ctt_board.specs.Changes.{apply_all, room_at, room_by};
 ghost use Rattle.ctt_edits.specs.Edits.{EditFits};
 ghost use Rattle.ctt_draft.specs.Drafts.{calls_of, changes};
@@ -11,7 +11,7 @@ ghost use Rattle.ctt_draft.specs.Undoing.{inverse, is_given, stacked, top, undoi
 use crate::draft::Draft;
 use ctt_board::{Cell, Change, Rooms, Sheet, Timetable};
 use ctt_edits::Edit;
-use ctt_text::{CourseNo, NoMemory, RoomNo, SlotNo};
+use ctt_problem::{CourseNo, NoMemory, RoomNo, SlotNo};
 
 /// Returns whether an edit equals the top of the stack.
 fn is_top(stack: &[Edit], edit: &Edit) -> bool

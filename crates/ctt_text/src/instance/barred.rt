@@ -6,19 +6,18 @@ ghost use Rattle.std.specs.Str.Lossy.{utf8_valid_len};
 ghost use Rattle.ctt_text.specs.Words.{words};
 ghost use Rattle.ctt_text.specs.Forms.{times};
 ghost use Rattle.ctt_text.specs.Reading.{Gives};
-ghost use Rattle.ctt_text.specs.Problem.{course_count, room_count};
-ghost use Rattle.ctt_text.specs.BitRows.{marks_of, HasSize};
+ghost use Rattle.ctt_problem.specs.Problem.{course_count, room_count};
+ghost use Rattle.ctt_problem.specs.BitRows.{marks_of, HasSize};
 ghost use Rattle.ctt_text.specs.BarredPlaces.{GivesBarred, reads_barred, wants_memory, pair_count, barred_pair, none_barred, barred_rooms};
 ghost use Rattle.ctt_text.specs.BarredText.{BarSpells, BarBreaksAt};
 ghost use Rattle.ctt_text.specs.BarredLaws.{barred_answer, IsBarredCauseOf};
 ghost use Rattle.ctt_text.specs.declared.fault.BarredFault.{BarredFault};
 ghost use Rattle.ctt_text.specs.declared.fault.BarredFault.TheVariants.{NotText, NoMemory};
 
-use crate::bit_rows::BitRows;
 use crate::fault::BarredFault;
-use crate::instance::Instance;
 use crate::places::{next_course, next_fixed, next_number, next_room};
 use crate::reader::Reader;
+use ctt_problem::{BitRows, Instance};
 use std::alloc::Global;
 
 /// Parses the number of pairs, at most `greatest`.
@@ -37,7 +36,7 @@ fn read_count(reader: &mut Reader, greatest: u32) -> Result<u32, BarredFault>
 }
 
 /// Parses one pair, and marks it in the table.
-#[tactic(auto, using(crate::proofs::Steps::read_bind, crate::proofs::Steps::read_done, crate::proofs::BitRowLemmas::marks_set), unfolding(crate::specs::BarredPlaces::barred_pair))]
+#[tactic(auto, using(crate::proofs::Steps::read_bind, crate::proofs::Steps::read_done, ctt_problem::proofs::BitRowLemmas::marks_set), unfolding(crate::specs::BarredPlaces::barred_pair))]
 fn read_pair(
     reader: &mut Reader,
     instance: &Instance,
@@ -73,7 +72,7 @@ fn read_pairs(
 }
 
 /// Parses `count` pairs into a new table.
-#[tactic(auto, using(crate::proofs::BitRowLemmas::marks_none))]
+#[tactic(auto, using(ctt_problem::proofs::BitRowLemmas::marks_none))]
 fn read_table(
     alloc: Global,
     reader: &mut Reader,

@@ -6,13 +6,11 @@ ghost use Rattle.ctt_text.specs.declared.fault.ReadFault.TheVariants.{Expected};
 ghost use Rattle.ctt_text.specs.Forms.{times};
 ghost use Rattle.ctt_text.specs.InstancePlaces.{GivesRead, reads, course, no_courses};
 
-use crate::course_facts::CourseFacts;
 use crate::fault::ReadFault;
-use crate::ids::TeacherNo;
 use crate::instance::header::Header;
 use crate::instance::places::{read_any, read_fixed, read_new_name, read_number};
-use crate::names::Names;
 use crate::reader::Reader;
+use ctt_problem::{CourseFacts, Names, TeacherNo};
 use std::alloc::Global;
 use std::marker::Model;
 

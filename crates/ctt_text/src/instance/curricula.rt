@@ -7,13 +7,12 @@ ghost use Rattle.ctt_text.specs.Forms.{times};
 ghost use Rattle.ctt_text.specs.InstancePlaces.{GivesRead, reads, curriculum, no_curricula};
 
 use crate::fault::ReadFault;
-use crate::ids::CourseNo;
 use crate::instance::courses::CourseSection;
 use crate::instance::header::Header;
 use crate::instance::members::read_members;
 use crate::instance::places::{read_fixed, read_new_name, read_number};
-use crate::names::Names;
 use crate::reader::Reader;
+use ctt_problem::{CourseNo, Names};
 use std::alloc::Global;
 use std::marker::Model;
 

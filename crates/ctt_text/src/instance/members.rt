@@ -2,14 +2,13 @@
 
 ghost use Rattle.std.specs.Prelude.{◌≡◌, [], ◌≤◌, ◌<◌, ◌==◌, length, OnOk};
 ghost use Rattle.ctt_text.specs.Forms.{times};
-ghost use Rattle.ctt_text.specs.InstancePlaces.{GivesRead, reads, member, with_new};
+ghost use Rattle.ctt_text.specs.InstancePlaces.{GivesRead, reads, member};
+ghost use Rattle.ctt_problem.specs.Lists.{with_new};
 
 use crate::fault::ReadFault;
-use crate::ids::CourseNo;
 use crate::instance::places::read_course;
-use crate::marks::Marks;
-use crate::names::Names;
 use crate::reader::Reader;
+use ctt_problem::{CourseNo, Marks, Names};
 use std::alloc::{AllocError, Global};
 use std::marker::Model;
 
@@ -23,7 +22,7 @@ struct Members {
 impl Model for Members {
     ghost use Rattle.std.specs.Prelude.{◌≡◌, ℕ, List, ◌==◌};
     ghost use Rattle.std.specs.List.{list_any};
-    ghost use Rattle.ctt_text.specs.Marks.{is_marked};
+    ghost use Rattle.ctt_problem.specs.Marks.{is_marked};
 
     ghost Value = { List ℕ };
 

@@ -2,14 +2,14 @@
 
 ghost use Rattle.std.specs.Prelude.{◌≡◌, ◌<◌, ◌≤◌, ◌*◌, length, IfOk, false};
 ghost use Rattle.ctt_text.specs.Places.{any, fixed, number, new_name, known_name, after};
-ghost use Rattle.ctt_text.specs.Problem.{is_among};
+ghost use Rattle.ctt_problem.specs.Problem.{is_among};
 ghost use Rattle.ctt_text.specs.InstancePlaces.{GivesRead, reads, number_up_to, day_below, period_below, period_count};
 ghost use Rattle.ctt_text.specs.declared.fault.ReadFault.TheVariants.{Expected, BadNumber, RepeatedName, UnknownCourse};
 
 use crate::fault::ReadFault;
-use crate::names::Names;
 use crate::places::{next_day_below, next_fixed, next_number, next_period_below, next_word};
 use crate::reader::Reader;
+use ctt_problem::Names;
 
 /// Parses any word.
 #[tactic(auto, using(crate::proofs::Steps::read_one), unfolding(crate::specs::Places::any))]

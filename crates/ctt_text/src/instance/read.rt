@@ -1,17 +1,13 @@
 //! Parsing an instance.
 
-ghost use Rattle.std.specs.Prelude.{◌≡◌, ◌≤◌, ◌*◌, ◌⊎◌, ℕ, IfOk, IfErr, OnOk, Ok, Err, map, length};
+ghost use Rattle.std.specs.Prelude.{◌≡◌, ◌≤◌, ◌*◌, ◌⊎◌, ℕ, IfOk, IfErr, OnOk, Ok, Err, length};
 ghost use Rattle.std.specs.Str.{IsUtf8};
-ghost use Rattle.std.specs.String.{string_bytes};
 ghost use Rattle.std.specs.Str.Lossy.{utf8_valid_len};
 ghost use Rattle.ctt_text.specs.Words.{words};
 ghost use Rattle.ctt_text.specs.Reading.{Gives};
-ghost use Rattle.ctt_text.specs.Problem.{Problem, IsProblem, course_count, room_count, slot_count};
-ghost use Rattle.ctt_text.specs.BitRows.{marks_of, HasSize};
-ghost use Rattle.ctt_text.specs.Named.{IsNamed};
-ghost use Rattle.ctt_text.specs.Instance.{AreClashes};
-ghost use Rattle.ctt_text.specs.Belonging.{AreCurricula};
-ghost use Rattle.ctt_text.specs.Taught.{AreTaught};
+ghost use Rattle.ctt_problem.specs.Problem.{Problem, IsProblem};
+ghost use Rattle.ctt_problem.specs.BitRows.{marks_of, HasSize};
+ghost use Rattle.ctt_problem.specs.Named.{IsNamed};
 ghost use Rattle.ctt_text.specs.InstancePlaces.{GivesRead, reads, wants_memory, instance};
 ghost use Rattle.ctt_text.specs.LastSections.{last_sections};
 ghost use Rattle.ctt_text.specs.InstanceText.{Spells, InstanceBreaksAt};
@@ -19,21 +15,15 @@ ghost use Rattle.ctt_text.specs.InstanceLaws.{answer, IsCauseOf};
 ghost use Rattle.ctt_text.specs.declared.fault.ReadFault.{ReadFault};
 ghost use Rattle.ctt_text.specs.declared.fault.ReadFault.TheVariants.{NoMemory, NotText};
 
-use crate::bit_rows::BitRows;
 use crate::fault::ReadFault;
-use crate::ids::{CourseNo, CurriculumNo};
-use crate::instance::Instance;
-use crate::instance::belonging::belonging;
-use crate::instance::clashes::clash_rows;
 use crate::instance::courses::{CourseSection, read_course_section};
 use crate::instance::curricula::{CurriculumSection, read_curriculum_section};
 use crate::instance::header::{Header, read_header};
 use crate::instance::places::read_fixed;
 use crate::instance::rooms::{RoomSection, read_room_section};
-use crate::instance::taught::taught;
 use crate::instance::unavailability::read_unavailability_section;
-use crate::letting::let_go;
 use crate::reader::Reader;
+use ctt_problem::{BitRows, Instance, Parts, let_go};
 use std::alloc::{AllocError, Global};
 use std::marker::Model;
 
@@ -48,10 +38,10 @@ struct Sections<'a> {
 }
 
 impl<'a> Model for Sections<'a> {
-    ghost use Rattle.ctt_text.specs.Problem.{Problem};
+    ghost use Rattle.ctt_problem.specs.Problem.{Problem};
     ghost use Rattle.std.specs.Prelude.{◌*◌, length};
     ghost use Rattle.ctt_text.specs.InstancePlaces.{problem_of};
-    ghost use Rattle.ctt_text.specs.BitRows.{marks_of, HasSize};
+    ghost use Rattle.ctt_problem.specs.BitRows.{marks_of, HasSize};
 
     ghost Value = { Problem };
 
@@ -59,16 +49,6 @@ impl<'a> Model for Sections<'a> {
 
     ghost invariant = { λ s.
         HasSize s.unavailable (length s.courses.names) (s.header.days * s.header.periods) };
-}
-
-/// The fields of an instance that are not moved out of its sections.
-#[derive(Drop)]
-struct Tables {
-    name: String,
-    barred: BitRows,
-    clashes: BitRows,
-    belonging: Vec<Vec<CurriculumNo>>,
-    taught: Vec<Vec<CourseNo>>,
 }
 
 /// The sections after the rooms.
@@ -135,17 +115,11 @@ fn read_sections<'a>(alloc: Global, reader: &mut Reader<'a>) -> Result<Sections<
 }
 
 impl<'a> Sections<'a> {
-    /// Builds the instance from its sections and these tables.
-    fn with_tables(self, tables: Tables) -> Instance
+    /// Builds the instance. Fails if memory runs out.
+    fn into_instance(self, alloc: Global) -> Result<Instance, AllocError>
         requires problem { IsProblem self }
         requires named { IsNamed self }
-        requires name { string_bytes tables.name ≡ self.name }
-        requires barred { HasSize tables.barred (course_count self) (room_count self) }
-        requires none_barred { marks_of tables.barred ≡ self.barred }
-        requires clashes { AreClashes self tables.clashes }
-        requires belonging { AreCurricula self (map (λ q. q.items) tables.belonging.items) }
-        requires taught { AreTaught self (map (λ q. q.items) tables.taught.items) }
-        ensures { result ≡ self.entry }
+        ensures { IfOk result (λ i. i ≡ self.entry) }
     {
         let Sections {
             header,
@@ -154,8 +128,8 @@ impl<'a> Sections<'a> {
             curricula,
             unavailable,
         } = self;
-        Instance {
-            name: tables.name,
+        let parts = Parts {
+            name: header.name,
             course_names: courses.names,
             courses: courses.facts,
             teacher_names: courses.teachers,
@@ -166,95 +140,8 @@ impl<'a> Sections<'a> {
             days: header.days as u16,
             periods: header.periods as u16,
             unavailable,
-            barred: tables.barred,
-            clashes: tables.clashes,
-            belonging: tables.belonging,
-            taught: tables.taught,
-        }
-    }
-
-    /// Returns a table in which no room is barred.
-    #[tactic(auto, using(crate::proofs::BitRowLemmas::marks_none))]
-    fn barred(&self, alloc: Global) -> Result<BitRows, AllocError>
-        requires problem { IsProblem self.now }
-        ensures size { IfOk result (λ table.
-            HasSize table (course_count self.now) (room_count self.now)) }
-        ensures none { IfOk result (λ table. marks_of table ≡ self.now.barred) }
-    {
-        let table = BitRows::new(alloc, self.courses.facts.len(), self.rooms.capacities.len())?;
-        Ok(table)
-    }
-
-    /// Returns for each course the courses that it clashes with.
-    fn clashes(&self, alloc: Global, taught: &[Vec<CourseNo>]) -> Result<BitRows, AllocError>
-        requires problem { IsProblem self.now }
-        requires taught { AreTaught self.now (map (λ q. q.items) taught.now) }
-        ensures { IfOk result (AreClashes self.now) }
-    {
-        let courses = self.courses.facts.len();
-        let rows = clash_rows(alloc, courses, taught, &self.curricula.members)?;
-        Ok(rows)
-    }
-
-    /// Returns the curricula of each course.
-    fn belonging(&self, alloc: Global) -> Result<Vec<Vec<CurriculumNo>>, AllocError>
-        requires problem { IsProblem self.now }
-        ensures { IfOk result (λ lists. AreCurricula self.now (map (λ q. q.items) lists.items)) }
-    {
-        let lists = belonging(alloc, &self.courses.facts, &self.curricula.members)?;
-        Ok(lists)
-    }
-
-    /// Returns the courses of each teacher.
-    fn taught(&self, alloc: Global) -> Result<Vec<Vec<CourseNo>>, AllocError>
-        requires problem { IsProblem self.now }
-        ensures { IfOk result (λ lists. AreTaught self.now (map (λ q. q.items) lists.items)) }
-    {
-        let teachers = self.courses.teachers.len();
-        let lists = taught(alloc, &self.courses.facts, teachers)?;
-        Ok(lists)
-    }
-
-    /// Builds the fields that are not moved out of the sections. The sections are borrowed, so that
-    /// they are not dropped here if memory runs out.
-    fn tables(&self, alloc: Global) -> Result<Tables, AllocError>
-        requires problem { IsProblem self.now }
-        ensures name { IfOk result (λ t. string_bytes t.name ≡ self.now.name) }
-        ensures barred { IfOk result (λ t.
-            HasSize t.barred (course_count self.now) (room_count self.now)) }
-        ensures none_barred { IfOk result (λ t. marks_of t.barred ≡ self.now.barred) }
-        ensures clashes { IfOk result (λ t. AreClashes self.now t.clashes) }
-        ensures belonging { IfOk result (λ t.
-            AreCurricula self.now (map (λ q. q.items) t.belonging.items)) }
-        ensures taught { IfOk result (λ t. AreTaught self.now (map (λ q. q.items) t.taught.items)) }
-    {
-        let barred = self.barred(alloc)?;
-        let belonging = self.belonging(alloc)?;
-        let taught = self.taught(alloc)?;
-        let clashes = self.clashes(alloc, &taught)?;
-        let name = String::from_str(alloc, self.header.name)?;
-        Ok(Tables {
-            name,
-            barred,
-            clashes,
-            belonging,
-            taught,
-        })
-    }
-
-    /// Builds the instance. Fails if memory runs out.
-    fn into_instance(self, alloc: Global) -> Result<Instance, AllocError>
-        requires problem { IsProblem self }
-        requires named { IsNamed self }
-        ensures { IfOk result (λ i. i ≡ self.entry) }
-    {
-        match self.tables(alloc) {
-            Ok(tables) => Ok(self.with_tables(tables)),
-            Err(error) => {
-                let_go(self);
-                Err(error)
-            }
-        }
+        };
+        Instance::new(alloc, parts)
     }
 }
 

@@ -3,21 +3,20 @@
 ghost use Rattle.std.specs.Prelude.{◌≡◌, ◌<◌, ◌≤◌, ◌+◌, ◌*◌, length, codes, IfOk, Ok};
 ghost use Rattle.ctt_text.specs.Places.{after};
 ghost use Rattle.ctt_text.specs.declared.fault.ReadFault.TheVariants.{Expected};
-ghost use Rattle.ctt_text.specs.BitRows.{marks_of, HasSize};
+ghost use Rattle.ctt_problem.specs.BitRows.{marks_of, HasSize};
 ghost use Rattle.ctt_text.specs.Forms.{times};
 ghost use Rattle.ctt_text.specs.InstancePlaces.{GivesRead, reads, unavailability, all_available};
 
-use crate::bit_rows::BitRows;
 use crate::fault::ReadFault;
 use crate::instance::courses::CourseSection;
 use crate::instance::header::Header;
 use crate::instance::places::{read_course, read_day, read_fixed, read_period};
-use crate::names::Names;
 use crate::reader::Reader;
+use ctt_problem::{BitRows, Names};
 use std::alloc::Global;
 
 /// Parses one period in which a course is unavailable, and marks it in the table.
-#[tactic(auto, using(crate::proofs::Steps::read_bind, crate::proofs::Steps::read_done, crate::proofs::BitRowLemmas::marks_set), unfolding(crate::specs::InstancePlaces::unavailability))]
+#[tactic(auto, using(crate::proofs::Steps::read_bind, crate::proofs::Steps::read_done, ctt_problem::proofs::BitRowLemmas::marks_set), unfolding(crate::specs::InstancePlaces::unavailability))]
 fn read_one_period(
     reader: &mut Reader,
     courses: &Names,
@@ -61,7 +60,7 @@ fn read_periods(
 
 /// Parses the section: its heading, and as many periods in which a course is unavailable as the
 /// header states.
-#[tactic(auto, using(crate::proofs::Steps::read_bind, crate::proofs::BitRowLemmas::marks_none))]
+#[tactic(auto, using(crate::proofs::Steps::read_bind, ctt_problem::proofs::BitRowLemmas::marks_none))]
 pub(crate) fn read_unavailability_section(
     alloc: Global,
     reader: &mut Reader,

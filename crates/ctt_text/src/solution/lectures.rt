@@ -1,10 +1,9 @@
 //! The lectures of a solution while it is parsed.
 
 ghost use Rattle.std.specs.Prelude.{◌≡◌, [], false, OnOk, IfOk};
-ghost use Rattle.ctt_text.specs.Timetable.{has_lecture, with};
+ghost use Rattle.ctt_problem.specs.Timetable.{has_lecture, with};
 
-use crate::ids::{CourseNo, RoomNo, SlotNo};
-use crate::placed::Placed;
+use ctt_problem::{CourseNo, Placed, RoomNo, SlotNo};
 use std::alloc::{AllocError, Global};
 use std::collections::BTreeMap;
 use std::marker::Model;
@@ -17,7 +16,7 @@ pub(crate) struct Lectures {
 
 impl Model for Lectures {
     ghost use Rattle.std.specs.Prelude.{List, map};
-    ghost use Rattle.ctt_text.specs.declared.placed.Placed.{Placed};
+    ghost use Rattle.ctt_problem.specs.declared.placed.Placed.{Placed};
     ghost use Rattle.ctt_text.specs.Lectures.{lecture_of};
 
     ghost Value = { List Placed };

@@ -1,16 +1,15 @@
 //! Parsing the period of a lecture, whose slot must be free for the course.
 
 ghost use Rattle.std.specs.Prelude.{◌≡◌, ◌<◌, IfOk, false};
-ghost use Rattle.ctt_text.specs.Problem.{slot_count};
-ghost use Rattle.ctt_text.specs.Timetable.{has_lecture};
+ghost use Rattle.ctt_problem.specs.Problem.{slot_count};
+ghost use Rattle.ctt_problem.specs.Timetable.{has_lecture};
 ghost use Rattle.ctt_text.specs.SolutionPlaces.{GivesLectures, reads_lectures, free_slot};
 
 use crate::fault::SolutionFault;
-use crate::ids::{CourseNo, SlotNo};
-use crate::instance::Instance;
 use crate::places::next_number;
 use crate::reader::Reader;
 use crate::solution::lectures::Lectures;
+use ctt_problem::{CourseNo, Instance, SlotNo};
 
 /// Parses a period of the day, and returns its slot. The course must not have a lecture in it
 /// already.

@@ -5,21 +5,20 @@ ghost use Rattle.std.specs.Str.{IsUtf8};
 ghost use Rattle.std.specs.Str.Lossy.{utf8_valid_len};
 ghost use Rattle.ctt_text.specs.Words.{words};
 ghost use Rattle.ctt_text.specs.Reading.{Gives};
-ghost use Rattle.ctt_text.specs.Timetable.{IsTimetable};
+ghost use Rattle.ctt_problem.specs.Timetable.{IsTimetable};
 ghost use Rattle.ctt_text.specs.SolutionPlaces.{GivesLectures, reads_lectures, lacks_memory, entry, solution};
 ghost use Rattle.ctt_text.specs.SolutionText.{SolSpells, SolutionBreaksAt};
 ghost use Rattle.ctt_text.specs.SolutionLaws.{solution_answer, IsSolutionCauseOf};
-ghost use Rattle.ctt_text.specs.declared.placed.Placed.{Placed};
+ghost use Rattle.ctt_problem.specs.declared.placed.Placed.{Placed};
 ghost use Rattle.ctt_text.specs.declared.fault.SolutionFault.{SolutionFault};
 ghost use Rattle.ctt_text.specs.declared.fault.SolutionFault.TheVariants.{NotText, NoMemory};
 
 use crate::fault::SolutionFault;
-use crate::instance::Instance;
-use crate::placed::Placed;
 use crate::places::{next_course, next_day, next_room};
 use crate::reader::Reader;
 use crate::solution::lectures::Lectures;
 use crate::solution::places::read_slot;
+use ctt_problem::{Instance, Placed};
 use std::alloc::Global;
 
 /// Parses one entry, and adds its lecture.

@@ -4,13 +4,11 @@ ghost use Rattle.std.specs.Prelude.{◌≡◌, ◌++◌, OnOk, IfOk, string_byte
 ghost use Rattle.std.specs.Str.{IsUtf8};
 ghost use Rattle.ctt_text.specs.Words.{words};
 ghost use Rattle.ctt_text.specs.SolutionText.{SolSpells};
-ghost use Rattle.ctt_text.specs.Timetable.{Fits, IsTimetable};
+ghost use Rattle.ctt_problem.specs.Timetable.{Fits, IsTimetable};
 ghost use Rattle.ctt_text.specs.Written.{words_of, line_of, soltext};
 
-use crate::instance::Instance;
-use crate::no_memory::NoMemory;
-use crate::placed::Placed;
 use ctt_line::{Word, push_line};
+use ctt_problem::{Instance, NoMemory, Placed};
 use std::alloc::{AllocError, Global};
 
 /// Appends the line of a lecture to the text.

@@ -1,5 +1,5 @@
 use Rattle.std.proofs.Common.{rules, ◌≡◌, ◌∙◌, ◌&&◌, ltb, None, Some, ap, subst}
-use Rattle.ctt_text.specs.Marks.{is_marked, IsLeast}
+use Rattle.ctt_problem.specs.Marks.{is_marked, IsLeast}
 use Rattle.ctt_board.proofs.ClashLemmas.{clash_is}
 use Rattle.ctt_board.proofs.clashes.first_clash_among.Goals as goal
 

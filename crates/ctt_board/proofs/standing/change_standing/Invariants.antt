@@ -1,5 +1,5 @@
 use Rattle.std.proofs.Common.{◌≡◌, ℕ, drop}
-use Rattle.ctt_text.specs.Marks.{is_marked}
+use Rattle.ctt_problem.specs.Marks.{is_marked}
 use Rattle.ctt_board.specs.Changes.{stands_by}
 use Rattle.ctt_board.proofs.standing.change_standing.Given as goal
 

@@ -1,9 +1,9 @@
 use Rattle.std.proofs.Common.{inl, rules, subst}
 use Rattle.std.proofs.Crossing.{crosses}
 use denote.Param.Send.{sendable}
-use Rattle.ctt_text.proofs.SharingLemmas.{instance_shared}
+use Rattle.ctt_problem.proofs.SharingLemmas.{instance_shared}
 use Rattle.std.proofs.lemmas.Result.{IfErr-weaker}
-use Rattle.ctt_text.specs.Problem.{Problem}
+use Rattle.ctt_problem.specs.Problem.{Problem}
 use Rattle.ctt_files.proofs.Plain.{behind_instance, passed_on}
 use Rattle.ctt_commands.specs.Audits.{AuditsOn}
 use Rattle.ctt_commands.specs.Refusals.{IsOfAudited}

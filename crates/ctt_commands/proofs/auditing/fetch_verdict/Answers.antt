@@ -1,6 +1,6 @@
 use Rattle.std.proofs.Common.{rules, inl, inr, sym, subst}
 use Rattle.std.specs.List.{AllByRecursion as Each}
-use Rattle.ctt_text.specs.Timetable.{Fits}
+use Rattle.ctt_problem.specs.Timetable.{Fits}
 use Rattle.ctt_core.specs.Audits.{IsVerdict}
 use Rattle.ctt_core.specs.Entries.{EntryFits}
 use Rattle.ctt_files.specs.Refusals.{IsOfStart}

@@ -1,6 +1,6 @@
 use Rattle.std.proofs.Common.{rules, subst, sym, inl}
 use Rattle.std.specs.List.{AllByRecursion as Each}
-use Rattle.ctt_text.specs.Timetable.{Fits}
+use Rattle.ctt_problem.specs.Timetable.{Fits}
 use Rattle.ctt_core.specs.Entries.{EntryFits}
 use Rattle.ctt_files.proofs.Plain.{passed_on}
 use Rattle.ctt_commands.proofs.listing.list_on.Goals as goal

@@ -1,5 +1,5 @@
 use Rattle.std.proofs.Common.{rules, subst, sym}
-use Rattle.ctt_text.specs.Timetable.{IsTimetable}
+use Rattle.ctt_problem.specs.Timetable.{IsTimetable}
 use Rattle.ctt_commands.proofs.mending.mend_on.Goals as goal
 
 pub mend-requires : goal.mend-requires

@@ -1,5 +1,5 @@
 use Rattle.std.proofs.Common.{⊎_elim, ap, inl, inr, Err}
-use Rattle.ctt_text.proofs.FormLaws.{err_same}
+use Rattle.ctt_problem.proofs.ResultLemmas.{err_same}
 use Rattle.ctt_commands.proofs.Openings.{answer_refused, run_fits}
 use Rattle.ctt_commands.proofs.running.answer.Goals as goal
 

@@ -1,6 +1,6 @@
 use Rattle.std.proofs.Common.{◌∙◌, inl, refl, subst}
 use Rattle.std.proofs.lemmas.Result.{IfErr-weaker}
-use Rattle.ctt_text.specs.Problem.{Problem}
+use Rattle.ctt_problem.specs.Problem.{Problem}
 use Rattle.ctt_files.proofs.Plain.{behind_instance, instance_in_plain, on_ok_weaker, passed_plain, unwritten_more}
 use Rattle.ctt_commands.specs.Refusals.{IsOfRun, IsOfScript}
 use Rattle.ctt_commands.specs.Runs.{RunsOn}

@@ -1,14 +1,14 @@
 use Rattle.std.proofs.Common.{rules, ◌≡◌, ◌∙◌, ◌⊎◌, ap, subst, sym, true, inl, inr, refl, List, IfSome, Some}
 use Rattle.std.proofs.Crossing.{crosses}
 use denote.Param.Send.{sendable}
-use Rattle.ctt_text.proofs.SharingLemmas.{instance_shared}
+use Rattle.ctt_problem.proofs.SharingLemmas.{instance_shared}
 use Rattle.ctt_script.specs.Entries.{IsWritable}
 use Rattle.std.proofs.lemmas.Result.{IfErr-weaker}
 use Rattle.std.specs.List.{AllByRecursion as Each}
 use Rattle.std.specs.String.{string_bytes}
-use Rattle.ctt_text.specs.Problem.{Problem}
-use Rattle.ctt_text.specs.Timetable.{Fits}
-use Rattle.ctt_text.specs.declared.placed.Placed.{Placed}
+use Rattle.ctt_problem.specs.Problem.{Problem}
+use Rattle.ctt_problem.specs.Timetable.{Fits}
+use Rattle.ctt_problem.specs.declared.placed.Placed.{Placed}
 use Rattle.ctt_edits.specs.Openings.{opening}
 use Rattle.ctt_core.specs.Runs.{accepted_of}
 use Rattle.ctt_script.specs.AnswerText.{script_run}

@@ -1,5 +1,5 @@
 use Rattle.std.proofs.Common.{rules, sym, subst, true≢false}
-use Rattle.ctt_text.proofs.TimetableLemmas.{Each-at}
+use Rattle.ctt_problem.proofs.TimetableLemmas.{Each-at}
 use Rattle.ctt_edits.specs.Calls.{CallFits}
 use Rattle.ctt_draft.specs.Drafts.{AskedFits}
 use Rattle.ctt_core.proofs.AuditLemmas.{running_more, running_differs}

@@ -1,6 +1,6 @@
 use Rattle.std.proofs.Common.{rules, sym, subst}
-use Rattle.ctt_text.specs.Timetable.{Fits}
-use Rattle.ctt_text.proofs.TimetableLemmas.{Each-at}
+use Rattle.ctt_problem.specs.Timetable.{Fits}
+use Rattle.ctt_problem.proofs.TimetableLemmas.{Each-at}
 use Rattle.ctt_core.proofs.opening.place_all.Goals as goal
 
 pub place-fault-requires : goal.place-fault-requires

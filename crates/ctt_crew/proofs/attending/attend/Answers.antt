@@ -1,7 +1,7 @@
 use Rattle.std.proofs.Common.{rules, string_bytes, ◌≡◌, true, false, [], ◌∷◌, ◌∙◌, ℕ, ◌+◌, ◌<◌, List, Option, Result, Ok, Err, OnOk, OnSome, Some, None, arith, is_err, is_some, refl, sym, subst}
 use Rattle.std.specs.Prelude.{IfSome}
-use Rattle.ctt_text.specs.Problem.{Problem}
-use Rattle.ctt_text.specs.declared.placed.Placed.{Placed}
+use Rattle.ctt_problem.specs.Problem.{Problem}
+use Rattle.ctt_problem.specs.declared.placed.Placed.{Placed}
 use Rattle.ctt_edits.specs.Calls.{CallFits}
 use Rattle.ctt_core.specs.Runs.{EventFits}
 use Rattle.ctt_core.specs.declared.event.Event.{Event}

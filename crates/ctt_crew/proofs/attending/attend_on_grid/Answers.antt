@@ -4,7 +4,7 @@ use Rattle.std.proofs.Crossing.{crosses}
 use denote.Param.Send.{sendable}
 use Rattle.ctt_seat.specs.declared.seat.Seat.TheVariants.{Free}
 use Rattle.ctt_crew.proofs.PlainLemmas.{has_attended}
-use Rattle.ctt_text.proofs.SharingLemmas.{instance_shared}
+use Rattle.ctt_problem.proofs.SharingLemmas.{instance_shared}
 use Rattle.ctt_crew.proofs.attending.attend_on_grid.Goals as goal
 
 pub attend-requires : goal.attend-requires

@@ -1,7 +1,7 @@
 use Rattle.std.proofs.Common.{◌∙◌, subst, sym}
 use Rattle.std.specs.List.{AllByRecursion as Each}
 use Rattle.std.proofs.lemmas.Result.{IfOk-weaker}
-use Rattle.ctt_text.specs.Problem.{IsProblem}
+use Rattle.ctt_problem.specs.Problem.{IsProblem}
 use Rattle.ctt_draft.specs.Drafts.{AskedFits}
 use Rattle.ctt_core.proofs.JournalLemmas.{told_fit}
 use Rattle.ctt_desk.proofs.drafting.asked_again.Goals as goal

@@ -1,6 +1,6 @@
 use Rattle.std.proofs.Common.{sym, subst, ◌≡◌}
 use Rattle.std.proofs.lemmas.Result.{IfOk-weaker}
-use Rattle.ctt_text.specs.Problem.{IsProblem}
+use Rattle.ctt_problem.specs.Problem.{IsProblem}
 use Rattle.ctt_edits.specs.Fitting.{IsReply}
 use Rattle.ctt_edits.specs.Looks.{shown}
 use Rattle.ctt_edits.specs.declared.call.Call.TheVariants.{Look as Looks}

@@ -1,5 +1,5 @@
 use Rattle.std.proofs.Common.{◌≡◌, ◌||◌, ℕ, take}
-use Rattle.ctt_text.specs.Marks.{is_marked}
+use Rattle.ctt_problem.specs.Marks.{is_marked}
 use Rattle.ctt_draft.specs.Comparisons.{has_other_in_course, has_other_in_slot}
 use Rattle.ctt_draft.proofs.comparing.mark_others.Given as goal
 

@@ -1,5 +1,5 @@
 use Rattle.std.proofs.Common.{◌<◌, subst, sym}
-use Rattle.ctt_text.proofs.TimetableLemmas.{Each-at}
+use Rattle.ctt_problem.proofs.TimetableLemmas.{Each-at}
 use Rattle.ctt_board.specs.declared.cell.Cell.{Cell}
 use Rattle.ctt_draft.proofs.undo.note_all.Goals as goal
 

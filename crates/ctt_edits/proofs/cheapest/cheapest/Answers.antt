@@ -1,7 +1,7 @@
 use Rattle.std.proofs.Common.{rules, ◌≡◌, ◌∙◌, List, ℕ, ap}
 use Rattle.std.specs.List.{AllByRecursion as Each}
-use Rattle.ctt_text.specs.Problem.{Problem}
-use Rattle.ctt_text.specs.declared.placed.Placed.{Placed}
+use Rattle.ctt_problem.specs.Problem.{Problem}
+use Rattle.ctt_problem.specs.declared.placed.Placed.{Placed}
 use Rattle.ctt_edits.specs.Candidates.{from_to, first_choices, second_choices, edits_by, n_cheapest}
 use Rattle.ctt_edits.specs.Edits.{EditFits}
 use Rattle.ctt_edits.specs.Patterns.{feasible}

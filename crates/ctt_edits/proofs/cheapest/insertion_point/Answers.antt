@@ -1,5 +1,5 @@
 use Rattle.std.proofs.Common.{sym}
-use Rattle.ctt_text.proofs.WordLemmas.{position_none}
+use Rattle.ctt_problem.proofs.ListLaws.{position_none}
 use Rattle.ctt_edits.specs.Patterns.{is_cheaper}
 use Rattle.ctt_edits.proofs.cheapest.insertion_point.Goals as goal
 

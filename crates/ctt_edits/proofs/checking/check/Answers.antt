@@ -1,6 +1,6 @@
 use Rattle.std.proofs.Common.{rules, ◌≡◌, None, List, sym, ap, subst, ◌∙◌, Ok}
-use Rattle.ctt_text.specs.Problem.{Problem}
-use Rattle.ctt_text.specs.declared.placed.Placed.{Placed}
+use Rattle.ctt_problem.specs.Problem.{Problem}
+use Rattle.ctt_problem.specs.declared.placed.Placed.{Placed}
 use Rattle.ctt_board.specs.Changes.{ChangeFits}
 use Rattle.ctt_edits.specs.Edits.{edit_fault, change, checked_by}
 use Rattle.ctt_edits.proofs.checking.check.Goals as goal

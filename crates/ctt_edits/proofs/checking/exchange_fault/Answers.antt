@@ -1,8 +1,8 @@
 use Rattle.std.proofs.Common.{rules, ◌≡◌, ◌<◌, ◌∙◌, sym, ap, true, Option, Some, None, is_some, List, refl, arith}
 use Rattle.std.proofs.lemmas.Bool.Decides.{nat_tests}
-use Rattle.ctt_text.specs.Problem.{Problem, course_count, is_barred}
-use Rattle.ctt_text.specs.Timetable.{Fits}
-use Rattle.ctt_text.specs.declared.placed.Placed.{Placed}
+use Rattle.ctt_problem.specs.Problem.{Problem, course_count, is_barred}
+use Rattle.ctt_problem.specs.Timetable.{Fits}
+use Rattle.ctt_problem.specs.declared.placed.Placed.{Placed}
 use Rattle.ctt_board.specs.Changes.{room_at}
 use Rattle.ctt_edits.specs.Edits.{or_else, fault_if, fault_in_place_of}
 use Rattle.ctt_edits.specs.declared.fault.EditFault.{EditFault}

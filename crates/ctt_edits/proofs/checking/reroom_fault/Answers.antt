@@ -1,5 +1,5 @@
 use Rattle.std.proofs.Common.{rules, ◌≡◌, ◌<◌, ◌∙◌, ap, sym, true, not, is_some}
-use Rattle.ctt_text.specs.Problem.{Problem, course_count, slot_count, room_count}
+use Rattle.ctt_problem.specs.Problem.{Problem, course_count, slot_count, room_count}
 use Rattle.ctt_board.specs.Changes.{room_at}
 use Rattle.ctt_edits.proofs.checking.reroom_fault.Goals as goal
 

@@ -1,7 +1,7 @@
 use Rattle.std.proofs.Common.{rules, ◌≡◌, ◌∙◌, sym, Some, false, ◌==◌, List}
-use Rattle.ctt_text.specs.Problem.{Problem}
-use Rattle.ctt_text.specs.Timetable.{Fits}
-use Rattle.ctt_text.specs.declared.placed.Placed.{Placed}
+use Rattle.ctt_problem.specs.Problem.{Problem}
+use Rattle.ctt_problem.specs.Timetable.{Fits}
+use Rattle.ctt_problem.specs.declared.placed.Placed.{Placed}
 use Rattle.ctt_board.specs.Changes.{room_at}
 use Rattle.ctt_board.proofs.BetweenLemmas.{there_fits}
 use Rattle.ctt_edits.proofs.checking.swap_fault.Goals as goal

@@ -1,6 +1,6 @@
 use Rattle.std.proofs.Common.{rules, ◌∙◌, ◌+◌, ◌≤◌, ◌<◌, List, ap, arith}
-use Rattle.ctt_text.specs.Problem.{Problem, course_count}
-use Rattle.ctt_text.specs.declared.placed.Placed.{Placed}
+use Rattle.ctt_problem.specs.Problem.{Problem, course_count}
+use Rattle.ctt_problem.specs.declared.placed.Placed.{Placed}
 use Rattle.ctt_edits.proofs.MissingLemmas.{missing_more, missing_same}
 use Rattle.ctt_edits.proofs.missing.missing.Goals.{then-missing-gt0+in_ok-push, else-missing-gt0}
 use Rattle.ctt_edits.proofs.missing.missing.Goals as goal

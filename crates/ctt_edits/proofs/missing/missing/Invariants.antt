@@ -1,6 +1,6 @@
 use Rattle.std.proofs.Common.{◌≡◌, ◌≤◌, map}
-use Rattle.ctt_text.specs.Lists.{below}
-use Rattle.ctt_text.specs.Problem.{course_count}
+use Rattle.ctt_problem.specs.Lists.{below}
+use Rattle.ctt_problem.specs.Problem.{course_count}
 use Rattle.ctt_edits.specs.Missing.{is_short, shortfall}
 use Rattle.ctt_edits.proofs.missing.missing.Given as goal
 

@@ -1,6 +1,6 @@
 use Rattle.std.proofs.Common.{rules, ◌≡◌, ◌∙◌, w64, SFits, to_z, of_z, List, ap, Ok}
-use Rattle.ctt_text.specs.Problem.{Problem}
-use Rattle.ctt_text.specs.declared.placed.Placed.{Placed}
+use Rattle.ctt_problem.specs.Problem.{Problem}
+use Rattle.ctt_problem.specs.declared.placed.Placed.{Placed}
 use Rattle.ctt_board.specs.Boards.{delta}
 use Rattle.ctt_board.proofs.CostLemmas.{signed_is}
 use Rattle.ctt_edits.specs.Edits.{edit_fault, change}

@@ -1,5 +1,5 @@
 use Rattle.std.proofs.Common.{◌∙◌}
-use Rattle.ctt_text.specs.Problem.{course_count}
+use Rattle.ctt_problem.specs.Problem.{course_count}
 use Rattle.ctt_edits.proofs.TaughtLemmas.{below_all, above_none}
 use Rattle.ctt_edits.proofs.reading.mark_all.Goals as goal
 

@@ -1,5 +1,5 @@
 use Rattle.std.proofs.Common.{◌∙◌, subst}
-use Rattle.ctt_text.specs.Problem.{course_count}
+use Rattle.ctt_problem.specs.Problem.{course_count}
 use Rattle.ctt_edits.specs.Looks.{LookFits}
 use Rattle.ctt_edits.proofs.PastLemmas.{has_past, price_past, no_more}
 use Rattle.ctt_edits.proofs.reading.mark_courses_of_look.Goals as goal

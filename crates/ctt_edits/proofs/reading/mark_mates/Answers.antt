@@ -1,9 +1,9 @@
 use Rattle.std.proofs.Common.{◌||◌, ◌∙◌, sym, ap}
 use Rattle.std.specs.List.{list_any}
 use Rattle.std.proofs.lemmas.List.{take_all}
-use Rattle.ctt_text.specs.Lists.{has}
-use Rattle.ctt_text.specs.Marks.{is_marked}
-use Rattle.ctt_text.specs.Problem.{Problem, curriculum_count, members}
+use Rattle.ctt_problem.specs.Lists.{has}
+use Rattle.ctt_problem.specs.Marks.{is_marked}
+use Rattle.ctt_problem.specs.Problem.{Problem, curriculum_count, members}
 use Rattle.ctt_edits.proofs.MateLemmas.{mates_of, one_fits}
 use Rattle.ctt_edits.proofs.reading.mark_mates.Goals as goal
 

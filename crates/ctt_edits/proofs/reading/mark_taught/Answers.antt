@@ -1,7 +1,7 @@
 use Rattle.std.proofs.Common.{◌∙◌, ◌==◌, ◌||◌, ap}
-use Rattle.ctt_text.specs.Lists.{has}
-use Rattle.ctt_text.specs.Marks.{is_marked}
-use Rattle.ctt_text.specs.Problem.{course_of, course_count}
+use Rattle.ctt_problem.specs.Lists.{has}
+use Rattle.ctt_problem.specs.Marks.{is_marked}
+use Rattle.ctt_problem.specs.Problem.{course_of, course_count}
 use Rattle.ctt_edits.proofs.PastLemmas.{has_past, no_more}
 use Rattle.ctt_edits.proofs.TaughtLemmas.{has_below}
 use Rattle.ctt_edits.proofs.reading.mark_taught.Goals as goal

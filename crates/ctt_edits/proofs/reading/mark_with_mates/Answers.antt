@@ -1,7 +1,7 @@
 use Rattle.std.proofs.Common.{◌||◌, ◌∷◌, [], ◌∙◌, ap}
-use Rattle.ctt_text.specs.Lists.{has}
-use Rattle.ctt_text.specs.Marks.{is_marked}
-use Rattle.ctt_text.specs.Problem.{mates}
+use Rattle.ctt_problem.specs.Lists.{has}
+use Rattle.ctt_problem.specs.Marks.{is_marked}
+use Rattle.ctt_problem.specs.Problem.{mates}
 use Rattle.ctt_edits.proofs.PastLemmas.{one_past, no_more, mates_of_one}
 use Rattle.ctt_edits.proofs.reading.mark_with_mates.Goals as goal
 

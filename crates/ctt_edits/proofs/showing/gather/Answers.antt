@@ -1,9 +1,9 @@
 use Rattle.std.proofs.Common.{rules, ◌≡◌, ◌<◌, ◌∙◌, ℕ, List, sym, ap, subst, arith}
 use Rattle.std.specs.List.{AllByRecursion as Each}
-use Rattle.ctt_text.specs.Marks.{is_marked}
-use Rattle.ctt_text.specs.Problem.{Problem, course_count}
-use Rattle.ctt_text.specs.Timetable.{course_row}
-use Rattle.ctt_text.specs.declared.placed.Placed.{Placed}
+use Rattle.ctt_problem.specs.Marks.{is_marked}
+use Rattle.ctt_problem.specs.Problem.{Problem, course_count}
+use Rattle.ctt_problem.specs.Timetable.{course_row}
+use Rattle.ctt_problem.specs.declared.placed.Placed.{Placed}
 use Rattle.ctt_rules.proofs.TimetableLemmas.{courses_fit}
 use Rattle.ctt_edits.proofs.GatherLemmas.{part_more, part_done, part_none, part_within}
 use Rattle.ctt_edits.proofs.showing.gather.Goals as goal

@@ -1,6 +1,6 @@
 use Rattle.std.proofs.Common.{◌≡◌, ◌≤◌, ◌-◌}
-use Rattle.ctt_text.specs.Marks.{is_marked}
-use Rattle.ctt_text.specs.Problem.{course_count}
+use Rattle.ctt_problem.specs.Marks.{is_marked}
+use Rattle.ctt_problem.specs.Problem.{course_count}
 use Rattle.ctt_edits.proofs.GatherLemmas.{part_below}
 use Rattle.ctt_edits.proofs.showing.gather.Given as goal
 

@@ -1,5 +1,5 @@
 use Rattle.std.proofs.Common.{rules, ◌≤◌, ◌<◌}
-use Rattle.ctt_text.specs.Problem.{course_count, teacher_count, curriculum_count}
+use Rattle.ctt_problem.specs.Problem.{course_count, teacher_count, curriculum_count}
 use Rattle.ctt_edits.specs.Edits.{EditFits}
 use Rattle.ctt_edits.specs.Patterns.{PatternFits}
 use Rattle.ctt_edits.proofs.showing.look.Goals as goal

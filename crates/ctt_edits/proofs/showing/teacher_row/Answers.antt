@@ -1,7 +1,7 @@
 use Rattle.std.proofs.Common.{◌≡◌, ◌<◌, ◌||◌, ◌==◌, ◌∙◌, ℕ, IfOk, List, ap, subst}
-use Rattle.ctt_text.specs.Marks.{is_marked}
-use Rattle.ctt_text.specs.Problem.{Problem, course_of, course_count}
-use Rattle.ctt_text.specs.declared.placed.Placed.{Placed}
+use Rattle.ctt_problem.specs.Marks.{is_marked}
+use Rattle.ctt_problem.specs.Problem.{Problem, course_of, course_count}
+use Rattle.ctt_problem.specs.declared.placed.Placed.{Placed}
 use Rattle.ctt_rules.proofs.TimetableLemmas.{courses_fit}
 use Rattle.ctt_edits.proofs.GatherLemmas.{part_marked}
 use Rattle.ctt_edits.proofs.showing.teacher_row.Goals as goal

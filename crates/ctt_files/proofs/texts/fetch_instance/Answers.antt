@@ -1,5 +1,5 @@
 use Rattle.std.proofs.Common.{inl, inr, subst}
-use Rattle.ctt_text.specs.Problem.{Problem}
+use Rattle.ctt_problem.specs.Problem.{Problem}
 use Rattle.ctt_files.specs.Refusals.{IsOfBarred, IsOfInstanceIn}
 use Rattle.ctt_files.specs.Texts.{IsBarredBy}
 use Rattle.ctt_files.proofs.Plain.{passed_on}

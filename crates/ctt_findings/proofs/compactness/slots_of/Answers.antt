@@ -1,8 +1,8 @@
 use Rattle.std.proofs.Common.{◌∙◌, ap}
 use Rattle.std.specs.List.{list_any}
 use Rattle.std.proofs.lemmas.List.{take_all}
-use Rattle.ctt_text.specs.Problem.{members}
-use Rattle.ctt_text.specs.Timetable.{course_row}
+use Rattle.ctt_problem.specs.Problem.{members}
+use Rattle.ctt_problem.specs.Timetable.{course_row}
 use Rattle.ctt_rules.specs.Neighbours.{busy}
 use Rattle.ctt_rules.proofs.CurriculumLemmas.{busy_lectures}
 use Rattle.ctt_findings.proofs.compactness.slots_of.Goals as goal

@@ -1,7 +1,7 @@
 use Rattle.std.proofs.Common.{◌≡◌, ℕ, take}
 use Rattle.std.specs.List.{list_any}
-use Rattle.ctt_text.specs.Marks.{is_marked}
-use Rattle.ctt_text.specs.Timetable.{course_row}
+use Rattle.ctt_problem.specs.Marks.{is_marked}
+use Rattle.ctt_problem.specs.Timetable.{course_row}
 use Rattle.ctt_rules.specs.Neighbours.{busy}
 use Rattle.ctt_findings.proofs.compactness.slots_of.Given as goal
 

@@ -1,5 +1,5 @@
 use Rattle.std.proofs.Common.{not}
-use Rattle.ctt_text.specs.Marks.{is_marked}
+use Rattle.ctt_problem.specs.Marks.{is_marked}
 use Rattle.ctt_rules.specs.Neighbours.{is_beside}
 use Rattle.ctt_findings.specs.Findings.{compactness_finding}
 use Rattle.ctt_findings.proofs.HearLemmas.{hears_item}

@@ -1,6 +1,6 @@
 use Rattle.std.proofs.Common.{not, take}
 use Rattle.std.specs.List.{filter_map}
-use Rattle.ctt_text.specs.Marks.{is_marked}
+use Rattle.ctt_problem.specs.Marks.{is_marked}
 use Rattle.ctt_rules.specs.Neighbours.{is_beside}
 use Rattle.ctt_findings.specs.Findings.{compactness_finding}
 use Rattle.ctt_findings.specs.Hearing.{Hears}

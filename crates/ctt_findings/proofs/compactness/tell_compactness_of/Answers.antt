@@ -1,9 +1,9 @@
 use Rattle.std.proofs.Common.{◌≡◌, ℕ, ◌<◌, ◌≤◌, ◌&&◌, ◌∙◌, Bool, nat_lt, nat_le, not, Some, None, ap, arith, rules}
 use Rattle.std.specs.List.{filter_map}
-use Rattle.ctt_text.specs.Lists.{has}
-use Rattle.ctt_text.specs.Marks.{is_marked, IsLeast}
-use Rattle.ctt_text.specs.Problem.{course_count, members}
-use Rattle.ctt_text.specs.Timetable.{course_row}
+use Rattle.ctt_problem.specs.Lists.{has}
+use Rattle.ctt_problem.specs.Marks.{is_marked, IsLeast}
+use Rattle.ctt_problem.specs.Problem.{course_count, members}
+use Rattle.ctt_problem.specs.Timetable.{course_row}
 use Rattle.ctt_rules.specs.Neighbours.{is_beside}
 use Rattle.ctt_findings.specs.Findings.{alone_of, compactness_finding}
 use Rattle.ctt_findings.proofs.HearLemmas.{hears_next, hears_last, next_passes}

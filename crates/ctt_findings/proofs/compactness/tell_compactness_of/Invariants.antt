@@ -1,6 +1,6 @@
 use Rattle.std.proofs.Common.{◌≤◌, ◌-◌}
-use Rattle.ctt_text.specs.Lists.{has}
-use Rattle.ctt_text.specs.Problem.{course_count, members}
+use Rattle.ctt_problem.specs.Lists.{has}
+use Rattle.ctt_problem.specs.Problem.{course_count, members}
 use Rattle.ctt_findings.specs.Findings.{alone_of, for_each, where_passes}
 use Rattle.ctt_findings.specs.Hearing.{Hears}
 use Rattle.ctt_findings.proofs.compactness.tell_compactness_of.Given as goal

@@ -2,7 +2,7 @@ use Rattle.std.proofs.Common.{ap}
 use Rattle.ctt_findings.specs.Findings.{compactness_of}
 use Rattle.ctt_findings.proofs.HearLemmas.{hears_number}
 use Rattle.ctt_findings.proofs.compactness.tell_each.Goals as goal
-use Rattle.ctt_text.specs.Problem.{curriculum_count}
+use Rattle.ctt_problem.specs.Problem.{curriculum_count}
 use Rattle.ctt_findings.specs.Hearing.{HearsFront}
 use Rattle.ctt_findings.proofs.FrontLemmas.{err_number}
 use Rattle.std.proofs.Common.{IfErr, rules, arith}

@@ -1,6 +1,6 @@
 use Rattle.std.proofs.Common.{rules, ◌≡◌, ◌∙◌, ℕ, Bool, true, false, sym, ap}
-use Rattle.ctt_text.specs.Lists.{has}
-use Rattle.ctt_text.specs.Problem.{curriculum_count, members}
+use Rattle.ctt_problem.specs.Lists.{has}
+use Rattle.ctt_problem.specs.Problem.{curriculum_count, members}
 use Rattle.std.specs.List.{find}
 use Rattle.std.specs.Option.{unwrap_or}
 use Rattle.ctt_findings.proofs.ConflictLemmas.{found_here, goes_on, mates_of, none_found, not_found}

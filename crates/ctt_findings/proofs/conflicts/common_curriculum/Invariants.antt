@@ -1,7 +1,7 @@
 use Rattle.std.proofs.Common.{◌≡◌, drop}
 use Rattle.std.specs.List.{find}
-use Rattle.ctt_text.specs.Lists.{has}
-use Rattle.ctt_text.specs.Problem.{members}
+use Rattle.ctt_problem.specs.Lists.{has}
+use Rattle.ctt_problem.specs.Problem.{members}
 use Rattle.ctt_findings.proofs.conflicts.common_curriculum.Given as goal
 
 abbrev pub invariant-loop-curriculum : goal.invariant-loop-curriculum

@@ -1,6 +1,6 @@
 use Rattle.std.proofs.Common.{take}
 use Rattle.std.specs.List.{filter_map}
-use Rattle.ctt_text.specs.Marks.{is_marked}
+use Rattle.ctt_problem.specs.Marks.{is_marked}
 use Rattle.ctt_findings.specs.Findings.{conflict_finding}
 use Rattle.ctt_findings.specs.Hearing.{Hears}
 use Rattle.ctt_findings.proofs.conflicts.tell_between.Given as goal

@@ -1,8 +1,8 @@
 use Rattle.std.proofs.Common.{◌≡◌, ℕ, ◌+◌, ◌&&◌, ◌∙◌, Bool, nat_lt, nat_le, Some, None, refl, sym, ap, subst, arith, rules}
 use Rattle.std.specs.List.{filter_map}
-use Rattle.ctt_text.specs.Marks.{is_marked, IsLeast}
-use Rattle.ctt_text.specs.Problem.{course_count}
-use Rattle.ctt_text.specs.Timetable.{course_row}
+use Rattle.ctt_problem.specs.Marks.{is_marked, IsLeast}
+use Rattle.ctt_problem.specs.Problem.{course_count}
+use Rattle.ctt_problem.specs.Timetable.{course_row}
 use Rattle.ctt_rules.specs.Neighbours.{busy}
 use Rattle.ctt_findings.specs.Findings.{conflict_finding, conflicts_between}
 use Rattle.ctt_findings.specs.Hearing.{Hears}

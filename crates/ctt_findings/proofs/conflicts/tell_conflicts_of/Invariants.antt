@@ -1,5 +1,5 @@
 use Rattle.std.proofs.Common.{◌<◌, ◌≤◌, ◌-◌, ◌&&◌, nat_lt}
-use Rattle.ctt_text.specs.Problem.{clash, course_count}
+use Rattle.ctt_problem.specs.Problem.{clash, course_count}
 use Rattle.ctt_findings.specs.Findings.{conflicts_between, for_each, where_passes}
 use Rattle.ctt_findings.specs.Hearing.{Hears}
 use Rattle.ctt_findings.proofs.conflicts.tell_conflicts_of.Given as goal

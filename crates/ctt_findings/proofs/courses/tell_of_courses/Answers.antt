@@ -1,9 +1,9 @@
 use Rattle.std.proofs.Common.{◌≡◌, ◌∙◌, ap}
 use Rattle.std.specs.Option.{option_to_list}
-use Rattle.ctt_text.specs.Timetable.{course_row}
+use Rattle.ctt_problem.specs.Timetable.{course_row}
 use Rattle.ctt_findings.proofs.HearLemmas.{hears_number}
 use Rattle.ctt_findings.proofs.courses.tell_of_courses.Goals as goal
-use Rattle.ctt_text.specs.Problem.{course_count}
+use Rattle.ctt_problem.specs.Problem.{course_count}
 use Rattle.ctt_findings.specs.Hearing.{HearsFront}
 use Rattle.ctt_findings.proofs.FrontLemmas.{err_number}
 use Rattle.std.proofs.Common.{IfErr, rules, arith}

@@ -1,5 +1,5 @@
 use Rattle.std.specs.Option.{option_to_list}
-use Rattle.ctt_text.specs.Timetable.{course_row}
+use Rattle.ctt_problem.specs.Timetable.{course_row}
 use Rattle.ctt_findings.specs.Findings.{for_each}
 use Rattle.ctt_findings.specs.Hearing.{Hears}
 use Rattle.ctt_findings.proofs.courses.tell_of_courses.Given as goal

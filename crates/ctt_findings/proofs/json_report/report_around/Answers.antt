@@ -18,8 +18,8 @@ unwrap-place-requires c =
     c.first_list.ensures ∙ list_found (text_to_list barred found.hard found.cost found.complete) (text_after_findings name found.hard found.cost found.lawful) c.deref.result.now (no_list_before barred found.hard found.cost found.complete) is in
     search (rules, place)
 
-pub returns : goal.returns
-returns c =
+pub returns-clause-parts : goal.returns-clause-parts
+returns-clause-parts c =
     let i = c.args.instance.now in
     let t = c.args.timetable.now in
     let found = c.assess-assessment.result in

@@ -1,5 +1,5 @@
 use Rattle.std.proofs.Common.{◌≡◌, ℕ, [], length, take}
-use Rattle.ctt_text.specs.Problem.{slot_count}
+use Rattle.ctt_problem.specs.Problem.{slot_count}
 use Rattle.ctt_rules.specs.Earlier.{in_row}
 use Rattle.ctt_findings.specs.Findings.{occupancy_from}
 use Rattle.ctt_findings.specs.Hearing.{Hears}

@@ -1,5 +1,5 @@
 use Rattle.std.proofs.Common.{◌≡◌, ◌*◌, ◌≤◌, cond}
-use Rattle.ctt_text.specs.Lists.{sum_below}
+use Rattle.ctt_problem.specs.Lists.{sum_below}
 use Rattle.ctt_rules.specs.Penalty.{course_cost, total}
 use Rattle.ctt_board.specs.Costs.{touches}
 use Rattle.ctt_grid.proofs.delta.courses_cost.Given as goal

@@ -1,7 +1,7 @@
 use Rattle.std.proofs.Common.{◌≡◌, ◌+◌, ◌<◌, ◌∙◌, ℕ, List, [], Bool, cond, take, sum_by, sym, ap, ap₂, arith}
 use Rattle.std.proofs.lemmas.List.Sums.{sum_by_more}
-use Rattle.ctt_text.specs.Problem.{Problem, members, curriculum_count}
-use Rattle.ctt_text.specs.declared.placed.Placed.{Placed}
+use Rattle.ctt_problem.specs.Problem.{Problem, members, curriculum_count}
+use Rattle.ctt_problem.specs.declared.placed.Placed.{Placed}
 use Rattle.ctt_rules.specs.Penalty.{alone_cost, lectures_of}
 use Rattle.ctt_board.specs.Costs.{touches_curriculum}
 use Rattle.ctt_grid.proofs.delta.curricula_cost.Goals as goal

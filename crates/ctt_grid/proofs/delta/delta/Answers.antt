@@ -1,7 +1,7 @@
 use Rattle.std.proofs.Common.{◌≡◌, ◌+◌, ◌*◌, ◌≤◌, ◌∙◌, ℕ, List, pos, ◌-ℤ◌, to_z, of_z, w64, sym, ap, ap₂, arith}
 use Rattle.std.proofs.lemmas.Int.{ints}
-use Rattle.ctt_text.specs.Problem.{Problem}
-use Rattle.ctt_text.specs.declared.placed.Placed.{Placed}
+use Rattle.ctt_problem.specs.Problem.{Problem}
+use Rattle.ctt_problem.specs.declared.placed.Placed.{Placed}
 use Rattle.ctt_rules.specs.Penalty.{penalty, total}
 use Rattle.ctt_board.specs.Changes.{apply}
 use Rattle.ctt_board.specs.Costs.{courses_cost, curricula_cost}

@@ -1,6 +1,6 @@
 use Rattle.std.proofs.Common.{◌≡◌, ◌∙◌, ◌++◌, ◌∷◌, [], ℕ, Option, List, sym, ap, arith}
-use Rattle.ctt_text.specs.Problem.{slot_count}
-use Rattle.ctt_text.specs.declared.placed.Placed.{Placed}
+use Rattle.ctt_problem.specs.Problem.{slot_count}
+use Rattle.ctt_problem.specs.declared.placed.Placed.{Placed}
 use Rattle.ctt_board.specs.Changes.{room_at}
 use Rattle.ctt_board.specs.Cells.{row_below}
 use Rattle.ctt_board.proofs.RowLemmas.{course_row_is}

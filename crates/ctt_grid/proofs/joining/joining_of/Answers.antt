@@ -1,6 +1,6 @@
 use Rattle.std.proofs.Common.{rules, ◌≡◌, ◌∙◌, sum_by, refl, sym, ap, subst}
 use Rattle.std.specs.List.{AllByRecursion as Each}
-use Rattle.ctt_text.specs.Belonging.{curricula_of}
+use Rattle.ctt_problem.specs.Belonging.{curricula_of}
 use Rattle.ctt_rules.specs.Penalty.{unseated}
 use Rattle.ctt_grid.specs.Joining.{stands_alone, alone_beside}
 use Rattle.ctt_grid.specs.Seen.{seen_curriculum}

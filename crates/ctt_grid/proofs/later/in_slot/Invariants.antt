@@ -1,5 +1,5 @@
 use Rattle.std.proofs.Common.{◌≡◌, ◌≤◌, take, count_by}
-use Rattle.ctt_text.specs.Problem.{members}
+use Rattle.ctt_problem.specs.Problem.{members}
 use Rattle.ctt_grid.specs.Joining.{in_slot}
 use Rattle.ctt_grid.proofs.later.in_slot.Given as goal
 

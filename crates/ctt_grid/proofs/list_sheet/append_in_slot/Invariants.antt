@@ -1,5 +1,5 @@
 use Rattle.std.proofs.Common.{◌≡◌, ◌++◌, drop}
-use Rattle.ctt_text.specs.Timetable.{slot_row}
+use Rattle.ctt_problem.specs.Timetable.{slot_row}
 use Rattle.ctt_grid.proofs.list_sheet.append_in_slot.Given as goal
 
 abbrev pub invariant-loop-lecture : goal.invariant-loop-lecture

@@ -1,6 +1,6 @@
 use Rattle.std.proofs.Common.{◌≡◌, ◌<◌, ◌-◌, ℕ, cond, ltb, ◌∙◌, sym, ap, arith}
 use Rattle.std.proofs.lemmas.Bool.{lt-ltb}
-use Rattle.ctt_text.specs.Problem.{period_of}
+use Rattle.ctt_problem.specs.Problem.{period_of}
 use Rattle.ctt_grid.specs.Joining.{count_before}
 use Rattle.ctt_grid.specs.Seen.{seen_curriculum}
 use Rattle.ctt_grid.proofs.MeetingLemmas.{some_before, alone_before_is}

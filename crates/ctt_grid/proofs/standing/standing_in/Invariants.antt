@@ -1,6 +1,6 @@
 use Rattle.std.proofs.Common.{◌≡◌, ℕ, take}
-use Rattle.ctt_text.specs.Marks.{is_marked}
-use Rattle.ctt_text.specs.Timetable.{has_lecture}
+use Rattle.ctt_problem.specs.Marks.{is_marked}
+use Rattle.ctt_problem.specs.Timetable.{has_lecture}
 use Rattle.ctt_grid.proofs.standing.standing_in.Given as goal
 
 abbrev pub invariant-loop-lecture : goal.invariant-loop-lecture

@@ -1,5 +1,5 @@
 use Rattle.std.proofs.Common.{rules, ◌≡◌, ◌<◌, subst, sym, arith}
-use Rattle.ctt_text.proofs.TimetableLemmas.{Each-at}
+use Rattle.ctt_problem.proofs.TimetableLemmas.{Each-at}
 use Rattle.ctt_grid.proofs.TableLemmas.{one_left}
 use Rattle.ctt_grid.proofs.tally.add_column.Goals as goal
 

@@ -1,5 +1,5 @@
 use Rattle.std.proofs.Common.{◌∙◌, sym, subst}
-use Rattle.ctt_text.specs.Timetable.{IsTimetable}
+use Rattle.ctt_problem.specs.Timetable.{IsTimetable}
 use Rattle.ctt_mend.proofs.MendLemmas.{mended_timetable}
 use Rattle.ctt_mend.proofs.mending.mend.Goals as goal
 

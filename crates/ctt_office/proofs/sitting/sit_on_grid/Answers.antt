@@ -1,7 +1,7 @@
 use Rattle.std.proofs.Common.{rules}
 use Rattle.std.proofs.Crossing.{crosses}
 use denote.Param.Send.{sendable}
-use Rattle.ctt_text.proofs.SharingLemmas.{instance_shared}
+use Rattle.ctt_problem.proofs.SharingLemmas.{instance_shared}
 use Rattle.ctt_office.proofs.sitting.sit_on_grid.Goals as goal
 
 pub open_and_sit-requires : goal.open_and_sit-requires

@@ -1,7 +1,7 @@
 use Rattle.std.proofs.Common.{rules, ⊎_elim, inl, inr}
 use Rattle.std.proofs.Crossing.{crosses}
 use denote.Param.Send.{sendable}
-use Rattle.ctt_text.proofs.SharingLemmas.{instance_shared}
+use Rattle.ctt_problem.proofs.SharingLemmas.{instance_shared}
 use Rattle.ctt_program.specs.Refusals.{IsOfSeats}
 use Rattle.ctt_program.proofs.Plain.{passed_desk, seats_plain}
 use Rattle.ctt_program.proofs.desk.keep.Goals as goal

@@ -1,6 +1,6 @@
 use Rattle.std.proofs.Common.{rules, sym, subst}
 use Rattle.std.specs.List.{AllByRecursion as Each}
-use Rattle.ctt_text.specs.Timetable.{Fits}
+use Rattle.ctt_problem.specs.Timetable.{Fits}
 use Rattle.ctt_edits.proofs.OpeningLemmas.{opening_faults_fit}
 use Rattle.ctt_desk.specs.Faults.{IsUnlawful}
 use Rattle.ctt_program.proofs.desk.open_on.Goals as goal

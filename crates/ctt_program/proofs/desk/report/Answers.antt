@@ -1,6 +1,6 @@
 use Rattle.std.proofs.Common.{inl, subst}
 use Rattle.std.proofs.lemmas.Result.{IfErr-weaker, IfOk-weaker}
-use Rattle.ctt_text.specs.Problem.{Problem}
+use Rattle.ctt_problem.specs.Problem.{Problem}
 use Rattle.ctt_files.specs.Refusals.{IsOfInstanceOr}
 use Rattle.ctt_files.proofs.Plain.{behind_instance, instance_in_plain, unwritten_more}
 use Rattle.ctt_program.specs.Desks.{IsOfDeskFrom}

@@ -1,6 +1,6 @@
 use Rattle.std.proofs.Common.{◌≡◌, inl, None, subst}
 use Rattle.std.proofs.lemmas.Result.{IfErr-weaker}
-use Rattle.ctt_text.specs.Problem.{Problem}
+use Rattle.ctt_problem.specs.Problem.{Problem}
 use Rattle.ctt_files.specs.declared.outcome.Outcome.TheVariants.{Done}
 use Rattle.ctt_files.specs.declared.printed.Printed.{Printed}
 use Rattle.ctt_files.proofs.Plain.{behind_instance, passed_on}

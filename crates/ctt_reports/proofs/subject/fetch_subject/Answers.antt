@@ -1,5 +1,5 @@
 use Rattle.std.proofs.Common.{inl}
-use Rattle.ctt_text.specs.Problem.{Problem}
+use Rattle.ctt_problem.specs.Problem.{Problem}
 use Rattle.ctt_files.proofs.Plain.{behind_instance, passed_on}
 use Rattle.ctt_reports.specs.Refusals.{IsOfSubject, IsOfWeek}
 use Rattle.ctt_reports.proofs.subject.fetch_subject.Goals as goal

@@ -1,8 +1,8 @@
 use Rattle.std.proofs.Common.{◌≡◌, ◌+◌, ◌*◌, ◌≤◌, ◌∙◌, ℕ, ap, arith, take, sum_by, count_by, List, []}
 use Rattle.std.proofs.lemmas.List.Sums.{sum_by_more}
-use Rattle.ctt_text.specs.Problem.{AreMembers, course_count, members}
-use Rattle.ctt_text.specs.declared.placed.Placed.{Placed}
-use Rattle.ctt_text.proofs.TimetableLemmas.{Each-at}
+use Rattle.ctt_problem.specs.Problem.{AreMembers, course_count, members}
+use Rattle.ctt_problem.specs.declared.placed.Placed.{Placed}
+use Rattle.ctt_problem.proofs.TimetableLemmas.{Each-at}
 use Rattle.ctt_rules.specs.Penalty.{lectures_of}
 use Rattle.ctt_rules.specs.Windows.{is_alone_within}
 use Rattle.ctt_rules.proofs.CurriculumLemmas.{count_lectures_le}

@@ -1,6 +1,6 @@
 use Rattle.std.proofs.Common.{◌≡◌, ◌<◌, ◌==◌, ◌&&◌, ℕ, take}
 use Rattle.std.specs.List.{list_any}
-use Rattle.ctt_text.specs.declared.placed.Placed.{Placed}
+use Rattle.ctt_problem.specs.declared.placed.Placed.{Placed}
 use Rattle.ctt_rules.specs.Windows.{has_bit, stands_at, word_of}
 use Rattle.ctt_rules.proofs.compactness.window.Given as goal
 

@@ -1,6 +1,6 @@
 use Rattle.std.proofs.Common.{◌≡◌, ◌+◌, ◌-◌, ◌∙◌, ℕ, ap, ap₂, sym, refl, arith, length}
-use Rattle.ctt_text.specs.Problem.{course_of}
-use Rattle.ctt_text.specs.Timetable.{course_row}
+use Rattle.ctt_problem.specs.Problem.{course_of}
+use Rattle.ctt_problem.specs.Timetable.{course_row}
 use Rattle.ctt_rules.specs.Rows.{from_course, IsCut}
 use Rattle.ctt_rules.proofs.RowLemmas.{from_first}
 use Rattle.ctt_rules.proofs.SumLemmas.{sum_below_more}

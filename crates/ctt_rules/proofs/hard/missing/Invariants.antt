@@ -1,7 +1,7 @@
 use Rattle.std.proofs.Common.{◌≡◌, ◌+◌, ◌-◌, ◌*◌, ◌≤◌, length}
-use Rattle.ctt_text.specs.Lists.{sum_below}
-use Rattle.ctt_text.specs.Problem.{course_of}
-use Rattle.ctt_text.specs.Timetable.{course_row}
+use Rattle.ctt_problem.specs.Lists.{sum_below}
+use Rattle.ctt_problem.specs.Problem.{course_of}
+use Rattle.ctt_problem.specs.Timetable.{course_row}
 use Rattle.ctt_rules.specs.Rows.{from_course}
 use Rattle.ctt_rules.proofs.hard.missing.Given as goal
 

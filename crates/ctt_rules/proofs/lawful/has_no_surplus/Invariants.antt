@@ -1,6 +1,6 @@
 use Rattle.std.proofs.Common.{ℕ, ◌≤◌, ◌<◌, length}
-use Rattle.ctt_text.specs.Problem.{course_of}
-use Rattle.ctt_text.specs.Timetable.{course_row}
+use Rattle.ctt_problem.specs.Problem.{course_of}
+use Rattle.ctt_problem.specs.Timetable.{course_row}
 use Rattle.ctt_rules.proofs.lawful.has_no_surplus.Given as goal
 
 abbrev pub invariant-loop-number : goal.invariant-loop-number

@@ -2,7 +2,7 @@ use Rattle.std.proofs.Common.{rules, tests, ◌≤◌, ◌+◌, length, drop, lt
 use Rattle.std.proofs.lemmas.List.{take_rest}
 use Rattle.std.proofs.lemmas.List.Sorted.{IsPartitionPoint-from_clause, IsPartitionedBy-leb, IsPartitionedBy-ltb}
 use Rattle.std.proofs.lemmas.Bool.{ltb-true, ltb-false, leb-true, leb-false}
-use Rattle.ctt_text.specs.declared.placed.Placed.{Placed}
+use Rattle.ctt_problem.specs.declared.placed.Placed.{Placed}
 use Rattle.ctt_rules.proofs.RowLemmas.{courses_rise, rise_from, start_by_places, row_by_places}
 use Rattle.ctt_rules.proofs.row.course_row.Goals as goal
 

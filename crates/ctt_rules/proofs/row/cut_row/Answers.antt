@@ -1,7 +1,7 @@
 use Rattle.std.proofs.Common.{◌≡◌, ◌==◌, ◌<◌, false, length, get_or, ◌∙◌, ap, arith, rules}
 use Rattle.std.specs.List.{prefix_len}
-use Rattle.ctt_text.specs.declared.placed.Placed.{Placed}
-use Rattle.ctt_text.proofs.TableLemmas.{same_element}
+use Rattle.ctt_problem.specs.declared.placed.Placed.{Placed}
+use Rattle.ctt_problem.proofs.TableLemmas.{same_element}
 use Rattle.ctt_rules.proofs.RowLemmas.{passes_end, cut_is}
 use Rattle.ctt_rules.proofs.row.cut_row.Goals as goal
 use Rattle.ctt_rules.proofs.row.cut_row.Goals.{then-loop-len-test+else-eq, else-loop-len-test}

@@ -1,8 +1,8 @@
 use Rattle.std.proofs.Common.{◌≡◌, ◌+◌, ◌-◌, ◌==◌, ◌&&◌, ◌∙◌, ℕ, cond, leb, ltb, [], ap, arith}
 use Rattle.std.proofs.lemmas.List.{take_all}
-use Rattle.ctt_text.specs.Marks.{count_marked}
-use Rattle.ctt_text.specs.Timetable.{Fits}
-use Rattle.ctt_text.proofs.TimetableLemmas.{Each-at}
+use Rattle.ctt_problem.specs.Marks.{count_marked}
+use Rattle.ctt_problem.specs.Timetable.{Fits}
+use Rattle.ctt_problem.proofs.TimetableLemmas.{Each-at}
 use Rattle.ctt_rules.specs.Earlier.{clashes_with, in_row, new_conflicts, only_in, room_taken, tally}
 use Rattle.ctt_rules.proofs.TimetableLemmas.{few_lectures}
 use Rattle.ctt_rules.proofs.ConflictLemmas.{met_more, conflicts_more, rooms_more, few_marked, cond_few, one_few}

@@ -1,6 +1,6 @@
 use Rattle.std.proofs.Common.{◌≡◌, ◌+◌, ◌*◌, ◌<◌, ◌≤◌, ◌==◌, ◌&&◌, ℕ, [], take}
 use Rattle.std.specs.List.{list_any}
-use Rattle.ctt_text.specs.declared.placed.Placed.{Placed}
+use Rattle.ctt_problem.specs.declared.placed.Placed.{Placed}
 use Rattle.ctt_rules.specs.Earlier.{in_row, new_conflicts, only_in, room_taken, tally}
 use Rattle.ctt_rules.proofs.sharing.count_block.Given as goal
 

@@ -1,5 +1,5 @@
 use Rattle.std.proofs.Common.{◌≡◌, ◌≤◌, take, count_by, not}
-use Rattle.ctt_text.specs.Marks.{is_marked}
+use Rattle.ctt_problem.specs.Marks.{is_marked}
 use Rattle.ctt_rules.specs.Neighbours.{is_beside}
 use Rattle.ctt_rules.proofs.slots.count_alone.Given as goal
 

@@ -1,6 +1,6 @@
 use Rattle.std.proofs.Common.{◌≡◌, ◌+◌, ◌∙◌, ℕ, ap, sym, subst, refl, arith}
 use Rattle.std.specs.List.{AllByRecursion as Each}
-use Rattle.ctt_text.specs.Timetable.{Fits, course_row}
+use Rattle.ctt_problem.specs.Timetable.{Fits, course_row}
 use Rattle.ctt_rules.specs.Penalty.{rooms_cost}
 use Rattle.ctt_rules.specs.Rows.{from_course, IsCut}
 use Rattle.ctt_rules.proofs.RowLemmas.{from_first}

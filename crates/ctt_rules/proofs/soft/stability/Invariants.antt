@@ -1,6 +1,6 @@
 use Rattle.std.proofs.Common.{◌≡◌, ◌*◌, ◌≤◌}
-use Rattle.ctt_text.specs.Lists.{sum_below}
-use Rattle.ctt_text.specs.Timetable.{course_row}
+use Rattle.ctt_problem.specs.Lists.{sum_below}
+use Rattle.ctt_problem.specs.Timetable.{course_row}
 use Rattle.ctt_rules.specs.Penalty.{rooms_cost}
 use Rattle.ctt_rules.specs.Rows.{from_course}
 use Rattle.ctt_rules.proofs.soft.stability.Given as goal

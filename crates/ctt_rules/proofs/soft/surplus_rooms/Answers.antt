@@ -1,7 +1,7 @@
 use Rattle.std.proofs.Common.{◌==◌, arith}
 use Rattle.std.specs.List.{list_any}
-use Rattle.ctt_text.specs.Problem.{room_count}
-use Rattle.ctt_text.specs.declared.placed.Placed.{Placed}
+use Rattle.ctt_problem.specs.Problem.{room_count}
+use Rattle.ctt_problem.specs.declared.placed.Placed.{Placed}
 use Rattle.ctt_rules.proofs.SumLemmas.{count_below_le}
 use Rattle.ctt_rules.proofs.soft.surplus_rooms.Goals as goal
 

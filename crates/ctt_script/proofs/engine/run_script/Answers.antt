@@ -2,8 +2,8 @@ use Rattle.std.proofs.Common.{rules, ◌≡◌, ◌∙◌, [], ℕ, length, sym}
 use Rattle.ctt_script.specs.Answering.{IsAtRun}
 use Rattle.std.proofs.Crossing.{crosses}
 use denote.Param.Send.{sendable}
-use Rattle.ctt_text.proofs.SharingLemmas.{instance_shared}
-use Rattle.ctt_text.proofs.FormLaws.{ok_same}
+use Rattle.ctt_problem.proofs.SharingLemmas.{instance_shared}
+use Rattle.ctt_problem.proofs.ResultLemmas.{ok_same}
 use Rattle.ctt_edits.specs.declared.fault.EditFault.{EditFault}
 use Rattle.ctt_script.proofs.ScriptRuns.{all_said, front_said, journal_can, read_short, script_done}
 use Rattle.ctt_script.proofs.engine.run_script.Goals as goal

@@ -1,7 +1,7 @@
 use Rattle.std.proofs.Common.{rules}
 use Rattle.std.proofs.Crossing.{crosses}
 use denote.Param.Send.{sendable}
-use Rattle.ctt_text.proofs.SharingLemmas.{instance_shared}
+use Rattle.ctt_problem.proofs.SharingLemmas.{instance_shared}
 use Rattle.ctt_tests.proofs.desk_tests.take_turn.Goals as goal
 
 pub commit_all-requires : goal.commit_all-requires

@@ -1,5 +1,5 @@
 use Rattle.std.proofs.Common.{refl, arith}
-use Rattle.ctt_text.specs.Words.{is_blank}
+use Rattle.ctt_problem.specs.Named.{is_blank}
 use Rattle.ctt_text.proofs.LaneLemmas.{blank_lane, lanes_are, mask_is}
 use Rattle.ctt_text.proofs.words.blanks.Goals as goal
 

@@ -1,6 +1,6 @@
 use Rattle.std.proofs.Common.{sym}
-use Rattle.ctt_text.specs.Words.{is_blank}
-use Rattle.ctt_text.proofs.WordLemmas.{position_none}
+use Rattle.ctt_problem.specs.Named.{is_blank}
+use Rattle.ctt_problem.proofs.ListLaws.{position_none}
 use Rattle.ctt_text.proofs.words.len_by_bytes.Goals as goal
 
 pub returns-in-None : goal.returns-in-None

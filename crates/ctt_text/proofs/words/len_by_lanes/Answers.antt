@@ -3,7 +3,7 @@ use Rattle.std.proofs.lemmas.List.{take_all, length-drop}
 use Rattle.std.proofs.lemmas.List.Sums.{prefix_len-le-length}
 use Rattle.std.specs.List.{position_or_len}
 use lib.Count.{count_trailing_zeros}
-use Rattle.ctt_text.specs.Words.{is_blank}
+use Rattle.ctt_problem.specs.Named.{is_blank}
 use Rattle.ctt_text.proofs.LaneLemmas.{run_through, run_stops}
 use Rattle.ctt_text.proofs.words.len_by_lanes.Goals as goal
 

@@ -1,6 +1,6 @@
 use Rattle.std.proofs.Common.{arith}
 use Rattle.ctt_core.specs.Runs.{EventFits}
-use Rattle.ctt_text.proofs.TimetableLemmas.{Each-from_index}
+use Rattle.ctt_problem.proofs.TimetableLemmas.{Each-from_index}
 use Rattle.ctt_trials.proofs.desks.all_fit.Goals as goal
 
 pub returns : goal.returns

@@ -1,6 +1,6 @@
 use Rattle.std.proofs.Common.{rules}
 use Rattle.std.specs.List.{AllByRecursion as Each}
-use Rattle.ctt_text.specs.Timetable.{Fits}
+use Rattle.ctt_problem.specs.Timetable.{Fits}
 use Rattle.ctt_core.specs.Entries.{EntryFits}
 use Rattle.ctt_trials.proofs.journals.tell_entries.Goals as goal
 

@@ -1,5 +1,5 @@
 use Rattle.std.proofs.Common.{◌≡◌, take, string_bytes}
-use Rattle.ctt_text.specs.Timetable.{slot_row}
+use Rattle.ctt_problem.specs.Timetable.{slot_row}
 use Rattle.ctt_views.specs.Week.{entries}
 use Rattle.ctt_views.proofs.cell.entries.Given as goal
 

@@ -1,6 +1,6 @@
 use Rattle.std.proofs.Common.{◌≡◌, [], ◌∷◌, ◌++◌, codes}
 use Rattle.std.specs.Fmt.{decimal}
-use Rattle.ctt_text.specs.Problem.{slot_of}
+use Rattle.ctt_problem.specs.Problem.{slot_of}
 use Rattle.ctt_views.specs.Week.{cell, for_each}
 use Rattle.ctt_views.proofs.columns.day_column.Given as goal
 

@@ -1,5 +1,5 @@
 use Rattle.std.proofs.Common.{ap, string_bytes}
-use Rattle.ctt_text.specs.Problem.{slot_of}
+use Rattle.ctt_problem.specs.Problem.{slot_of}
 use Rattle.ctt_views.specs.Cells.{cell}
 use Rattle.ctt_views.proofs.TextLemmas.{goes_on}
 use Rattle.ctt_views.proofs.grids.push_cells.Goals as goal

@@ -1,5 +1,5 @@
 use Rattle.std.proofs.Common.{◌≡◌, ◌++◌, string_bytes}
-use Rattle.ctt_text.specs.Problem.{slot_of}
+use Rattle.ctt_problem.specs.Problem.{slot_of}
 use Rattle.ctt_views.specs.Cells.{cell}
 use Rattle.ctt_views.specs.GridTexts.{each_below}
 use Rattle.ctt_views.proofs.grids.push_cells.Given as goal

@@ -1,5 +1,5 @@
 use Rattle.std.proofs.Common.{string_bytes}
-use Rattle.ctt_text.specs.Problem.{has_barred, slot_count}
+use Rattle.ctt_problem.specs.Problem.{has_barred, slot_count}
 use Rattle.ctt_rules.specs.Hard.{hard_counts}
 use Rattle.ctt_rules.specs.Penalty.{penalty}
 use Rattle.ctt_views.specs.Page.{HasFindings, page, page_end}

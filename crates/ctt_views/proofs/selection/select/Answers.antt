@@ -1,7 +1,7 @@
 use Rattle.std.proofs.Common.{◌≡◌, ◌∙◌, ap, arith, append-nil, sym, subst}
 use Rattle.std.specs.List.{filter, AllByRecursion as Each}
 use Rattle.std.proofs.lemmas.List.{take_all}
-use Rattle.ctt_text.specs.Timetable.{Fits}
+use Rattle.ctt_problem.specs.Timetable.{Fits}
 use Rattle.ctt_rules.proofs.ListLemmas.{Each-filter}
 use Rattle.ctt_views.specs.Week.{is_selected}
 use Rattle.ctt_views.proofs.WeekLemmas.{more_pass}

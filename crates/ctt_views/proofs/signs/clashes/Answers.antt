@@ -1,5 +1,5 @@
 use Rattle.std.proofs.Common.{◌∙◌, sym}
-use Rattle.ctt_text.specs.Problem.{clash}
+use Rattle.ctt_problem.specs.Problem.{clash}
 use Rattle.ctt_views.proofs.TextLemmas.{any_here, none_more}
 use Rattle.ctt_views.proofs.signs.clashes.Goals as goal
 

@@ -1,5 +1,5 @@
 use Rattle.std.proofs.Common.{◌≡◌, ◌<◌, ℕ, [], map, get_or, length, take}
-use Rattle.ctt_text.specs.Timetable.{slot_row}
+use Rattle.ctt_problem.specs.Timetable.{slot_row}
 use Rattle.ctt_views.proofs.week.add_lectures.Given as goal
 
 abbrev pub invariant-loop-lecture : goal.invariant-loop-lecture

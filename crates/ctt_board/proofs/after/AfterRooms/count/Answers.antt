@@ -1,6 +1,6 @@
 use Rattle.std.proofs.Common.{◌≡◌, ◌+◌, subst, length, leb, false, arith}
 use Rattle.std.proofs.lemmas.Bool.{and_parts}
-use Rattle.ctt_text.specs.Timetable.{course_row}
+use Rattle.ctt_problem.specs.Timetable.{course_row}
 use Rattle.ctt_rules.specs.Hard.{Lawful}
 use Rattle.ctt_board.specs.Changes.{in_turn, apply}
 use Rattle.ctt_board.proofs.AfterLemmas.{rows_after, few_in_row}

@@ -1,6 +1,6 @@
 use Rattle.std.proofs.Common.{subst}
 use Rattle.std.specs.List.{AllByRecursion as Each}
-use Rattle.ctt_text.specs.Problem.{IsProblem}
+use Rattle.ctt_problem.specs.Problem.{IsProblem}
 use Rattle.ctt_draft.specs.Drafts.{AskedFits}
 use Rattle.ctt_core.proofs.JournalLemmas.{told_fit}
 use Rattle.ctt_desk.specs.Planners.{DraftingValue}

@@ -1,8 +1,8 @@
 use Rattle.std.proofs.Common.{◌≡◌, ◌+◌, ◌∙◌, None, sym, subst, arith}
 use Rattle.std.specs.List.{find}
-use Rattle.ctt_text.specs.Lists.{below}
-use Rattle.ctt_text.specs.Marks.{IsLeast}
-use Rattle.ctt_text.specs.Problem.{course_count}
+use Rattle.ctt_problem.specs.Lists.{below}
+use Rattle.ctt_problem.specs.Marks.{IsLeast}
+use Rattle.ctt_problem.specs.Problem.{course_count}
 use Rattle.ctt_edits.specs.RowSets.{has_course, between}
 use Rattle.ctt_edits.specs.declared.row.Row.TheVariants.{Course}
 use Rattle.ctt_draft.specs.Drafts.{differs}

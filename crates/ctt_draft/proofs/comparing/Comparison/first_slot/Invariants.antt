@@ -1,7 +1,7 @@
 use Rattle.std.proofs.Common.{◌≡◌, ◌≤◌, ◌-◌, None}
 use Rattle.std.specs.List.{find}
-use Rattle.ctt_text.specs.Lists.{below}
-use Rattle.ctt_text.specs.Problem.{slot_count}
+use Rattle.ctt_problem.specs.Lists.{below}
+use Rattle.ctt_problem.specs.Problem.{slot_count}
 use Rattle.ctt_edits.specs.RowSets.{has_slot}
 use Rattle.ctt_edits.specs.declared.row.Row.TheVariants.{Slot}
 use Rattle.ctt_draft.specs.Drafts.{differs}

@@ -1,7 +1,7 @@
 use Rattle.std.proofs.Common.{◌≡◌, ◌∙◌, sym, ap, subst, arith}
 use borrow.Author.Count.{below_more}
-use Rattle.ctt_text.specs.Problem.{slot_count}
-use Rattle.ctt_text.specs.Timetable.{course_row}
+use Rattle.ctt_problem.specs.Problem.{slot_count}
+use Rattle.ctt_problem.specs.Timetable.{course_row}
 use Rattle.ctt_board.specs.Changes.{room_at}
 use Rattle.ctt_board.proofs.SameLemmas.{course_rows_same, room_by_course_row, agree}
 use Rattle.ctt_draft.specs.Comparisons.{base_of}

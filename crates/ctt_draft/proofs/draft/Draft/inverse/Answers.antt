@@ -1,5 +1,5 @@
 use Rattle.std.proofs.Common.{◌<◌, rules, subst}
-use Rattle.ctt_text.specs.Problem.{course_count, slot_count}
+use Rattle.ctt_problem.specs.Problem.{course_count, slot_count}
 use Rattle.ctt_edits.specs.Edits.{EditFits}
 use Rattle.ctt_edits.specs.declared.edit.Edit.TheVariants.{Move, Reroom, Drop}
 use Rattle.ctt_draft.proofs.draft.Draft.inverse.Goals as goal

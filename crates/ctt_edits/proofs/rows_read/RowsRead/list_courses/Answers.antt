@@ -1,4 +1,4 @@
-use Rattle.ctt_text.specs.Problem.{course_count}
+use Rattle.ctt_problem.specs.Problem.{course_count}
 use Rattle.ctt_edits.specs.RowSets.{has_course}
 use Rattle.ctt_edits.specs.declared.row.Row.TheVariants.{Course}
 use Rattle.ctt_edits.proofs.MarkedRows.{row_more, row_done}

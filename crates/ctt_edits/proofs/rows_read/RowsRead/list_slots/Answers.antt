@@ -1,4 +1,4 @@
-use Rattle.ctt_text.specs.Problem.{slot_count}
+use Rattle.ctt_problem.specs.Problem.{slot_count}
 use Rattle.ctt_edits.specs.RowSets.{has_slot}
 use Rattle.ctt_edits.specs.declared.row.Row.TheVariants.{Slot}
 use Rattle.ctt_edits.proofs.MarkedRows.{row_more, row_done}

@@ -1,6 +1,6 @@
 use Rattle.std.proofs.Common.{◌≡◌, ◌≤◌, ◌-◌, ◌++◌, map}
-use Rattle.ctt_text.specs.Lists.{below}
-use Rattle.ctt_text.specs.Problem.{slot_count}
+use Rattle.ctt_problem.specs.Lists.{below}
+use Rattle.ctt_problem.specs.Problem.{slot_count}
 use Rattle.ctt_edits.specs.RowSets.{has_slot}
 use Rattle.ctt_edits.specs.declared.row.Row.TheVariants.{Slot}
 use Rattle.ctt_edits.proofs.rows_read.RowsRead.list_slots.Given as goal

@@ -1,5 +1,5 @@
 use Rattle.std.proofs.Common.{◌≡◌, ◌∙◌, rules, subst, sym, ap}
-use Rattle.ctt_text.specs.Timetable.{course_row}
+use Rattle.ctt_problem.specs.Timetable.{course_row}
 use Rattle.ctt_findings.specs.Rows.{AreRows}
 use Rattle.ctt_findings.proofs.RowLemmas.{one_more}
 use Rattle.ctt_findings.proofs.rows.Rows.of.Goals as goal

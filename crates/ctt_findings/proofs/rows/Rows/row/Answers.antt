@@ -1,6 +1,6 @@
 use Rattle.std.proofs.Common.{◌≡◌, ◌∙◌, ap, subst, sym}
 use Rattle.std.specs.List.{AllByRecursion as Each}
-use Rattle.ctt_text.specs.Timetable.{Fits, course_row}
+use Rattle.ctt_problem.specs.Timetable.{Fits, course_row}
 use Rattle.ctt_rules.proofs.TimetableLemmas.{row_fits}
 use Rattle.ctt_findings.specs.Rows.{AreRows}
 use Rattle.ctt_findings.proofs.RowLemmas.{known_at}

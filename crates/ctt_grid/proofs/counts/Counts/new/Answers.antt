@@ -1,5 +1,5 @@
 use Rattle.std.proofs.Common.{◌≡◌, ◌∙◌, arith}
-use Rattle.ctt_text.specs.Problem.{course_count, curriculum_count, slot_count}
+use Rattle.ctt_problem.specs.Problem.{course_count, curriculum_count, slot_count}
 use Rattle.ctt_grid.proofs.CountsLemmas.{none_counted}
 use Rattle.ctt_grid.proofs.counts.Counts.new.Goals as goal
 

@@ -1,5 +1,5 @@
 use Rattle.std.proofs.Common.{◌∙◌, sym, ap, subst}
-use Rattle.ctt_text.specs.Timetable.{Fits, with}
+use Rattle.ctt_problem.specs.Timetable.{Fits, with}
 use Rattle.ctt_rules.specs.Hard.{Lawful}
 use Rattle.ctt_rules.specs.Penalty.{penalty}
 use Rattle.ctt_grid.specs.Grids.{listed}

@@ -1,5 +1,5 @@
 use Rattle.std.proofs.Common.{◌≡◌, ◌∙◌, ◌++◌, ℕ, Option, sym, ap, arith}
-use Rattle.ctt_text.specs.Problem.{slot_count}
+use Rattle.ctt_problem.specs.Problem.{slot_count}
 use Rattle.ctt_board.specs.Boards.{Board}
 use Rattle.ctt_board.specs.Cells.{row_below}
 use Rattle.ctt_board.specs.Changes.{room_at}

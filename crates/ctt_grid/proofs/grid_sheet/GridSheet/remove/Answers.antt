@@ -1,5 +1,5 @@
 use Rattle.std.proofs.Common.{◌≡◌, ◌∙◌, Some, sym, ap, subst}
-use Rattle.ctt_text.specs.Timetable.{Fits, without}
+use Rattle.ctt_problem.specs.Timetable.{Fits, without}
 use Rattle.ctt_rules.specs.Penalty.{penalty}
 use Rattle.ctt_board.specs.Changes.{room_at}
 use Rattle.ctt_grid.specs.Counts.{AreCounts}

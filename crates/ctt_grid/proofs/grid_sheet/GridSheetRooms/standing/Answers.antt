@@ -1,8 +1,8 @@
 use Rattle.std.proofs.Common.{rules, ◌≡◌, ◌<◌, ◌∙◌, is_some, sym, ap, subst}
-use Rattle.ctt_text.specs.Problem.{slot_count}
+use Rattle.ctt_problem.specs.Problem.{slot_count}
 use Rattle.ctt_board.specs.Boards.{Board}
 use Rattle.ctt_board.specs.Changes.{room_at}
-use Rattle.ctt_text.specs.BitRows.{is_marked_in}
+use Rattle.ctt_problem.specs.BitRows.{is_marked_in}
 use Rattle.ctt_grid.proofs.grid_sheet.GridSheetRooms.standing.Goals as goal
 
 pub returns : goal.returns

@@ -1,6 +1,6 @@
 use Rattle.std.proofs.Common.{rules, ◌≡◌, ◌∙◌, ◌++◌, ℕ, Option, add-one, sym, ap, ap₂, arith}
-use Rattle.ctt_text.specs.Problem.{course_count, slot_count}
-use Rattle.ctt_text.specs.Timetable.{course_row}
+use Rattle.ctt_problem.specs.Problem.{course_count, slot_count}
+use Rattle.ctt_problem.specs.Timetable.{course_row}
 use Rattle.ctt_board.specs.Boards.{Board}
 use Rattle.ctt_board.specs.Changes.{room_at}
 use Rattle.ctt_board.specs.Cells.{rows_below}

@@ -1,5 +1,5 @@
 use Rattle.std.proofs.Common.{◌≡◌}
-use Rattle.ctt_text.specs.Problem.{slot_count}
+use Rattle.ctt_problem.specs.Problem.{slot_count}
 use Rattle.ctt_board.specs.Changes.{room_at}
 use Rattle.ctt_board.specs.Cells.{rows_below}
 use Rattle.ctt_grid.proofs.grid_sheet.GridSheetTimetable.list.Given as goal

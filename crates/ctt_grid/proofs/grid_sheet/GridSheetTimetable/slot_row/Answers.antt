@@ -1,5 +1,5 @@
 use Rattle.std.proofs.Common.{◌≡◌, ◌∙◌, ℕ, Option, sym, ap, arith}
-use Rattle.ctt_text.specs.Problem.{course_count}
+use Rattle.ctt_problem.specs.Problem.{course_count}
 use Rattle.ctt_board.specs.Boards.{Board}
 use Rattle.ctt_board.specs.Changes.{room_at}
 use Rattle.ctt_board.specs.Cells.{column_below}

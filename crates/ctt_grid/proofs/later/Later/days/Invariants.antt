@@ -1,5 +1,5 @@
 use Rattle.std.proofs.Common.{◌≡◌, ◌≤◌, nat_lt}
-use Rattle.ctt_text.specs.Lists.{count_below}
+use Rattle.ctt_problem.specs.Lists.{count_below}
 use Rattle.ctt_grid.specs.Seen.{seen_day}
 use Rattle.ctt_grid.proofs.later.Later.days.Given as goal
 

@@ -1,5 +1,5 @@
 use Rattle.std.proofs.Common.{◌∙◌, ap}
-use Rattle.ctt_text.specs.Timetable.{has_lecture}
+use Rattle.ctt_problem.specs.Timetable.{has_lecture}
 use Rattle.ctt_board.specs.Boards.{Board}
 use Rattle.ctt_grid.proofs.StandingLemmas.{stands_there}
 use Rattle.ctt_grid.proofs.list_sheet.ListSheetRooms.standing.Goals as goal

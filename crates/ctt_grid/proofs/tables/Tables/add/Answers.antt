@@ -1,5 +1,5 @@
 use Rattle.std.proofs.Common.{◌≡◌}
-use Rattle.ctt_text.specs.Timetable.{with}
+use Rattle.ctt_problem.specs.Timetable.{with}
 use Rattle.ctt_grid.specs.Grids.{listed, AreTables}
 use Rattle.ctt_grid.proofs.CountsLemmas.{counts_more, have_none}
 use Rattle.ctt_grid.proofs.FewLemmas.{have_room}

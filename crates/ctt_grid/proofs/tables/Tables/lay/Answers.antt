@@ -1,6 +1,6 @@
 use Rattle.std.proofs.Common.{rules, ◌≡◌, ◌==◌, ◌&&◌, cond, Some, None, ◌∙◌, ap, ap₂, subst₂, arith, true}
 use Rattle.ctt_grid.specs.Tables.{at}
-use Rattle.ctt_text.specs.BitRows.{SetsMark}
+use Rattle.ctt_problem.specs.BitRows.{SetsMark}
 use Rattle.ctt_grid.proofs.StandingLemmas.{standing_after_cell}
 use Rattle.ctt_grid.proofs.GridLemmas.{WroteRoom, with_rooms}
 use Rattle.ctt_grid.proofs.HolderLemmas.{WroteCourse, holders_with}

@@ -1,6 +1,6 @@
 use Rattle.std.proofs.Common.{rules, ◌≡◌, ◌==◌, ◌&&◌, cond, None, is_some, ◌∙◌, ap, ap₂, subst₂, arith, false}
 use Rattle.ctt_grid.specs.Tables.{at}
-use Rattle.ctt_text.specs.BitRows.{SetsMark}
+use Rattle.ctt_problem.specs.BitRows.{SetsMark}
 use Rattle.ctt_grid.proofs.StandingLemmas.{standing_after_cell}
 use Rattle.ctt_grid.proofs.GridLemmas.{WroteRoom, without_rooms}
 use Rattle.ctt_grid.proofs.HolderLemmas.{WroteCourse, holders_without}

@@ -1,5 +1,5 @@
 use Rattle.std.proofs.Common.{subst, ◌≡◌, ◌∙◌, [], arith}
-use Rattle.ctt_text.specs.Problem.{course_count, slot_count}
+use Rattle.ctt_problem.specs.Problem.{course_count, slot_count}
 use Rattle.ctt_grid.specs.Tables.{at}
 use Rattle.ctt_grid.specs.Grids.{listed, AreRooms, AreHolders, AreStanding, AreTables}
 use Rattle.ctt_grid.proofs.StandingLemmas.{none_stand}

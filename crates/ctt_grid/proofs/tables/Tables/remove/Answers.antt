@@ -1,5 +1,5 @@
 use Rattle.std.proofs.Common.{◌≡◌}
-use Rattle.ctt_text.specs.Timetable.{without}
+use Rattle.ctt_problem.specs.Timetable.{without}
 use Rattle.ctt_grid.specs.Grids.{listed, AreTables}
 use Rattle.ctt_grid.proofs.CountsLemmas.{counts_less}
 use Rattle.ctt_board.proofs.LawfulLemmas.{without_lawful}

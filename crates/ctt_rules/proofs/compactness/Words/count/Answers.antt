@@ -1,7 +1,7 @@
 use Rattle.std.proofs.Common.{◌≡◌, ◌<◌, ◌≤◌, ◌^◌, ◌&&◌, ◌∙◌, ℕ, ap, arith, get_or}
 use Rattle.std.specs.Prelude.{bit_and, count_ones}
 use Rattle.std.proofs.lemmas.List.Sums.{sum_by_more}
-use Rattle.ctt_text.specs.Lists.{count_below}
+use Rattle.ctt_problem.specs.Lists.{count_below}
 use Rattle.ctt_rules.specs.Windows.{has_bit, word_of}
 use Rattle.ctt_rules.proofs.BitLemmas.{common_counted, few_ones}
 use Rattle.ctt_rules.proofs.compactness.Words.count.Goals as goal

@@ -1,5 +1,5 @@
 use Rattle.std.proofs.Common.{◌≡◌, ◌≤◌, ◌*◌, ◌&&◌, take, sum_by}
-use Rattle.ctt_text.specs.Lists.{count_below}
+use Rattle.ctt_problem.specs.Lists.{count_below}
 use Rattle.ctt_rules.specs.Windows.{has_bit, word_of}
 use Rattle.ctt_rules.proofs.compactness.Words.count.Given as goal
 

@@ -1,4 +1,4 @@
-use Rattle.ctt_text.proofs.MarkLemmas.{all_alike}
+use Rattle.ctt_problem.proofs.MarkLemmas.{all_alike}
 use Rattle.ctt_rules.proofs.compactness.Words.new.Goals as goal
 
 pub returns : goal.returns

@@ -1,7 +1,7 @@
 use Rattle.std.proofs.Common.{◌||◌, ◌∙◌, sym, ap, ap₂}
 use Rattle.std.proofs.lemmas.List.Folds.{list_any_more}
 use Rattle.ctt_rules.specs.Windows.{has_bit, word_of}
-use Rattle.ctt_text.proofs.MarkLemmas.{either_bit}
+use Rattle.ctt_problem.proofs.MarkLemmas.{either_bit}
 use Rattle.ctt_rules.proofs.compactness.Words.union.Goals as goal
 
 pub loop-course-preserved : goal.loop-course-preserved

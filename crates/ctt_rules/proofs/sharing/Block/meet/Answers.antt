@@ -1,6 +1,6 @@
 use Rattle.std.proofs.Common.{◌≡◌, ◌+◌, ◌-◌, ◌≤◌, ◌<◌, ◌&&◌, ◌∙◌, ℕ, true, cond, leb, ltb, ap, ap₂, sym, arith}
 use Rattle.std.proofs.lemmas.Bool.{le-leb, lt-ltb, and_from}
-use Rattle.ctt_text.specs.Marks.{is_marked, count_marked}
+use Rattle.ctt_problem.specs.Marks.{is_marked, count_marked}
 use Rattle.ctt_rules.specs.Earlier.{clashes_with, in_row}
 use Rattle.ctt_rules.proofs.ConflictLemmas.{marked_same}
 use Rattle.ctt_rules.proofs.sharing.Block.meet.Goals as goal

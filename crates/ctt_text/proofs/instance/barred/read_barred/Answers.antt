@@ -1,8 +1,8 @@
 use Rattle.std.proofs.Common.{◌∙◌, sym, ap, subst}
 use Rattle.std.proofs.lemmas.Result.{err_from_is_err_and}
 use Rattle.ctt_text.specs.Words.{words}
-use Rattle.ctt_text.specs.Problem.{Problem}
-use Rattle.ctt_text.specs.BitRows.{marks_of}
+use Rattle.ctt_problem.specs.Problem.{Problem}
+use Rattle.ctt_problem.specs.BitRows.{marks_of}
 use Rattle.ctt_text.specs.BarredText.{BarSpells}
 use Rattle.ctt_text.proofs.BarredReading.{ok_spelled, ok_accepted, ok_unbroken, err_cause, err_accepted, err_broken, err_either}
 use Rattle.ctt_text.proofs.instance.barred.read_barred.Goals as goal

@@ -1,5 +1,5 @@
 use Rattle.std.proofs.lemmas.Result.{err_from_is_err_and}
-use Rattle.ctt_text.specs.BitRows.{marks_of}
+use Rattle.ctt_problem.specs.BitRows.{marks_of}
 use Rattle.ctt_text.specs.Forms.{times}
 use Rattle.ctt_text.specs.BarredPlaces.{reads_barred, ends_early, wants_memory, barred_pair}
 use Rattle.ctt_text.proofs.Steps.{goes_on, ends, is_done}

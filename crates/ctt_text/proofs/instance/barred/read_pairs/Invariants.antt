@@ -1,6 +1,6 @@
 use Rattle.std.proofs.Common.{◌≡◌, ◌-◌}
-use Rattle.ctt_text.specs.BitRows.{marks_of, HasSize}
-use Rattle.ctt_text.specs.Problem.{course_count, room_count}
+use Rattle.ctt_problem.specs.BitRows.{marks_of, HasSize}
+use Rattle.ctt_problem.specs.Problem.{course_count, room_count}
 use Rattle.ctt_text.specs.Forms.{times}
 use Rattle.ctt_text.specs.BarredPlaces.{reads_barred, barred_pair}
 use Rattle.ctt_text.proofs.instance.barred.read_pairs.Given as goal

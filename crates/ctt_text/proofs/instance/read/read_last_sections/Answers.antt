@@ -1,6 +1,6 @@
 use Rattle.std.proofs.Common.{◌∙◌, codes}
 use Rattle.std.proofs.lemmas.Result.{err_from_is_err_and}
-use Rattle.ctt_text.specs.BitRows.{marks_of}
+use Rattle.ctt_problem.specs.BitRows.{marks_of}
 use Rattle.ctt_text.specs.Forms.{times}
 use Rattle.ctt_text.specs.Places.{after, fixed}
 use Rattle.ctt_text.specs.InstancePlaces.{curriculum, no_curricula, unavailability, all_available, missing, wants_memory}

@@ -1,5 +1,5 @@
 use Rattle.std.proofs.Common.{◌≡◌, ◌-◌, ◌*◌, length}
-use Rattle.ctt_text.specs.BitRows.{marks_of, HasSize}
+use Rattle.ctt_problem.specs.BitRows.{marks_of, HasSize}
 use Rattle.ctt_text.specs.Forms.{times}
 use Rattle.ctt_text.specs.InstancePlaces.{reads, unavailability}
 use Rattle.ctt_text.proofs.instance.unavailability.read_periods.Given as goal

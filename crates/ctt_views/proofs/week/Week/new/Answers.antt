@@ -1,6 +1,6 @@
 use Rattle.std.proofs.Common.{◌∙◌, map, arith}
 use Rattle.std.proofs.lemmas.List.{length-map}
-use Rattle.ctt_text.specs.Problem.{slot_count}
+use Rattle.ctt_problem.specs.Problem.{slot_count}
 use Rattle.ctt_rules.proofs.TimetableLemmas.{slots_fit}
 use Rattle.ctt_views.proofs.BySlotLemmas.{by_slot_is, week_fits}
 use Rattle.ctt_views.proofs.week.Week.new.Goals as goal

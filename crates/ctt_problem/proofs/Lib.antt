@@ -1,0 +1,14 @@
+pub mod SharingLemmas
+pub mod NameLemmas
+pub mod MarkLemmas
+pub mod TableLemmas
+pub mod NumberListLemmas
+pub mod BelongingLemmas
+pub mod TimetableLemmas
+pub mod ListLaws
+pub mod MarkLaws
+pub mod BitRowLemmas
+pub mod TogetherLemmas
+pub mod LectureLaws
+pub mod BarredTables
+pub mod ResultLemmas

@@ -1,0 +1,12 @@
+pub mod Lists
+pub mod Marks
+pub mod BitRows
+pub mod Problem
+pub mod Timetable
+pub mod NumberLists
+pub mod Belonging
+pub mod Taught
+pub mod Instance
+pub mod Named
+pub mod RoomTable
+pub mod Parts

@@ -1,0 +1,44 @@
+-- Files that are compared one after another.
+use Rattle.std.proofs.Common.{◌≡◌, ◌∙◌, ◌⊎◌, ◌++◌, inl, inr, ⊎_elim, ℕ, List, [], ◌∷◌, refl, sym, ap, subst, append-nil, append_assoc}
+use Rattle.std.specs.Global.{Global}
+use Rattle.std.specs.String.{string_bytes}
+use Rattle.std.specs.declared.string.String.{String}
+use Rattle.ctt_problem.specs.Problem.{Problem}
+use Rattle.ctt_files.specs.Texts.{Held}
+use Rattle.ctt_words.specs.declared.job.TableForm.{TableForm}
+use Rattle.ctt_reports.specs.Compare.{AddsFile, AreCompared}
+use Rattle.ctt_reports.specs.declared.comparing.Compared.{Compared}
+use Rattle.ctt_reports.specs.declared.row.Row.{Row}
+
+-- these rows and lines are those of the files before the ones that are left
+abbrev pub IsAhead : TableForm → Held → Problem → List (String Global) → List (String Global) → List Row → List ℕ → Type 0
+IsAhead form held i files left rows lines = (others : List Row) (more : List ℕ) → AreCompared form held i left others more → AreCompared form held i files (rows ++ others) (lines ++ more)
+
+pub none_ahead : (form : TableForm) (held : Held) (i : Problem) (files left : List (String Global)) (rows : List Row) (lines : List ℕ) → left ≡ files → rows ≡ [] → lines ≡ []
+    → IsAhead form held i files left rows lines
+none_ahead form held i files left rows lines same no_rows no_lines others more are =
+    subst (λ r. AreCompared form held i files (r ++ others) (lines ++ more)) (sym no_rows)
+    (subst (λ l. AreCompared form held i files others (l ++ more)) (sym no_lines) (subst (λ f. AreCompared form held i f others more) same are))
+
+-- one more file
+pub one_ahead : (form : TableForm) (held : Held) (i : Problem) (files left later : List (String Global)) (file : String Global) (before after : Compared)
+    → left ≡ file ∷ later → AddsFile form held i file before after
+    → IsAhead form held i files left before.rows.items (string_bytes before.refused) → IsAhead form held i files later after.rows.items (string_bytes after.refused)
+one_ahead form held i files left later file before after same (inl (row, rows_are, lines_are, is)) ahead others more are =
+    subst (λ r. AreCompared form held i files (r ++ others) (string_bytes after.refused ++ more)) (sym rows_are)
+    (subst (λ l. AreCompared form held i files ((before.rows.items ++ row ∷ []) ++ others) (l ++ more)) (sym lines_are)
+    (subst (λ r. AreCompared form held i files r (string_bytes before.refused ++ more)) (sym (append_assoc before.rows.items (row ∷ []) others))
+    (ahead (row ∷ others) more (subst (λ f. AreCompared form held i f (row ∷ others) more) (sym same) (inl (row, others, refl, is, are))))))
+one_ahead form held i files left later file before after same (inr (line, lines_are, rows_are, is)) ahead others more are =
+    subst (λ r. AreCompared form held i files (r ++ others) (string_bytes after.refused ++ more)) (sym rows_are)
+    (subst (λ l. AreCompared form held i files (before.rows.items ++ others) (l ++ more)) (sym lines_are)
+    (subst (λ l. AreCompared form held i files (before.rows.items ++ others) l) (sym (append_assoc (string_bytes before.refused) line more))
+    (ahead others (line ++ more) (subst (λ f. AreCompared form held i f others (line ++ more)) (sym same) (inr (line, more, refl, is, are))))))
+
+-- all files
+pub all_compared : (form : TableForm) (held : Held) (i : Problem) (files left : List (String Global)) (rows : List Row) (lines : List ℕ) → left ≡ [] → IsAhead form held i files left rows lines
+    → AreCompared form held i files rows lines
+all_compared form held i files left rows lines none ahead =
+    subst (λ r. AreCompared form held i files r lines) (append-nil rows)
+    (subst (λ l. AreCompared form held i files (rows ++ []) l) (append-nil lines)
+    (ahead [] [] (subst (λ f. AreCompared form held i f [] []) (sym none) (refl, refl))))

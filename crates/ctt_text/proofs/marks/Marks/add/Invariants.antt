@@ -1,5 +1,0 @@
-use Rattle.ctt_text.proofs.MarkLemmas.{AddedBelow}
-use Rattle.ctt_text.proofs.marks.Marks.add.Given as goal
-
-abbrev pub invariant-loop-place : goal.invariant-loop-place
-invariant-loop-place l = AddedBelow l.initial.self-inside.words l.other-inside.words l.self-inside.words l.place

@@ -1,6 +1,0 @@
-use Rattle.std.proofs.Common.{◌≡◌, ◌<◌, ◌/◌, ℕ, false}
-use Rattle.ctt_text.proofs.MarkLemmas.{in_both}
-use Rattle.ctt_text.proofs.marks.Marks.first_common_below.Given as goal
-
-abbrev pub invariant-loop-place : goal.invariant-loop-place
-invariant-loop-place l = (n : ℕ) → n / 64 < l.place → in_both l.self-inside.words l.other-inside.words n ≡ false

@@ -1,5 +1,0 @@
-use Rattle.ctt_text.proofs.MarkLemmas.{FilledBelow}
-use Rattle.ctt_text.proofs.marks.Marks.mark_below.Given as goal
-
-abbrev pub invariant-loop-place : goal.invariant-loop-place
-invariant-loop-place l = FilledBelow l.initial.self-inside.words l.self-inside.words l.place

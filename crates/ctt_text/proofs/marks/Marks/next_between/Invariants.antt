@@ -1,6 +1,0 @@
-use Rattle.std.proofs.Common.{◌≡◌, ◌<◌, ◌/◌, ℕ, ◌&&◌, nat_le, false}
-use Rattle.ctt_text.specs.Marks.{is_marked}
-use Rattle.ctt_text.proofs.marks.Marks.next_between.Given as goal
-
-abbrev pub invariant-loop-place : goal.invariant-loop-place
-invariant-loop-place l = (n : ℕ) → n / 64 < l.place → (nat_le l.first n && is_marked l.words n) ≡ false

@@ -1,8 +1,0 @@
-use Rattle.ctt_text.specs.Timetable.{IsTimetable, ByNeighbours}
-use Rattle.ctt_text.proofs.TimetableLemmas.{decides, IsTimetable-from_neighbours, IsTimetable-neighbours}
-use Rattle.ctt_text.proofs.timetable.is_timetable.Goals as goal
-
-pub returns : goal.returns
-returns c =
-    decides c.ascends.result (ByNeighbours c.args.instance.now c.args.lectures.now) (IsTimetable c.args.instance.now c.args.lectures.now) c.ascends.ensures.yes c.ascends.ensures.no
-    (IsTimetable-from_neighbours c.args.instance.now c.args.lectures.now) (IsTimetable-neighbours c.args.instance.now c.args.lectures.now)
