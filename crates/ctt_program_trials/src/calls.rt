@@ -1,7 +1,7 @@
 //! The calls of the program.
 
-use crate::office::FULL;
 use crate::buffer::CAPACITY;
+use crate::office::FULL;
 
 /// A call of the program.
 pub(crate) struct Call {

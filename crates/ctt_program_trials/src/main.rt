@@ -1,27 +1,24 @@
 //! Trials of the program, which is called over files in memory. The status and the outputs of each
-//! call are printed, and at the end the number of calls that were repeated because memory ran out.
-//! All that is printed before that number is the same, whichever one request for memory is refused.
+//! call are printed, and at the end 1 if a call was repeated because memory ran out, or else 0. All
+//! that is printed before that is the same, whichever one request for memory is refused.
 #![tactic(auto)]
 
+mod buffer;
 mod calls;
 mod files;
 mod office;
-mod buffer;
 
+use buffer::{Buffer, CAPACITY};
 use calls::{CALLS, Call};
-use ctt_files::{Device, Failed, Sink, put_all, put_whole};
+use ctt_files::{Device, Failed, NO_MEMORY, Sink, put_all, put_whole};
 use ctt_program::program;
 use files::MemoryFiles;
 use office::ClosedOffice;
-use buffer::{CAPACITY, Buffer};
 use std::alloc::Global;
 use std::marker::Sync;
 use std::process::ExitCode;
 use std::sync::Wait;
 use std::thread::Threads;
-
-/// What the program reports if memory runs out.
-const NO_MEMORY: &[u8] = b"timedesk: no memory\n";
 
 /// The outputs of a call, and the file that it stores.
 #[derive(Drop)]
@@ -43,7 +40,11 @@ impl Outputs {
 }
 
 /// Calls the program once, and returns its status.
-fn call_once<R: AllocGlobal + Threads + Wait + Sync>(rt: &R, call: &Call, outputs: &mut Outputs) -> u8 {
+fn call_once<R: AllocGlobal + Threads + Wait + Sync>(
+    rt: &R,
+    call: &Call,
+    outputs: &mut Outputs,
+) -> u8 {
     outputs.stored.clear(CAPACITY);
     outputs.out.clear(call.limit);
     outputs.err.clear(CAPACITY);
@@ -66,7 +67,7 @@ fn call_twice<R: AllocGlobal + Threads + Wait + Sync>(
     outputs: &mut Outputs,
 ) -> (u8, bool) {
     let status = call_once(rt, call, outputs);
-    if status == 3 && outputs.err.text() == NO_MEMORY {
+    if status == 3 && outputs.err.text() == NO_MEMORY.as_bytes() {
         return (call_once(rt, call, outputs), true);
     }
     (status, false)
@@ -94,7 +95,7 @@ fn report<W: Sink>(out: &mut W, call: &Call, status: u8, outputs: &Outputs) -> R
     put_lines(out, outputs.stored.text())
 }
 
-/// Makes all calls, and writes what each left and how many were repeated.
+/// Makes all calls, and writes what each left and whether one was repeated.
 fn play<R: AllocGlobal + Threads + Wait + Sync, W: Sink>(
     rt: &R,
     outputs: &mut Outputs,
