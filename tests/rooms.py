@@ -17,7 +17,6 @@ high: What stands high: on low
   parts.rt: Of parts
   parts/one.rt: One of two parts
   two.rt: A thing: all that it is
-  specs: First, Second
 ```
 """
 passed = failed = 0
@@ -64,8 +63,6 @@ with tempfile.TemporaryDirectory() as room:
     write(top / "crates/high/src/two.rt", "//! A thing: all that it is.\n")
     write(top / "crates/high/src/parts/one.rt", "//! One of two parts: the first. And more.\n")
     write(top / "crates/high/src/parts.rt", "//! Of parts.\n")
-    for name in "Second", "First", "Lib":
-        write(top / f"crates/high/specs/{name}.antt", "-- Says something.\n")
     write(page, "before\n<!-- rooms -->\nold\n<!-- end of rooms -->\nafter\n")
     equals("the table", run(top), (0, TABLE))
     status, said = run(top, "--check")

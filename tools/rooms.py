@@ -62,9 +62,6 @@ def rooms():
         for path in sources:
             if path not in tops:
                 lines += entry(path.relative_to(folder / "src").as_posix(), short(sentence(path)), "  ")
-        specs = sorted(path.stem for path in (folder / "specs").glob("*.antt") if path.stem != "Lib")
-        if specs:
-            lines += entry("specs", ", ".join(specs), "  ")
     return [line + "\n" for line in lines + ["```"]]
 
 
