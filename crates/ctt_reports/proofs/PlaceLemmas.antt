@@ -1,6 +1,7 @@
 -- The words of a text, one after another.
-use Rattle.std.proofs.Common.{◌≡◌, ◌∙◌, ◌⊎◌, inr, ℕ, ◌+◌, ◌-◌, ◌<◌, ◌≤◌, List, [], ◌∷◌, length, take, drop, refl, sym, ap, subst, arith, length-drop}
+use Rattle.std.proofs.Common.{◌≡◌, ◌∙◌, inr, ℕ, ◌+◌, ◌-◌, ◌<◌, ◌≤◌, List, [], ◌∷◌, length, drop, refl, sym, ap, subst, arith, length-drop, Option, IfSome}
 use Rattle.std.proofs.lemmas.List.{drop-drop}
+use Rattle.std.proofs.lemmas.Option.{IfSome_then}
 use Rattle.ctt_text.specs.Words.{IsFirstWord, words}
 use Rattle.ctt_reports.specs.Places.{HasNoWord, IsWordAt}
 
@@ -31,7 +32,7 @@ word_is_at text at n start end counted short left first =
     record {
       counted = counted;
       within = (omega (arith, first.some), omega (arith, first.within, length-drop at text, short));
-      from_it = sym left ∙ first.first ∙ rw (len, drop-drop) refl;
+      from_it = sym left ∙ first.first ∙ rw (len, drop-drop start at text, drop-drop end at text) refl;
     }
 
 -- there are too few words
@@ -44,3 +45,7 @@ pub ends_early : (text : List ℕ) (at n count : ℕ) → n < count → words (d
 ends_early text at n count less left none =
     let few : length (words text) ≤ n = none_is (words text) n (sym left ∙ none) in
     omega (arith, few, less)
+
+-- what was read has no such word, so neither has what the file holds
+pub none_held : (known : Option (List ℕ)) (text read : List ℕ) (n : ℕ) → text ≡ read → HasNoWord text n → IfSome known (λ bytes. read ≡ bytes) → IfSome known (λ bytes. HasNoWord bytes n)
+none_held known text read n same none all = IfSome_then known all (λ bytes is. subst (λ t. HasNoWord t n) (same ∙ is) none)

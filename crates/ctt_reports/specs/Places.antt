@@ -1,5 +1,5 @@
 -- The place of a word in a text, and what `where` prints of it.
-use Rattle.std.specs.Prelude.{◌≡◌, ◌⊎◌, ◌<◌, ◌≤◌, ◌-◌, ◌+◌, ℕ, Bool, List, [], ◌∷◌, ◌++◌, codes, count_by, decimal, drop, flat_map, fold, length, not, nat_le, nat_lt, string_bytes, take, ◌==◌, ◌&&◌, if◌then◌else◌, Option, Some, None}
+use Rattle.std.specs.Prelude.{◌≡◌, ◌⊎◌, ◌<◌, ◌≤◌, ◌-◌, ◌+◌, ℕ, Bool, List, [], ◌∷◌, ◌++◌, codes, count_by, decimal, drop, flat_map, fold, length, not, nat_le, nat_lt, string_bytes, take, ◌==◌, ◌&&◌, if◌then◌else◌, Some, None}
 use Rattle.std.specs.Global.{Global}
 use Rattle.std.specs.List.{position_or_len}
 use Rattle.std.specs.declared.string.String.{String}
@@ -9,7 +9,7 @@ use Rattle.ctt_files.specs.Answers.{IsTextAlone}
 use Rattle.ctt_files.specs.Refusals.{IsOfFile}
 use Rattle.ctt_files.specs.Texts.{Held, Holds}
 use Rattle.ctt_files.specs.declared.fault.Fault.{Fault}
-use Rattle.ctt_files.specs.declared.fault.Fault.TheVariants.{NoMemory, NoWord}
+use Rattle.ctt_files.specs.declared.fault.Fault.TheVariants.{NoWord}
 use Rattle.ctt_files.specs.declared.outcome.Outcome.TheVariants.{Done}
 use Rattle.ctt_files.specs.declared.printed.Printed.{Printed}
 

@@ -1,6 +1,6 @@
 //! The place of a word in a text.
 
-ghost use Rattle.std.specs.Prelude.{◌≡◌, ◌+◌, ◌++◌, ◌≤◌, ◌<◌, [], count_by, drop, flat_map, length, not, position, take, IfNone, IfSome, IfOk, OnOk};
+ghost use Rattle.std.specs.Prelude.{◌≡◌, ◌++◌, ◌≤◌, ◌<◌, [], count_by, drop, flat_map, length, not, position, IfNone, IfSome, IfOk, OnOk};
 ghost use Rattle.std.specs.List.{position_or_len};
 ghost use Rattle.ctt_text.specs.Words.{IsFirstWord, words};
 ghost use Rattle.ctt_problem.specs.Named.{is_blank};

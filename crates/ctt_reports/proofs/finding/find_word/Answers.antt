@@ -1,7 +1,7 @@
-use Rattle.std.proofs.Common.{rules, ◌≡◌, ◌∙◌, inl, inr, refl, subst, Some, None, string_bytes}
-use Rattle.std.proofs.lemmas.Option.{IfSome_then}
+use Rattle.std.proofs.Common.{rules, ◌≡◌, inl, inr, refl, Some, None, string_bytes}
 use Rattle.ctt_text.specs.Numbers.{number_of}
 use Rattle.ctt_reports.specs.Places.{HasNoWord}
+use Rattle.ctt_reports.proofs.PlaceLemmas.{none_held}
 use Rattle.ctt_reports.proofs.finding.find_word.Goals as goal
 
 pub returns-in_default-clause-cause : goal.returns-in_default-clause-cause
@@ -16,4 +16,4 @@ returns-in_default-word_at-clause-cause g c =
     let is : number_of (string_bytes c.args.word) ≡ Some number = search rules in
     let same : string_bytes c.in_ok-name.name ≡ string_bytes c.args.file = search rules in
     let none : HasNoWord c.deref.result.now number = search rules in
-    inr ((c.in_ok-name.name, same, refl), inr (number, is, IfSome_then _ c.in_ok-text.ensures.all (λ text all. subst (λ t. HasNoWord t number) (c.deref.ensures.value ∙ all) none)))
+    inr ((c.in_ok-name.name, same, refl), inr (number, is, none_held (g.F.Files.held c.args.files.now (string_bytes c.args.file)) c.deref.result.now c.in_ok-text.text.items number c.deref.ensures.value none c.in_ok-text.ensures.all))
