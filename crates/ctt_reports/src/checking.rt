@@ -119,8 +119,8 @@ fn print_explained<W: Sink>(
     print(out, &rest)
 }
 
-/// Returns the report on a solution of an instance. If `strict` is set, the
-/// outcome says whether the solution is lawful and complete. Files are given by name.
+/// Returns the report on a solution of an instance. If `strict` is set, the outcome says whether the
+/// solution is lawful and complete. Files are given by name.
 pub(crate) fn answer_report<F: Files>(
     alloc: Global,
     files: &mut F,
@@ -147,8 +147,8 @@ pub(crate) fn answer_report<F: Files>(
     Ok(Printed::new(alloc, text?, outcome))
 }
 
-/// Prints the report on a solution of an instance with all findings, as they are found. If `strict` is set, the outcome says whether the solution is lawful and complete.
-/// Files are given by name.
+/// Prints the report on a solution of an instance with all findings, as they are found. If `strict`
+/// is set, the outcome says whether the solution is lawful and complete. Files are given by name.
 pub fn explain<F: Files, W: Sink>(
     alloc: Global,
     files: &mut F,

@@ -1,9 +1,10 @@
 //! The command `compare`.
 
-ghost use Rattle.std.specs.Prelude.{◌≡◌, ◌++◌, List, ℕ, codes, map, OnOk, IfOk, IfErr, string_bytes};
+ghost use Rattle.std.specs.Prelude.{◌≡◌, ◌++◌, List, ℕ, true, codes, map, OnOk, IfOk, IfErr, string_bytes};
+ghost use Rattle.std.specs.List.{list_all};
 ghost use Rattle.ctt_files.specs.Faults.{IsLineOf};
 ghost use Rattle.ctt_files.specs.declared.fault.Fault.TheVariants.{NoMemory as OutOfMemory};
-ghost use Rattle.ctt_reports.specs.Compare.{AddsFile, AreCompared, ComparesSolutions, IsOfCompare, outcome_of, text_of};
+ghost use Rattle.ctt_reports.specs.Compare.{AddsFile, AreCompared, ComparesSolutions, IsOfCompare, judged, outcome_of, text_of};
 
 use crate::aligned::aligned;
 use crate::cells::{cells_of, head};
@@ -106,18 +107,43 @@ fn text_of(alloc: Global, form: TableForm, rows: &[Row]) -> Result<Vec<u8>, Allo
     }
 }
 
+/// Returns whether each row is of a complete solution.
+fn are_complete(rows: &[Row]) -> bool
+    ensures { result ≡ list_all (λ row. row.complete) rows.now }
+{
+    rows.iter().all(|row| row.complete)
+}
+
+/// Returns whether each row is of a lawful solution.
+fn are_lawful(rows: &[Row]) -> bool
+    ensures { result ≡ list_all (λ row. row.lawful) rows.now }
+{
+    rows.iter().all(|row| row.lawful)
+}
+
+/// Returns the outcome of the rows, if they have to be lawful and complete.
+fn judge_strictly(rows: &[Row]) -> Outcome
+    ensures { result ≡ judged true rows.now }
+{
+    if are_complete(rows) {
+        Outcome::Done
+    } else if are_lawful(rows) {
+        Outcome::Incomplete
+    } else {
+        Outcome::Unlawful
+    }
+}
+
 /// Returns the outcome, by the lines of the files that are refused and the rows.
 fn judge_rows(strict: bool, refused: &str, rows: &[Row]) -> Outcome
     ensures { result ≡ outcome_of strict refused.now rows.now }
 {
     if !refused.is_empty() {
         Outcome::Differs
-    } else if !strict || rows.iter().all(|row| row.complete) {
-        Outcome::Done
-    } else if rows.iter().all(|row| row.lawful) {
-        Outcome::Incomplete
+    } else if strict {
+        judge_strictly(rows)
     } else {
-        Outcome::Unlawful
+        Outcome::Done
     }
 }
 

@@ -13,7 +13,7 @@ returns-clause-shows g c =
       timetable = subject.timetable.items;
       is_solution = c.in_ok-subject.ensures.spelled;
       shown = (
-        subst (IsReport c.args.json subject.instance subject.timetable.items) (sym (ap (λ text. text.items) c.new.ensures.text)) (subst (λ t. IsReport c.args.json subject.instance t c.in_ok-text.field-0.items) c.deref.ensures.value c.in_ok-text.ensures),
+        subst (IsReport c.args.form file subject.instance subject.timetable.items) (sym (ap (λ text. text.items) c.new.ensures.text)) (subst (λ t. IsReport c.args.form file subject.instance t c.in_ok-text.field-0.items) c.deref.ensures.value c.in_ok-text.ensures),
         subst (IsJudged c.args.strict subject.instance subject.timetable.items) (sym c.new.ensures.outcome) (subst (λ t. IsJudged c.args.strict subject.instance t c.judge-outcome.result) c.deref-2.ensures.value c.judge-outcome.ensures),
       );
     }

@@ -32,7 +32,7 @@ returns-in_err-printed-clause-part g c =
         is_selection = c.in_ok-subject.ensures.found;
         timetable = subject.timetable.items;
         is_solution = c.in_ok-subject.ensures.spelled;
-        shown = (part.1.0, subst (λ t. IsExplained c.args.json subject.instance t part.1.0) c.deref.ensures.value part.1.1, part.1.2);
+        shown = (part.1.0, subst (λ t. IsExplained c.args.form file subject.instance t part.1.0) c.deref.ensures.value part.1.1, part.1.2);
       },
     )) c.in_err-printed.ensures.part)
 
@@ -48,7 +48,7 @@ returns-clause-explains g c =
       timetable = subject.timetable.items;
       is_solution = c.in_ok-subject.ensures.spelled;
       shown = (
-        (printed.0, subst (λ t. IsExplained c.args.json subject.instance t printed.0) c.deref.ensures.value printed.1, printed.2),
+        (printed.0, subst (λ t. IsExplained c.args.form file subject.instance t printed.0) c.deref.ensures.value printed.1, printed.2),
         subst (λ t. IsJudged c.args.strict subject.instance t c.judge-outcome.result) c.deref-2.ensures.value c.judge-outcome.ensures,
       );
     }

@@ -4,7 +4,7 @@ use Rattle.std.proofs.KnownBytes.{Appends-trans}
 use Rattle.ctt_files.specs.Output.{AppendsFront}
 use Rattle.ctt_files.proofs.Plain.{on_ok_weaker, passed_on}
 use Rattle.ctt_findings.specs.Findings.{findings}
-use Rattle.ctt_reports.specs.Checks.{found_texts}
+use Rattle.ctt_reports.specs.Checks.{found_texts, is_json}
 use Rattle.ctt_reports.proofs.WritingLemmas.{cut, front_behind, front_more, on_err_weaker}
 use Rattle.ctt_reports.proofs.checking.print_explained.Goals as goal
 
@@ -14,7 +14,7 @@ returns-in_err-tell-clause-part g c =
     let taken = g.W.Sink.taken in
     let front : List ℕ = c.in_ok-front.front.items in
     let rest : List ℕ = c.in_ok-front.rest.items in
-    let found : List ℕ = found_texts c.args.json i false (findings i c.args.timetable.now) in
+    let found : List ℕ = found_texts (is_json c.args.form) i false (findings i c.args.timetable.now) in
     let before : Appends (taken c.args.out.now) (taken c.print.new.out) front = subst (Appends (taken c.args.out.now) (taken c.print.new.out)) c.deref.ensures.value c.in_ok-print.ensures.printed in
     let told : AppendsFront (taken c.args.out.now) (taken c.tell.new.out) (front ++ (found ++ rest)) =
     front_more _ _ (front ++ found) rest _ (sym (append_assoc front found rest)) (front_behind _ _ _ front found before c.in_err-tell.ensures.front) in
@@ -26,7 +26,7 @@ returns-clause-part g c =
     let taken = g.W.Sink.taken in
     let front : List ℕ = c.in_ok-front.front.items in
     let rest : List ℕ = c.in_ok-front.rest.items in
-    let found : List ℕ = found_texts c.args.json i false (findings i c.args.timetable.now) in
+    let found : List ℕ = found_texts (is_json c.args.form) i false (findings i c.args.timetable.now) in
     let before : Appends (taken c.args.out.now) (taken c.print.new.out) front = subst (Appends (taken c.args.out.now) (taken c.print.new.out)) c.deref.ensures.value c.in_ok-print.ensures.printed in
     let told : Appends (taken c.args.out.now) (taken c.tell.new.out) (front ++ found) = Appends-trans _ _ _ front found before c.in_ok-tell.ensures.told in
     cut c.print-2.result _ _ c.print-2.ensures.fault (on_err_weaker c.print-2.result _ _ (λ last. (
@@ -41,7 +41,7 @@ returns-clause-prints g c =
     let taken = g.W.Sink.taken in
     let front : List ℕ = c.in_ok-front.front.items in
     let rest : List ℕ = c.in_ok-front.rest.items in
-    let found : List ℕ = found_texts c.args.json i false (findings i c.args.timetable.now) in
+    let found : List ℕ = found_texts (is_json c.args.form) i false (findings i c.args.timetable.now) in
     let before : Appends (taken c.args.out.now) (taken c.print.new.out) front = subst (Appends (taken c.args.out.now) (taken c.print.new.out)) c.deref.ensures.value c.in_ok-print.ensures.printed in
     let told : Appends (taken c.args.out.now) (taken c.tell.new.out) (front ++ found) = Appends-trans _ _ _ front found before c.in_ok-tell.ensures.told in
     on_ok_weaker c.print-2.result _ _ (λ last. (
