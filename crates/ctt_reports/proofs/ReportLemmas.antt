@@ -12,7 +12,8 @@ use Rattle.ctt_findings.specs.Lines.{explained, line}
 use Rattle.ctt_findings.specs.Objects.{item_text, item_texts}
 use Rattle.ctt_findings.specs.ReportText.{IsExplainedJson, IsExplainedText, IsTextReport, text_of}
 use Rattle.ctt_findings.specs.declared.finding.Finding.{Finding}
-use Rattle.ctt_reports.specs.Checks.{found_texts, named}
+use Rattle.ctt_words.specs.declared.job.ReportForm.{ReportForm}
+use Rattle.ctt_reports.specs.Checks.{IsExplained, found_texts, named}
 
 -- the texts of findings are JSON items, or lines
 items_found : (i : Problem) (later : Bool) (fs : List Finding) → item_texts i later fs ≡ found_texts true i later fs
@@ -46,3 +47,7 @@ named_more file front rest some =
     append_assoc (codes "{\"file\":") (quoted file ++ (codes "," ++ drop 1 front)) rest
     ∙ ap (λ t. codes "{\"file\":" ++ t) (append_assoc (quoted file) (codes "," ++ drop 1 front) rest
     ∙ ap (λ t. quoted file ++ t) (append_assoc (codes ",") (drop 1 front) rest ∙ ap (λ t. codes "," ++ t) (sym after)))
+
+-- the same name of a file, and the same timetable
+pub explained_in : (form : ReportForm) (name file : List ℕ) (i : Problem) (seen t : List Placed) (bytes : List ℕ) → name ≡ file → seen ≡ t → IsExplained form name i seen bytes → IsExplained form file i t bytes
+explained_in form name file i seen t bytes named same is = subst (λ (n : List ℕ). IsExplained form n i t bytes) named (subst (λ (l : List Placed). IsExplained form name i l bytes) same is)

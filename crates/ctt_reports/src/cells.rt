@@ -1,6 +1,6 @@
 //! The cells of a row of a comparison.
 
-ghost use Rattle.std.specs.Prelude.{◌≡◌, ◌∷◌, ◌++◌, ◌^◌, ◌<◌, [], OnOk, IfOk, decimal, string_bytes};
+ghost use Rattle.std.specs.Prelude.{◌≡◌, ◌∷◌, ◌++◌, ◌^◌, ◌<◌, [], OnOk, IfOk, decimal, map};
 ghost use Rattle.ctt_rules.specs.Penalty.{total};
 ghost use Rattle.ctt_reports.specs.Compare.{answer, cells_of};
 ghost use Rattle.ctt_reports.specs.Tables.{cell, columns};
@@ -60,6 +60,16 @@ impl Cells {
         ensures { OnOk result (self.new ≡ self.old ++ text.now ∷ []) }
     {
         Ok(self.texts.push(String::from_str(alloc, text)?)?)
+    }
+
+    /// Adds texts.
+    fn push_all(&mut self, alloc: Global, texts: &[&str]) -> Result<(), AllocError>
+        ensures { OnOk result (self.new ≡ self.old ++ map (λ text. text.now) texts.now) }
+    {
+        for text in texts {
+            self.push(alloc, text)?;
+        }
+        Ok(())
     }
 
     /// Adds a number in decimal.
@@ -139,12 +149,11 @@ pub(crate) fn cells_of(
 }
 
 /// Returns the names of the columns as a row.
+#[tactic(auto, unfolding(crate::specs::Tables::columns))]
 pub(crate) fn head(alloc: Global) -> Result<Cells, AllocError>
     ensures { IfOk result (λ cells. cells ≡ columns) }
 {
     let mut cells = Cells::new(alloc);
-    for name in COLUMNS {
-        cells.push(alloc, name)?;
-    }
+    cells.push_all(alloc, COLUMNS)?;
     Ok(cells)
 }

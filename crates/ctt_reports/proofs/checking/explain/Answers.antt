@@ -1,8 +1,9 @@
-use Rattle.std.proofs.Common.{None, inl, inr, ⊎_elim, refl, subst}
+use Rattle.std.proofs.Common.{rules, ◌≡◌, None, inl, inr, ⊎_elim, refl, string_bytes, subst}
 use Rattle.ctt_files.proofs.Plain.{passed_on, passed_plain, unwritten_more}
-use Rattle.ctt_reports.specs.Checks.{IsExplained, IsJudged}
+use Rattle.ctt_reports.specs.Checks.{IsJudged}
 use Rattle.ctt_reports.specs.Refusals.{IsOfCheck}
 use Rattle.ctt_reports.proofs.LookLemmas.{look_plain, of_memory}
+use Rattle.ctt_reports.proofs.ReportLemmas.{explained_in}
 use Rattle.ctt_reports.proofs.checking.explain.Goals as goal
 
 pub returns-in_err-subject-clause-cause : goal.returns-in_err-subject-clause-cause
@@ -22,6 +23,7 @@ pub returns-in_err-printed-clause-part : goal.returns-in_err-printed-clause-part
 returns-in_err-printed-clause-part g c =
     let subject = c.in_ok-subject.subject in
     let fault = c.in_err-printed.field-0.0 in
+    let named : c.deref.result.now ≡ string_bytes c.args.solution = search rules in
     passed_on c.from_residual-in_err-printed.result fault _ c.from_residual-in_err-printed.ensures.1
     (⊎_elim inl (λ part. inr (
       part.0,
@@ -32,7 +34,7 @@ returns-in_err-printed-clause-part g c =
         is_selection = c.in_ok-subject.ensures.found;
         timetable = subject.timetable.items;
         is_solution = c.in_ok-subject.ensures.spelled;
-        shown = (part.1.0, subst (λ t. IsExplained c.args.form file subject.instance t part.1.0) c.deref.ensures.value part.1.1, part.1.2);
+        shown = (part.1.0, explained_in c.args.form _ (string_bytes c.args.solution) subject.instance _ subject.timetable.items part.1.0 named c.deref-2.ensures.value part.1.1, part.1.2);
       },
     )) c.in_err-printed.ensures.part)
 
@@ -40,6 +42,7 @@ pub returns-clause-explains : goal.returns-clause-explains
 returns-clause-explains g c =
     let subject = c.in_ok-subject.subject in
     let printed = c.in_ok-printed.ensures.prints in
+    let named : c.deref.result.now ≡ string_bytes c.args.solution = search rules in
     record {
       problem = subject.instance;
       is_instance = c.in_ok-subject.ensures.instance;
@@ -48,7 +51,7 @@ returns-clause-explains g c =
       timetable = subject.timetable.items;
       is_solution = c.in_ok-subject.ensures.spelled;
       shown = (
-        (printed.0, subst (λ t. IsExplained c.args.form file subject.instance t printed.0) c.deref.ensures.value printed.1, printed.2),
-        subst (λ t. IsJudged c.args.strict subject.instance t c.judge-outcome.result) c.deref-2.ensures.value c.judge-outcome.ensures,
+        (printed.0, explained_in c.args.form _ (string_bytes c.args.solution) subject.instance _ subject.timetable.items printed.0 named c.deref-2.ensures.value printed.1, printed.2),
+        subst (λ t. IsJudged c.args.strict subject.instance t c.judge-outcome.result) c.deref-3.ensures.value c.judge-outcome.ensures,
       );
     }

@@ -23,3 +23,8 @@ loop-file-preserved g c =
           c.loop-file.invariant.ahead;
       kept = c.in_ok-compare_file.ensures.kept ∙ c.loop-file.invariant.kept;
     }
+
+pub returns-clause-compared : goal.returns-clause-compared
+returns-clause-compared g c =
+    let none : into_iter_items c.loop-file.file-iterator ≡ [] = search rules in
+    all_compared c.args.form (g.F.Files.held c.args.files.now) c.args.instance.now c.args.solutions.items _ _ _ none c.loop-file.invariant.ahead
