@@ -1,4 +1,4 @@
-use Rattle.std.proofs.Common.{◌++◌, ℕ, Bool, List, false, append_assoc, inr, refl, subst, sym, tt}
+use Rattle.std.proofs.Common.{◌++◌, ℕ, Bool, List, false, append_assoc, inr, refl, subst, sym}
 use Rattle.std.specs.Io.KnownBytes.{Appends}
 use Rattle.std.proofs.KnownBytes.{Appends-trans}
 use Rattle.ctt_files.specs.Faults.{MayHaveWritten}

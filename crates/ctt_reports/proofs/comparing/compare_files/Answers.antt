@@ -1,5 +1,7 @@
-use Rattle.std.proofs.Common.{rules, ◌≡◌, ◌∙◌, ◌∷◌, [], length, refl, subst, sym}
-use Rattle.std.specs.Vec.Iter.{into_iter_items, into_iter_len}
+use Rattle.std.proofs.Common.{rules, ◌≡◌, ◌∙◌, ◌∷◌, [], arith, length, refl, subst}
+use Rattle.std.specs.Vec.Iter.{into_iter_items}
+use Rattle.std.proofs.lemmas.Grind.{common_steps}
+use Rattle.std.proofs.lemmas.List.{nil_from_length}
 use Rattle.ctt_files.specs.Texts.{Held}
 use Rattle.ctt_reports.specs.Compare.{AddsFile}
 use Rattle.ctt_reports.proofs.CompareLemmas.{all_compared, none_ahead, one_ahead}
@@ -26,5 +28,6 @@ loop-file-preserved g c =
 
 pub returns-clause-compared : goal.returns-clause-compared
 returns-clause-compared g c =
-    let none : into_iter_items c.loop-file.file-iterator ≡ [] = search rules in
+    let zero : length (into_iter_items c.loop-file.file-iterator) ≡ 0 = grind (arith, common_steps) in
+    let none : into_iter_items c.loop-file.file-iterator ≡ [] = nil_from_length (into_iter_items c.loop-file.file-iterator) zero in
     all_compared c.args.form (g.F.Files.held c.args.files.now) c.args.instance.now c.args.solutions.items _ _ _ none c.loop-file.invariant.ahead
