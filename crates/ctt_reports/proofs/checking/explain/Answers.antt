@@ -9,7 +9,7 @@ use Rattle.ctt_reports.proofs.checking.explain.Goals as goal
 pub returns-in_err-subject-clause-cause : goal.returns-in_err-subject-clause-cause
 returns-in_err-subject-clause-cause g c =
     let held = g.F.Files.held c.args.files.now in
-    passed_plain c.from_residual.result c.in_err-subject.field-0.0 _ _ (IsOfCheck held c.args.instance c.args.barred c.args.solution) c.from_residual.ensures.1
+    passed_plain c.from_residual-in_err-subject.result c.in_err-subject.field-0.0 _ _ (IsOfCheck held c.args.instance c.args.barred c.args.solution) c.from_residual-in_err-subject.ensures.1
     (look_plain held c.args.instance c.args.barred None c.args.solution c.in_err-subject.field-0.0 c.in_err-subject.ensures.cause) c.in_err-subject.ensures.cause refl
 
 pub returns-in_err-printed-clause-cause : goal.returns-in_err-printed-clause-cause
