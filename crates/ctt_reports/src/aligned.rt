@@ -1,6 +1,6 @@
 //! Rows as a table with aligned columns.
 
-ghost use Rattle.std.specs.Prelude.{◌≡◌, ◌+◌, ◌∷◌, ◌++◌, flat_map, max, map, replicate, OnOk, IfOk};
+ghost use Rattle.std.specs.Prelude.{◌≡◌, ◌+◌, ◌∷◌, ◌++◌, flat_map, map, replicate, OnOk, IfOk};
 ghost use Rattle.ctt_reports.specs.Tables.{aligned, aligned_line, for_each, gap, others, right, widest, width, widths};
 
 use crate::cells::{COLUMNS, Cells, OTHERS};
@@ -15,19 +15,13 @@ fn width(text: &str) -> usize
     text.width()
 }
 
-fn greater(a: usize, b: usize) -> usize
-    ensures { result ≡ max a b }
-{
-    if a < b { b } else { a }
-}
-
 /// Returns the width of the widest cell in a column.
 fn widest(head: &Cells, rows: &[Row], column: usize) -> usize
     ensures { result ≡ widest column (head.now ∷ map (λ row. row.cells) rows.now) }
 {
-    let mut widest = greater(0, width(head.text(column)));
+    let mut widest = width(head.text(column));
     for row in rows {
-        widest = greater(widest, width(row.cells.text(column)));
+        widest = widest.max(width(row.cells.text(column)));
     }
     widest
 }
