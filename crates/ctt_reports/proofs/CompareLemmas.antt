@@ -1,5 +1,5 @@
 -- Files that are compared one after another.
-use Rattle.std.proofs.Common.{◌≡◌, ◌∙◌, ◌⊎◌, ◌↔◌, ◌++◌, IsTrue, inl, inr, ⊎_elim, ℕ, List, [], ◌∷◌, refl, sym, ap, subst, append-nil, append_assoc}
+use Rattle.std.proofs.Common.{◌≡◌, ◌∙◌, ◌↔◌, ◌++◌, IsTrue, inl, inr, ℕ, List, [], ◌∷◌, refl, sym, ap, subst, append-nil, append_assoc}
 use Rattle.std.specs.Global.{Global}
 use Rattle.std.specs.String.{string_bytes}
 use Rattle.std.specs.declared.string.String.{String}

@@ -1,5 +1,5 @@
 -- How a solution is shown, and why it is not.
-use Rattle.std.specs.Prelude.{◌≡◌, ℕ, Bool, true, false, List, [], Option, Some, None, string_bytes}
+use Rattle.std.specs.Prelude.{◌≡◌, ℕ, Bool, false, List, [], Option, Some, None, string_bytes}
 use Rattle.std.specs.Global.{Global}
 use Rattle.std.specs.declared.string.String.{String}
 use Rattle.ctt_problem.specs.Problem.{Problem}

@@ -1,5 +1,5 @@
 -- What the commands show: an instance and a solution in files, and what is named in the instance.
-use Rattle.std.specs.Prelude.{◌≡◌, ℕ, List, Option, Some, None, option_map, string_bytes}
+use Rattle.std.specs.Prelude.{◌≡◌, List, Option, Some, None, option_map, string_bytes}
 use Rattle.std.specs.Global.{Global}
 use Rattle.std.specs.declared.string.String.{String}
 use Rattle.ctt_problem.specs.Problem.{Problem, number_in}

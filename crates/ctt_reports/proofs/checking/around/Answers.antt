@@ -29,6 +29,8 @@ returns-in_ok-name_object-in-NamedJson c =
     let front : List ℕ = c.in_ok-front-in-NamedJson.front.items in
     let more : List ℕ = found_texts true i false (findings i t) ++ c.in_ok-front-in-NamedJson.rest.items in
     let begins = c.in_ok-name_object-in-NamedJson.ensures ∙ ap (named file) c.deref.ensures.value in
-    subst (λ (form : ReportForm). IsExplained form file i t (c.in_ok-name_object-in-NamedJson.field-0.items ++ (found_texts (is_json form) i false (findings i t) ++ c.in_ok-front-in-NamedJson.rest.items))) (sym c.in-NamedJson.is)
-    (front ++ more, json_explained i t front c.in_ok-front-in-NamedJson.rest.items c.in_ok-front-in-NamedJson.ensures.parts,
-    ap (λ bytes. bytes ++ more) begins ∙ named_more file front more c.in_ok-front-in-NamedJson.ensures.front)
+    subst (λ (form : ReportForm). IsExplained form file i t (c.in_ok-name_object-in-NamedJson.field-0.items ++ (found_texts (is_json form) i false (findings i t) ++ c.in_ok-front-in-NamedJson.rest.items))) (sym c.in-NamedJson.is) (
+      front ++ more,
+      json_explained i t front c.in_ok-front-in-NamedJson.rest.items c.in_ok-front-in-NamedJson.ensures.parts,
+      ap (λ bytes. bytes ++ more) begins ∙ named_more file front more c.in_ok-front-in-NamedJson.ensures.front,
+    )
