@@ -12,7 +12,7 @@ ghost use Rattle.ctt_reports.specs.Checks.{ExplainsSolution, IsExplained, IsJudg
 ghost use Rattle.ctt_reports.specs.Refusals.{IsOfCheck};
 ghost use Rattle.ctt_reports.specs.Subjects.{Shows};
 
-use crate::json::quote;
+use crate::json_rows::quote;
 use crate::judging::judge;
 use crate::subject::fetch_subject;
 use crate::told::tell;

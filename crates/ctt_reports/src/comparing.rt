@@ -8,8 +8,8 @@ ghost use Rattle.ctt_reports.specs.Compare.{AddsFile, AreCompared, ComparesSolut
 
 use crate::aligned::aligned;
 use crate::cells::{cells_of, head};
-use crate::csv::csv;
-use crate::json::json;
+use crate::csv_rows::csv;
+use crate::json_rows::json;
 use crate::row::Row;
 use ctt_files::{Fault, Files, Outcome, Printed, fetch_instance, fetch_solution};
 use ctt_rules::{Assessment, assess};

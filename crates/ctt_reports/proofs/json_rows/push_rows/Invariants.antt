@@ -1,6 +1,6 @@
 use Rattle.std.proofs.Common.{◌≡◌, ◌++◌, drop, false, map}
 use Rattle.ctt_reports.specs.Tables.{json_rows}
-use Rattle.ctt_reports.proofs.json.push_rows.Given as goal
+use Rattle.ctt_reports.proofs.json_rows.push_rows.Given as goal
 
 -- the text so far and the rows that are left
 abbrev pub invariant-loop-row : goal.invariant-loop-row
