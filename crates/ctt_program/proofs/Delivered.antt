@@ -1,22 +1,26 @@
 -- What is done if the answer of a task is delivered.
-use Rattle.std.proofs.Common.{◌≡◌, ◌≢◌, ◌⊎◌, ap, sym, subst, inl, inr, ⊎_elim, true≢false, ℕ, Bool, true, false, List, [], Option, None, Result, Ok, Err, IfOk, OnOk}
+use Rattle.std.proofs.Common.{◌≡◌, ◌≢◌, ◌⊎◌, ◌∷◌, ◌∙◌, refl, ap, sym, subst, inl, inr, ⊎_elim, true≢false, ℕ, Bool, true, false, List, [], Option, None, Result, Ok, Err, IfOk, OnOk}
 use Rattle.std.specs.Global.{Global}
 use Rattle.std.specs.Io.KnownBytes.{Appends}
 use Rattle.std.specs.String.{string_bytes}
 use Rattle.std.specs.declared.string.String.{String}
 use Rattle.ctt_words.specs.declared.job.Showing.TheVariants.{Page, Report, Week}
 use Rattle.ctt_words.specs.declared.job.Task.{Task}
-use Rattle.ctt_words.specs.declared.job.Task.TheVariants.{Audit, Crew, Desk, Journal as Journals, Listing, Mending, Run, Show}
+use Rattle.ctt_words.specs.declared.job.Task.TheVariants.{Audit, Compare, Crew, Desk, Journal as Journals, Listing, Mending, Run, Show, Where}
 use Rattle.ctt_files.specs.Faults.{IfUnwritten}
 use Rattle.ctt_files.specs.Storing.{StoresFile}
 use Rattle.ctt_files.specs.Texts.{Held}
 use Rattle.ctt_files.specs.declared.fault.Fault.{Fault}
 use Rattle.ctt_files.specs.declared.outcome.Outcome.{Outcome}
+use Rattle.ctt_files.specs.declared.outcome.Outcome.TheVariants.{Differs, Done}
 use Rattle.ctt_files.specs.declared.printed.Printed.{Printed}
 use Rattle.ctt_files.specs.declared.printed.Stored.{Stored}
+use Rattle.ctt_reports.specs.Compare.{outcome_of}
+use Rattle.ctt_reports.specs.declared.row.Row.{Row}
 use Rattle.ctt_files.proofs.Plain.{IsPlain, plain_written}
-use Rattle.ctt_program.specs.Jobs.{Warning, streams}
-use Rattle.ctt_program.specs.Work.{DoesTask, IsAnswer, IsOfTask, SaysOfTask}
+use Rattle.ctt_program.specs.Jobs.{Saying, Warning, streams}
+use Rattle.ctt_program.specs.Work.{DiffersOfTask, DoesTask, IsAnswer, IsOfTask, SaysOfTask}
+use Rattle.ctt_program.proofs.Ends.{done_differs}
 use Rattle.ctt_program.proofs.Known.{IsSpecial, task_plain}
 
 -- what holds of a success with what is known of its value
@@ -51,6 +55,8 @@ none_stored instance barred (Desk seats start minutes) held p is = absurd is
 none_stored instance barred (Journals minutes) held p is = is.1
 none_stored instance barred (Listing journal start) held p is = is.1.1
 none_stored instance barred (Mending solution) held p is = is.1
+none_stored instance barred (Compare solutions form strict) held p is = is.unstored
+none_stored instance barred (Where word) held p is = is.done.1.1
 
 -- if nothing is to be stored, all files are unchanged
 pub none_changed : (store : Option Stored) (before after : Held) → store ≡ None → StoresFile store before after → after ≡ before
@@ -59,8 +65,8 @@ none_changed store before after none stores = subst (λ s. StoresFile s before a
 -- the task is done if its answer is printed
 pub does_printed : (instance : String Global) (barred : Option (String Global)) (task : Task) (outcome : Outcome) (before after : Held) (old new : Option (List ℕ)) (p : Printed)
     → streams task ≡ false → IsAnswer instance barred task before p → after ≡ before → outcome ≡ p.outcome → Appends old new p.text.items → DoesTask instance barred task outcome before after old new
-does_printed instance barred (Show solution (Report json true strict)) outcome before after old new p whole is kept ends prints = absurd (true≢false whole)
-does_printed instance barred (Show solution (Report json false strict)) outcome before after old new p whole is kept ends prints = (kept, (p, is, ends, prints))
+does_printed instance barred (Show solution (Report form true strict)) outcome before after old new p whole is kept ends prints = absurd (true≢false whole)
+does_printed instance barred (Show solution (Report form false strict)) outcome before after old new p whole is kept ends prints = (kept, (p, is, ends, prints))
 does_printed instance barred (Show solution (Week whose)) outcome before after old new p whole is kept ends prints = (kept, (p, is, ends, prints))
 does_printed instance barred (Show solution (Page days)) outcome before after old new p whole is kept ends prints = (kept, (p, is, ends, prints))
 does_printed instance barred (Run script start journal) outcome before after old new p whole is kept ends prints = absurd is
@@ -70,6 +76,8 @@ does_printed instance barred (Desk seats start minutes) outcome before after old
 does_printed instance barred (Journals minutes) outcome before after old new p whole is kept ends prints = (kept, (p, is, ends, prints))
 does_printed instance barred (Listing journal start) outcome before after old new p whole is kept ends prints = (kept, (p, is, ends, prints))
 does_printed instance barred (Mending solution) outcome before after old new p whole is kept ends prints = (kept, (p, is, ends, prints))
+does_printed instance barred (Compare solutions form strict) outcome before after old new p whole is kept ends prints = (kept, (p, is, ends, prints))
+does_printed instance barred (Where word) outcome before after old new p whole is kept ends prints = (kept, (p, is, ends, prints))
 
 -- nothing was for standard error, so nothing was written
 unsaid : {V : Type 0} (aside : List ℕ) (old new : V) → aside ≡ [] → (aside ≢ []) ⊎ (new ≡ old) → new ≡ old
@@ -89,3 +97,57 @@ says_aside taken failed instance barred (Desk seats start minutes) held p old ne
 says_aside taken failed instance barred (Journals minutes) held p old new is says quiet = ⊎_elim (λ marked. inl (tt, marked)) (λ all. inr (p, is, all)) says
 says_aside taken failed instance barred (Listing journal start) held p old new is says quiet = inr (ap taken (unsaid (string_bytes p.aside) old new is.1.0 quiet))
 says_aside taken failed instance barred (Mending solution) held p old new is says quiet = ⊎_elim (λ marked. inl (tt, marked)) (λ all. inr (p, is, all)) says
+says_aside taken failed instance barred (Compare solutions form strict) held p old new is says quiet = ⊎_elim (λ marked. inl (tt, marked)) (λ all. inr (p, is, all)) says
+says_aside taken failed instance barred (Where word) held p old new is says quiet = inr (ap taken (unsaid (string_bytes p.aside) old new is.done.1.0 quiet))
+
+-- a comparison has something to report only if it ends with `Differs`
+reports_differs : (strict : Bool) (lines : List ℕ) (rows : List Row) (outcome : Outcome) → outcome ≡ outcome_of strict lines rows → (lines ≡ []) ⊎ (outcome ≡ Differs)
+reports_differs strict [] rows outcome is = inl refl
+reports_differs strict (b ∷ bs) rows outcome is = inr is
+
+-- standard error is unchanged, unless the task is done and is one that may write there, or ends
+-- with `Differs`
+pub quiet_answer : {V : Type 0} (instance : String Global) (barred : Option (String Global)) (task : Task) (held : Held) (p : Printed) (outcome : Outcome) (old new : V)
+    → IsAnswer instance barred task held p → outcome ≡ p.outcome → (string_bytes p.aside ≢ []) ⊎ (new ≡ old) → (Saying task × (outcome ≡ Done)) ⊎ ((outcome ≡ Differs) ⊎ (new ≡ old))
+quiet_answer instance barred (Show solution showing) held p outcome old new is ends quiet = inr (inr (unsaid (string_bytes p.aside) old new is.1.0 quiet))
+quiet_answer instance barred (Run script start journal) held p outcome old new is ends quiet = absurd is
+quiet_answer instance barred (Audit journal start) held p outcome old new is ends quiet = inr (inr (unsaid (string_bytes p.aside) old new is.1.0 quiet))
+quiet_answer instance barred (Crew scripts) held p outcome old new is ends quiet = inr (inr (unsaid (string_bytes p.aside) old new is.4.0 quiet))
+quiet_answer instance barred (Desk seats start minutes) held p outcome old new is ends quiet = absurd is
+quiet_answer instance barred (Journals minutes) held p outcome old new is ends quiet = inl (tt, ends ∙ is.2)
+quiet_answer instance barred (Listing journal start) held p outcome old new is ends quiet = inr (inr (unsaid (string_bytes p.aside) old new is.1.0 quiet))
+quiet_answer instance barred (Mending solution) held p outcome old new is ends quiet = inl (tt, ends ∙ is.2)
+quiet_answer instance barred (Compare solutions form strict) held p outcome old new is ends quiet = ⊎_elim (λ none. inr (inr (unsaid (string_bytes p.aside) old new none quiet))) (λ differs. inr (inl differs)) (reports_differs strict (string_bytes p.aside) is.rows outcome (ends ∙ is.outcome))
+quiet_answer instance barred (Where word) held p outcome old new is ends quiet = inr (inr (unsaid (string_bytes p.aside) old new is.done.1.0 quiet))
+
+-- an answer that ends with `Differs` reports nothing, unless it is that of a comparison, which
+-- reports the files that it refuses
+pub differs_answer : {V : Type 0} (taken : V → Option (List ℕ)) (failed : V → Bool) (instance : String Global) (barred : Option (String Global)) (task : Task) (held : Held) (p : Printed) (outcome : Outcome)
+    (old new : Option (List ℕ)) (err new_err : V) → IsAnswer instance barred task held p → outcome ≡ p.outcome → Appends old new p.text.items
+    → (failed new_err ≡ true) ⊎ Appends (taken err) (taken new_err) (string_bytes p.aside) → (string_bytes p.aside ≢ []) ⊎ (new_err ≡ err)
+    → outcome ≡ Differs → DiffersOfTask taken failed instance barred task held old new err new_err
+differs_answer taken failed instance barred (Show solution showing) held p outcome old new err new_err is ends prints says quiet differs = unsaid (string_bytes p.aside) err new_err is.1.0 quiet
+differs_answer taken failed instance barred (Run script start journal) held p outcome old new err new_err is ends prints says quiet differs = absurd is
+differs_answer taken failed instance barred (Audit journal start) held p outcome old new err new_err is ends prints says quiet differs = unsaid (string_bytes p.aside) err new_err is.1.0 quiet
+differs_answer taken failed instance barred (Crew scripts) held p outcome old new err new_err is ends prints says quiet differs = unsaid (string_bytes p.aside) err new_err is.4.0 quiet
+differs_answer taken failed instance barred (Desk seats start minutes) held p outcome old new err new_err is ends prints says quiet differs = absurd is
+differs_answer taken failed instance barred (Journals minutes) held p outcome old new err new_err is ends prints says quiet differs = done_differs outcome (ends ∙ is.2) differs
+differs_answer taken failed instance barred (Listing journal start) held p outcome old new err new_err is ends prints says quiet differs = unsaid (string_bytes p.aside) err new_err is.1.0 quiet
+differs_answer taken failed instance barred (Mending solution) held p outcome old new err new_err is ends prints says quiet differs = done_differs outcome (ends ∙ is.2) differs
+differs_answer taken failed instance barred (Compare solutions form strict) held p outcome old new err new_err is ends prints says quiet differs = (p, is, sym ends ∙ differs, prints, says)
+differs_answer taken failed instance barred (Where word) held p outcome old new err new_err is ends prints says quiet differs = unsaid (string_bytes p.aside) err new_err is.done.1.0 quiet
+
+-- a task that prints its answer while it works leaves standard error unchanged if it ends so
+pub differs_streamed : {V : Type 0} (taken : V → Option (List ℕ)) (failed : V → Bool) (instance : String Global) (barred : Option (String Global)) (task : Task) (held : Held) (outcome : Outcome)
+    (old new : Option (List ℕ)) (err new_err : V) → streams task ≡ true → (Saying task × (outcome ≡ Done)) ⊎ (new_err ≡ err)
+    → outcome ≡ Differs → DiffersOfTask taken failed instance barred task held old new err new_err
+differs_streamed taken failed instance barred (Show solution showing) held outcome old new err new_err whole quiet differs = ⊎_elim (λ says. done_differs outcome says.1 differs) (λ same. same) quiet
+differs_streamed taken failed instance barred (Run script start journal) held outcome old new err new_err whole quiet differs = ⊎_elim (λ says. done_differs outcome says.1 differs) (λ same. same) quiet
+differs_streamed taken failed instance barred (Audit journal start) held outcome old new err new_err whole quiet differs = ⊎_elim (λ says. done_differs outcome says.1 differs) (λ same. same) quiet
+differs_streamed taken failed instance barred (Crew scripts) held outcome old new err new_err whole quiet differs = ⊎_elim (λ says. done_differs outcome says.1 differs) (λ same. same) quiet
+differs_streamed taken failed instance barred (Desk seats start minutes) held outcome old new err new_err whole quiet differs = ⊎_elim (λ says. done_differs outcome says.1 differs) (λ same. same) quiet
+differs_streamed taken failed instance barred (Journals minutes) held outcome old new err new_err whole quiet differs = ⊎_elim (λ says. done_differs outcome says.1 differs) (λ same. same) quiet
+differs_streamed taken failed instance barred (Listing journal start) held outcome old new err new_err whole quiet differs = ⊎_elim (λ says. done_differs outcome says.1 differs) (λ same. same) quiet
+differs_streamed taken failed instance barred (Mending solution) held outcome old new err new_err whole quiet differs = ⊎_elim (λ says. done_differs outcome says.1 differs) (λ same. same) quiet
+differs_streamed taken failed instance barred (Compare solutions form strict) held outcome old new err new_err whole quiet differs = absurd (true≢false (sym whole))
+differs_streamed taken failed instance barred (Where word) held outcome old new err new_err whole quiet differs = ⊎_elim (λ says. done_differs outcome says.1 differs) (λ same. same) quiet

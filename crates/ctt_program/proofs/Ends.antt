@@ -6,12 +6,12 @@ use Rattle.ctt_words.specs.Jobs.{IsJobOf, faults_of}
 use Rattle.ctt_words.specs.declared.job.Job.{Job}
 use Rattle.ctt_words.specs.declared.job.Showing.TheVariants.{Page, Report, Week}
 use Rattle.ctt_words.specs.declared.job.Task.{Task}
-use Rattle.ctt_words.specs.declared.job.Task.TheVariants.{Audit, Crew, Desk, Journal as Journals, Listing, Mending, Run, Show}
+use Rattle.ctt_words.specs.declared.job.Task.TheVariants.{Audit, Compare, Crew, Desk, Journal as Journals, Listing, Mending, Run, Show, Where}
 use Rattle.ctt_files.specs.Faults.{MayHaveWritten, status_of}
 use Rattle.ctt_files.specs.Outcomes.{outcome_status}
 use Rattle.ctt_files.specs.Texts.{Held}
 use Rattle.ctt_files.specs.declared.fault.Fault.{Fault}
-use Rattle.ctt_files.specs.declared.fault.Fault.TheVariants.{BadSeats, Barred, CannotRead, CannotWrite, Instance, Journal, MinutesExist, NoCourse, NoCurriculum, NoMemory, NoPlace, NoRoom, NoTeacher, NoThread, NotYours, Opening, Solution, TooLong, TooManyScripts, Words, WordsNotText}
+use Rattle.ctt_files.specs.declared.fault.Fault.TheVariants.{BadSeats, Barred, CannotRead, CannotWrite, Instance, Journal, MinutesExist, NoCourse, NoCurriculum, NoMemory, NoPlace, NoRoom, NoTeacher, NoThread, NoWord, NotYours, Opening, Solution, TooLong, TooManyScripts, Words, WordsNotText}
 use Rattle.ctt_files.specs.declared.outcome.Outcome.{Outcome}
 use Rattle.ctt_files.specs.declared.outcome.Outcome.TheVariants.{Differs, Done, Incomplete, Unlawful}
 use Rattle.ctt_files.proofs.Causes.{three_is_one}
@@ -95,6 +95,7 @@ ended_kept (NoCurriculum name) status S K is kept = inl kept
 ended_kept (NoTeacher name) status S K is kept = inl kept
 ended_kept (NoCourse name) status S K is kept = inl kept
 ended_kept (NoRoom name) status S K is kept = inl kept
+ended_kept (NoWord word file) status S K is kept = inl kept
 
 -- what holds of a success with `Done` holds of each success, if `Done` is the only outcome
 pub done_so : {E : Type 0} (r : Result Outcome E) (P : Type 0) (Q : Outcome → Type 0) → IfOk r (λ outcome. outcome ≡ Done) → OnOk r P
@@ -124,8 +125,8 @@ failed_so (Err fault) F P Q is holds gives = gives fault is holds
 -- a job that ends with another outcome than `Done` has changed no file
 task_kept : (instance : String Global) (barred : Option (String Global)) (task : Task) (outcome : Outcome) (before after : Held) (old new : Option (List ℕ))
     → DoesTask instance barred task outcome before after old new → outcome ≢ Done → after ≡ before
-task_kept instance barred (Show solution (Report json true strict)) outcome before after old new does other = does.0
-task_kept instance barred (Show solution (Report json false strict)) outcome before after old new does other = does.0
+task_kept instance barred (Show solution (Report form true strict)) outcome before after old new does other = does.0
+task_kept instance barred (Show solution (Report form false strict)) outcome before after old new does other = does.0
 task_kept instance barred (Show solution (Week whose)) outcome before after old new does other = does.0
 task_kept instance barred (Show solution (Page days)) outcome before after old new does other = does.0
 task_kept instance barred (Run script start journal) outcome before after old new does other = absurd (other does.0)
@@ -135,6 +136,8 @@ task_kept instance barred (Desk seats start minutes) outcome before after old ne
 task_kept instance barred (Journals minutes) outcome before after old new does other = does.0
 task_kept instance barred (Listing journal start) outcome before after old new does other = does.0
 task_kept instance barred (Mending solution) outcome before after old new does other = does.0
+task_kept instance barred (Compare solutions form strict) outcome before after old new does other = does.0
+task_kept instance barred (Where word) outcome before after old new does other = does.0
 
 pub other_kept : (words : List (List ℕ)) (outcome : Outcome) (before after : Held) (old new : Option (List ℕ)) → DoesAsAsked words outcome before after old new → outcome ≢ Done → after ≡ before
 other_kept words outcome before after old new (inl help) other = help.2
@@ -163,6 +166,7 @@ may_is_three (NoCurriculum name) may = absurd may
 may_is_three (NoTeacher name) may = absurd may
 may_is_three (NoCourse name) may = absurd may
 may_is_three (NoRoom name) may = absurd may
+may_is_three (NoWord word file) may = absurd may
 
 -- if a text or the words are refused, nothing was printed
 pub unprinted_one : (fault : Fault) (P : Type 0) → MayHaveWritten fault ⊎ P → status_of fault ≡ 1 → P
@@ -194,6 +198,7 @@ status_between (NoCurriculum name) = (omega arith, omega arith)
 status_between (NoTeacher name) = (omega arith, omega arith)
 status_between (NoCourse name) = (omega arith, omega arith)
 status_between (NoRoom name) = (omega arith, omega arith)
+status_between (NoWord word file) = (omega arith, omega arith)
 
 -- if no words could be had, it is reported that one is not UTF-8, or that memory ran out
 pub of_no_words : (M : Type 0) (fault : Fault) (status : ℕ) (old new : Option (List ℕ)) → (fault ≡ WordsNotText) ⊎ (fault ≡ NoMemory) → M ⊎ SaysFault (λ told. (told ≡ fault) ⊎ (told ≡ NoMemory)) status old new
@@ -204,10 +209,25 @@ of_no_words M fault status old new is said = says_caused M (λ told. (told ≡ W
 pub ends_no_words : (fault : Fault) (status : ℕ) → (fault ≡ WordsNotText) ⊎ (fault ≡ NoMemory) → (status ≡ status_of fault) ⊎ (status ≡ 3) → (status ≡ 2) ⊎ (status ≡ 3)
 ends_no_words fault status is ends = ⊎_elim (λ same. ⊎_elim (λ word. inl (same ∙ ap status_of word)) (λ memory. inr (same ∙ ap status_of memory)) is) (λ three. inr three) ends
 
--- a job that ends with another outcome than `Done` writes nothing to standard error
-pub unsaid_other : (outcome : Outcome) (A S : Type 0) → (A × (outcome ≡ Done)) ⊎ S → outcome ≢ Done → S
-unsaid_other outcome A S (inl says) other = absurd (other says.1)
-unsaid_other outcome A S (inr same) other = same
+-- the outcome of a job that is done is not `Differs`
+pub done_differs : {C : Type 0} (outcome : Outcome) → outcome ≡ Done → outcome ≡ Differs → C
+done_differs outcome done differs = absurd (omega (arith, ap outcome_status done, ap outcome_status differs))
+
+-- a job that ends with another outcome than `Done` or `Differs` writes nothing to standard error
+pub unsaid_other : (outcome : Outcome) (A S : Type 0) → (A × (outcome ≡ Done)) ⊎ ((outcome ≡ Differs) ⊎ S) → outcome ≢ Done → outcome ≢ Differs → S
+unsaid_other outcome A S (inl says) other same_too = absurd (other says.1)
+unsaid_other outcome A S (inr (inl differs)) other same_too = absurd (same_too differs)
+unsaid_other outcome A S (inr (inr same)) other same_too = same
+
+-- a job that ends with `Done` writes to standard error only what it says
+pub unsaid_done : (outcome : Outcome) (A S : Type 0) → (A × (outcome ≡ Done)) ⊎ ((outcome ≡ Differs) ⊎ S) → outcome ≡ Done → A ⊎ S
+unsaid_done outcome A S (inl says) done = inl says.0
+unsaid_done outcome A S (inr (inl differs)) done = done_differs outcome done differs
+unsaid_done outcome A S (inr (inr same)) done = inr same
+
+-- status 1 is that of `Differs`
+pub is_not_differs : (outcome : Outcome) (status : ℕ) → status ≡ outcome_status outcome → status ≢ 1 → outcome ≢ Differs
+is_not_differs outcome status is some differs = some (is ∙ ap outcome_status differs)
 
 -- a fault is reported after what a job has written, unless that could not be written
 pub said_since : {V : Type 0} (taken : V → Option (List ℕ)) (failed : V → Bool) (C : Fault → Type 0) (status : ℕ) (words : List (List ℕ)) (old mid new : V)

@@ -6,16 +6,16 @@ use Rattle.std.specs.declared.string.String.{String}
 use Rattle.ctt_words.specs.Jobs.{AreRefused, IsFaultOf, IsJobOf, IsRequest, faults_of}
 use Rattle.ctt_words.specs.declared.job.Job.{Job}
 use Rattle.ctt_words.specs.declared.job.Task.{Task}
-use Rattle.ctt_words.specs.declared.job.Task.TheVariants.{Audit, Crew, Desk, Journal as Journals, Listing, Mending, Run, Show}
+use Rattle.ctt_words.specs.declared.job.Task.TheVariants.{Audit, Compare, Crew, Desk, Journal as Journals, Listing, Mending, Run, Show, Where}
 use Rattle.ctt_words.specs.declared.job.WordsFault.{WordsFault}
 use Rattle.ctt_words.specs.declared.job.WordsFault.TheVariants as no
 use Rattle.ctt_words.specs.declared.job.WordsFault.TheVariants.{Help, Refused}
 use Rattle.ctt_files.specs.Faults.{IfUnwritten, IsLineOf, status_of}
 use Rattle.ctt_files.specs.Texts.{Held}
 use Rattle.ctt_files.specs.declared.fault.Fault.{Fault}
-use Rattle.ctt_files.specs.declared.fault.Fault.TheVariants.{BadSeats, Barred, CannotRead, CannotWrite, Instance, Journal, MinutesExist, NoCourse, NoCurriculum, NoMemory, NoPlace, NoRoom, NoTeacher, NoThread, NotYours, Opening, Solution, TooLong, TooManyScripts, Words, WordsNotText}
+use Rattle.ctt_files.specs.declared.fault.Fault.TheVariants.{BadSeats, Barred, CannotRead, CannotWrite, Instance, Journal, MinutesExist, NoCourse, NoCurriculum, NoMemory, NoPlace, NoRoom, NoTeacher, NoThread, NoWord, NotYours, Opening, Solution, TooLong, TooManyScripts, Words, WordsNotText}
 use Rattle.ctt_files.specs.Refusals.{IsOfSolution}
-use Rattle.ctt_files.proofs.Plain.{IsPlain, behind_plain, solution_file_plain}
+use Rattle.ctt_files.proofs.Plain.{IsPlain, behind_plain, file_plain, instance_in_plain, solution_file_plain}
 use Rattle.ctt_reports.specs.Showings.{whose_of}
 use Rattle.ctt_reports.proofs.LookLemmas.{look_plain}
 use Rattle.ctt_commands.specs.Faults.{KeptUnless}
@@ -68,6 +68,9 @@ task_plain instance barred (Desk seats start minutes) held fault (inr other) = i
 task_plain instance barred (Journals minutes) held fault is = inl (behind_plain (IsOfMinutes minutes) (minutes_plain minutes) held instance barred fault is)
 task_plain instance barred (Listing journal start) held fault is = inl (behind_plain (IsOfAudited journal start) (audited_plain journal start) held instance barred fault is)
 task_plain instance barred (Mending solution) held fault is = inl (behind_plain (IsOfSolution solution) (solution_file_plain solution) held instance barred fault is)
+task_plain instance barred (Compare solutions form strict) held fault is = inl (instance_in_plain held instance barred fault is)
+task_plain instance barred (Where word) held fault (inl file) = inl (file_plain held instance fault file)
+task_plain instance barred (Where word) held fault (inr none) = inl (subst IsPlain (sym none.0.2) tt)
 
 job_plain : (job : Job) (held : Held) (fault : Fault) → IsOfJob job held fault → IsPlain fault ⊎ IsSpecial job.task fault
 job_plain job held fault is = task_plain job.instance job.barred job.task held fault is
@@ -103,6 +106,7 @@ job_caused words held failed job U (NoCurriculum name) is cause = (job, is, caus
 job_caused words held failed job U (NoTeacher name) is cause = (job, is, cause.0)
 job_caused words held failed job U (NoCourse name) is cause = (job, is, cause.0)
 job_caused words held failed job U (NoRoom name) is cause = (job, is, cause.0)
+job_caused words held failed job U (NoWord word file) is cause = (job, is, cause.0)
 
 abbrev is_many : Fault → ℕ
 is_many TooManyScripts = 1
@@ -138,6 +142,7 @@ refused_two words held failed (NoCurriculum name) has two = absurd (omega (arith
 refused_two words held failed (NoTeacher name) has two = absurd (omega (arith, two))
 refused_two words held failed (NoCourse name) has two = absurd (omega (arith, two))
 refused_two words held failed (NoRoom name) has two = absurd (omega (arith, two))
+refused_two words held failed (NoWord word file) has two = absurd (omega (arith, two))
 refused_two words held failed BadSeats has two = inr (inr (has.0, has.1, seats_of has.0.task (job_plain has.0 held BadSeats has.2)))
   where
     seats_of : (task : Task) → IsPlain BadSeats ⊎ IsSpecial task BadSeats → HasBadSeats task
@@ -168,6 +173,7 @@ asked_one words held failed (NoCurriculum name) has one = ((NoCurriculum name), 
 asked_one words held failed (NoTeacher name) has one = ((NoTeacher name), one, has)
 asked_one words held failed (NoCourse name) has one = ((NoCourse name), one, has)
 asked_one words held failed (NoRoom name) has one = ((NoRoom name), one, has)
+asked_one words held failed (NoWord word file) has one = ((NoWord word file), one, has)
 
 -- ---- the answer to words that ask for no job
 

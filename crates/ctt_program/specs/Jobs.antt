@@ -3,7 +3,7 @@ use Rattle.std.specs.Prelude.{◌≡◌, ◌⊎◌, Bool, false, true, List, [],
 use Rattle.std.specs.Global.{Global}
 use Rattle.std.specs.declared.string.String.{String}
 use Rattle.ctt_words.specs.declared.job.Task.{Task}
-use Rattle.ctt_words.specs.declared.job.Task.TheVariants.{Crew, Desk, Journal, Mending, Run, Show}
+use Rattle.ctt_words.specs.declared.job.Task.TheVariants.{Compare, Crew, Desk, Journal, Mending, Run, Show}
 use Rattle.ctt_reports.specs.Showings.{explains}
 use Rattle.ctt_files.specs.Storing.{IsGiven}
 use Rattle.ctt_program.specs.Seats.{AreBadSeats, has_standard}
@@ -29,8 +29,9 @@ abbrev pub stored_by : Task → Option (String Global)
 stored_by (Run script start journal) = journal
 stored_by task = None
 
--- the task, when it is done, may write to standard error: for a desk without minutes or with a seat
--- at standard output, for an incomplete entry of minutes, and for lectures that are set aside
+-- the task, when it ends with `Done`, may write to standard error: for a desk without minutes or
+-- with a seat at standard output, for an incomplete entry of minutes, and for lectures that are set
+-- aside
 abbrev pub Saying : Task → Type 0
 Saying (Desk seats start minutes) = (is_some minutes ≡ false) ⊎ (has_standard seats.items ≡ true)
 Saying (Journal minutes) = Unit {0}
@@ -45,9 +46,11 @@ streams (Run script start journal) = true
 streams (Desk seats start minutes) = true
 streams task = false
 
--- this output includes a warning, and if that cannot be written, the task is done nevertheless
+-- what the task writes there includes a warning, and if that cannot be written, the task is done
+-- nevertheless
 abbrev pub Warning : Task → Type 0
 Warning (Desk seats start minutes) = is_some minutes ≡ false
 Warning (Journal minutes) = Unit {0}
 Warning (Mending solution) = Unit {0}
+Warning (Compare solutions form strict) = Unit {0}
 Warning task = ⊥

@@ -5,7 +5,7 @@ use Rattle.ctt_files.specs.declared.fault.Fault.TheVariants.{WordsNotText, NoMem
 use Rattle.ctt_files.specs.declared.outcome.Outcome.TheVariants.{Done, Differs, Unlawful, Incomplete}
 use Rattle.ctt_words.specs.Jobs.{faults_of}
 use Rattle.ctt_program.specs.Reporting.{SaysFault}
-use Rattle.ctt_program.specs.Work.{DoesAsAsked, EndsAsDone, AsksForRefusedText, AsksToStore, AsksToSay, AsksToWarn, SaysAsAsked, KeepAsAsked, AreTurnedDown, HasCause, WarnsAsAsked}
+use Rattle.ctt_program.specs.Work.{DoesAsAsked, EndsAsDone, AsksForRefusedText, AsksToStore, AsksToSay, AsksToWarn, SaysAsAsked, KeepAsAsked, AreTurnedDown, HasCause, WarnsAsAsked, DiffersAsAsked}
 
 -- what the program has done for these words, according to its exit status; `taken` and `failed`
 -- give what standard output took and whether it failed, and `told` and `broken` the same of
@@ -14,7 +14,7 @@ pub record IsServed {W V : Type 0} (taken : W → Option (List ℕ)) (failed : W
   pub done : status ≡ 0 → DoesAsAsked words Done before after (taken out) (taken new_out)
   pub unsaid : status ≡ 0 → AsksToSay words ⊎ (new_err ≡ err)
   pub says : status ≡ 0 → (AsksToWarn words × (broken new_err ≡ true)) ⊎ SaysAsAsked words before (told err) (told new_err)
-  pub one : status ≡ 1 → (AsksForRefusedText words before × (new_out ≡ out)) ⊎ (DoesAsAsked words Differs before after (taken out) (taken new_out) × (new_err ≡ err))
+  pub one : status ≡ 1 → (AsksForRefusedText words before × (new_out ≡ out)) ⊎ (DoesAsAsked words Differs before after (taken out) (taken new_out) × DiffersAsAsked told broken words before (taken out) (taken new_out) err new_err)
   pub four : status ≡ 4 → DoesAsAsked words Unlawful before after (taken out) (taken new_out) × (new_err ≡ err)
   pub five : status ≡ 5 → DoesAsAsked words Incomplete before after (taken out) (taken new_out) × (new_err ≡ err)
   pub found : status ≡ 1 → faults_of words ≡ []

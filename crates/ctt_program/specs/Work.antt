@@ -11,9 +11,11 @@ use Rattle.ctt_words.specs.declared.job.WordsFault.TheVariants as no
 use Rattle.ctt_words.specs.declared.job.WordsFault.TheVariants.{Help, Refused}
 use Rattle.ctt_words.specs.declared.job.Job.{Job}
 use Rattle.ctt_words.specs.declared.job.Task.{Task}
-use Rattle.ctt_words.specs.declared.job.Task.TheVariants.{Audit, Crew, Desk, Journal, Listing, Mending, Run, Show}
+use Rattle.ctt_words.specs.declared.job.Task.TheVariants.{Audit, Compare, Crew, Desk, Journal, Listing, Mending, Run, Show, Where}
 use Rattle.ctt_words.specs.declared.job.Showing.TheVariants.{Report}
 use Rattle.ctt_reports.specs.Checks.{ExplainsSolution}
+use Rattle.ctt_reports.specs.Compare.{ComparesSolutions, IsOfCompare}
+use Rattle.ctt_reports.specs.Places.{IsOfWhere, ShowsWord}
 use Rattle.ctt_reports.specs.Showings.{IsOfShowing, ShowsSolution}
 use Rattle.ctt_files.specs.Answers.{Prints, Reports}
 use Rattle.ctt_files.specs.Faults.{status_of}
@@ -23,7 +25,7 @@ use Rattle.ctt_files.specs.Texts.{Held}
 use Rattle.ctt_files.specs.declared.fault.Fault.{Fault}
 use Rattle.ctt_files.specs.declared.fault.Fault.TheVariants.{CannotWrite, NoMemory, Words, WordsNotText}
 use Rattle.ctt_files.specs.declared.outcome.Outcome.{Outcome}
-use Rattle.ctt_files.specs.declared.outcome.Outcome.TheVariants.{Done}
+use Rattle.ctt_files.specs.declared.outcome.Outcome.TheVariants.{Differs, Done}
 use Rattle.ctt_files.specs.declared.printed.Printed.{Printed}
 use Rattle.ctt_commands.specs.Audits.{AuditsJournal}
 use Rattle.ctt_commands.specs.Crews.{WritesCrew}
@@ -39,18 +41,20 @@ use Rattle.ctt_commands.specs.Runs.{RunsScript}
 -- what the task answers, unless it streams its answer
 abbrev pub IsAnswer : String Global → Option (String Global) → Task → Held → Printed → Type 0
 IsAnswer instance barred (Show solution showing) held p = ShowsSolution showing instance barred solution held p
+IsAnswer instance barred (Compare solutions form strict) held p = ComparesSolutions form strict instance barred solutions.items held p
 IsAnswer instance barred (Audit journal start) held p = AuditsJournal instance barred journal start held p
 IsAnswer instance barred (Crew scripts) held p = WritesCrew instance barred scripts.items held p
 IsAnswer instance barred (Journal minutes) held p = RecoversJournal instance barred minutes held p
 IsAnswer instance barred (Listing journal start) held p = ListsJournal instance barred journal start held p
 IsAnswer instance barred (Mending solution) held p = MendsSolution instance barred solution held p
+IsAnswer instance barred (Where word) held p = ShowsWord instance word held p
 IsAnswer instance barred task held p = ⊥
 
 -- the task is done with this instance and these files, as far as their bytes are known; its answer
 -- is printed, with this outcome
 abbrev pub DoesTask : String Global → Option (String Global) → Task → Outcome → Held → Held → Option (List ℕ) → Option (List ℕ) → Type 0
-DoesTask instance barred (Show solution (Report json true strict)) outcome before after old new = (after ≡ before)
-    × ExplainsSolution json strict instance barred solution outcome before old new
+DoesTask instance barred (Show solution (Report form true strict)) outcome before after old new = (after ≡ before)
+    × ExplainsSolution form strict instance barred solution outcome before old new
 DoesTask instance barred (Run script start journal) outcome before after old new = (outcome ≡ Done)
     × RunsScript instance barred script start journal before after old new
 DoesTask instance barred (Desk seats start minutes) outcome before after old new = (outcome ≡ Done)
@@ -63,12 +67,24 @@ abbrev pub DoesJob : Job → Outcome → Held → Held → Option (List ℕ) →
 DoesJob job outcome before after old new = DoesTask job.instance job.barred job.task outcome before after old new
 
 -- what is written to standard error if the task is done: the warning and the last lines of a desk,
--- an incomplete entry, or the lectures set aside, and else nothing
+-- an incomplete entry, the lectures set aside, or the files that a comparison refuses, and else
+-- nothing
 abbrev pub SaysOfTask : String Global → Option (String Global) → Task → Held → Option (List ℕ) → Option (List ℕ) → Type 0
 SaysOfTask instance barred (Desk seats start minutes) held old new = SaysLast instance barred seats.items start minutes held old new
 SaysOfTask instance barred (Journal minutes) held old new = Reports (RecoversJournal instance barred minutes held) old new
 SaysOfTask instance barred (Mending solution) held old new = Reports (MendsSolution instance barred solution held) old new
+SaysOfTask instance barred (Compare solutions form strict) held old new = Reports (ComparesSolutions form strict instance barred solutions.items held) old new
 SaysOfTask instance barred task held old new = new ≡ old
+
+-- what is written to standard error if the task is done and ends with `Differs`: a comparison prints
+-- the rows of an answer and reports there the files that the same answer refuses, unless standard
+-- error fails, and other tasks leave it unchanged; `told` and `broken` give what standard error took
+-- and whether it failed
+abbrev pub DiffersOfTask : {V : Type 0} → (V → Option (List ℕ)) → (V → Bool) → String Global → Option (String Global) → Task → Held → Option (List ℕ) → Option (List ℕ) → V → V → Type 0
+DiffersOfTask told broken instance barred (Compare solutions form strict) held old new err new_err = (p : Printed)
+    × ComparesSolutions form strict instance barred solutions.items held p × (p.outcome ≡ Differs) × Appends old new p.text.items
+    × ((broken new_err ≡ true) ⊎ Appends (told err) (told new_err) (string_bytes p.aside))
+DiffersOfTask told broken instance barred task held old new err new_err = new_err ≡ err
 
 -- the contents of borrowed words
 abbrev pub texts : List (Bor (List ℕ)) → List (List ℕ)
@@ -79,6 +95,10 @@ abbrev pub DoesAsAsked : List (List ℕ) → Outcome → Held → Held → Optio
 DoesAsAsked words outcome before after old new = (IsRequest (faults_of words) × (outcome ≡ Done) × (after ≡ before))
     ⊎ ((faults_of words ≡ []) × ((job : Job) × IsJobOf words job × DoesJob job outcome before after old new))
 
+-- the words ask for a job that ends with `Differs`, and this is written to standard error
+abbrev pub DiffersAsAsked : {V : Type 0} → (V → Option (List ℕ)) → (V → Bool) → List (List ℕ) → Held → Option (List ℕ) → Option (List ℕ) → V → V → Type 0
+DiffersAsAsked told broken words held old new err new_err = (job : Job) × IsJobOf words job × DiffersOfTask told broken job.instance job.barred job.task held old new err new_err
+
 -- the exit status of the words is that of an outcome with which they are done
 abbrev pub EndsAsDone : List (List ℕ) → ℕ → Held → Held → Option (List ℕ) → Option (List ℕ) → Type 0
 EndsAsDone words status before after old new = (outcome : Outcome) × (outcome_status outcome ≡ status) × DoesAsAsked words outcome before after old new
@@ -87,6 +107,7 @@ EndsAsDone words status before after old new = (outcome : Outcome) × (outcome_s
 -- output that cannot be written
 abbrev pub IsOfTask : String Global → Option (String Global) → Task → Held → Fault → Type 0
 IsOfTask instance barred (Show solution showing) held fault = IsOfShowing showing held instance barred solution fault
+IsOfTask instance barred (Compare solutions form strict) held fault = IsOfCompare held instance barred fault
 IsOfTask instance barred (Run script start journal) held fault = IsOfRun held instance barred script start fault
 IsOfTask instance barred (Audit journal start) held fault = IsOfAudit held instance barred journal start fault
 IsOfTask instance barred (Crew scripts) held fault = IsOfCrew held instance barred scripts.items fault
@@ -94,6 +115,7 @@ IsOfTask instance barred (Desk seats start minutes) held fault = IsOfDesk held i
 IsOfTask instance barred (Journal minutes) held fault = IsOfRecovery held instance barred minutes fault
 IsOfTask instance barred (Listing journal start) held fault = IsOfAudit held instance barred journal start fault
 IsOfTask instance barred (Mending solution) held fault = IsOfMending held instance barred solution fault
+IsOfTask instance barred (Where word) held fault = IsOfWhere held instance word fault
 
 -- the same for a job
 abbrev pub IsOfJob : Job → Held → Fault → Type 0

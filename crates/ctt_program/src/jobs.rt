@@ -4,13 +4,13 @@ ghost use Rattle.std.specs.Prelude.{◌≡◌, ◌≢◌, ◌≤◌, ◌⊎◌, 
 ghost use Rattle.ctt_words.specs.Jobs.{HasScripts, faults_of};
 ghost use Rattle.ctt_files.specs.Faults.{IfUnwritten, MayHaveWritten, status_of};
 ghost use Rattle.ctt_files.specs.declared.fault.Fault.TheVariants.{NoMemory};
-ghost use Rattle.ctt_files.specs.declared.outcome.Outcome.TheVariants.{Done};
+ghost use Rattle.ctt_files.specs.declared.outcome.Outcome.TheVariants.{Differs, Done};
 ghost use Rattle.ctt_commands.specs.Faults.{KeptUnless};
 ghost use Rattle.ctt_program.specs.Reporting.{SaysFault};
 ghost use Rattle.ctt_files.specs.Storing.{KeepOthers};
 ghost use Rattle.ctt_program.specs.Jobs.{Saying, Storing, Warning, stored_by, streams};
 ghost use Rattle.ctt_program.specs.Served.{IsServed};
-ghost use Rattle.ctt_program.specs.Work.{AsksToSay, AsksToStore, AsksToWarn, DoesAsAsked, DoesJob, DoesTask, GivesHelp, HasCause, IsAnswer, IsOfHelp, IsOfJob, IsOfTask, KeepAsAsked, PrintsHelp, SaysAsAsked, SaysOfTask, WarnsAsAsked, WarnsOfTask, texts};
+ghost use Rattle.ctt_program.specs.Work.{AsksToSay, AsksToStore, AsksToWarn, DiffersAsAsked, DiffersOfTask, DoesAsAsked, DoesJob, DoesTask, GivesHelp, HasCause, IsAnswer, IsOfHelp, IsOfJob, IsOfTask, KeepAsAsked, PrintsHelp, SaysAsAsked, SaysOfTask, WarnsAsAsked, WarnsOfTask, texts};
 
 use crate::desk::desk;
 use crate::journal::journal;
@@ -149,8 +149,11 @@ fn do_job<R: Threads + Wait + Sync, F: Files, O: Office, W: Sink, V: Sink>(
         ((W.has_failed out.new ≡ W.has_failed out.old) × Storing job.task)
         (F.held files.new ≡ F.held files.old)) }
     ensures others { KeepOthers (stored_by job.task) (F.held files.old) (F.held files.new) }
-    ensures quiet { IfOk result (λ outcome.
-        (Saying job.task × (outcome ≡ Done)) ⊎ (err.new ≡ err.old)) }
+    ensures quiet { IfOk result (λ outcome. (Saying job.task × (outcome ≡ Done))
+        ⊎ ((outcome ≡ Differs) ⊎ (err.new ≡ err.old))) }
+    ensures differs { IfOk result (λ outcome. outcome ≡ Differs
+        → DiffersOfTask V.taken V.has_failed job.instance job.barred job.task (F.held files.old)
+        (W.taken out.old) (W.taken out.new) err.old err.new) }
     ensures says { OnOk result ((Warning job.task × (V.has_failed err.new ≡ true))
         ⊎ SaysOfTask job.instance job.barred job.task (F.held files.old)
         (V.taken err.old) (V.taken err.new)) }
@@ -208,8 +211,11 @@ fn do_as_asked<R: Threads + Wait + Sync, F: Files, O: Office, W: Sink, V: Sink>(
         (F.held files.new ≡ F.held files.old)) }
     ensures others { KeepAsAsked (texts words.now) (F.held files.old) (F.held files.new) }
     ensures taken { IfErr result (λ fault. status_of fault ≡ 1 → faults_of (texts words.now) ≡ []) }
-    ensures quiet { IfOk result (λ outcome.
-        (AsksToSay (texts words.now) × (outcome ≡ Done)) ⊎ (err.new ≡ err.old)) }
+    ensures quiet { IfOk result (λ outcome. (AsksToSay (texts words.now) × (outcome ≡ Done))
+        ⊎ ((outcome ≡ Differs) ⊎ (err.new ≡ err.old))) }
+    ensures differs { IfOk result (λ outcome. outcome ≡ Differs
+        → DiffersAsAsked V.taken V.has_failed (texts words.now) (F.held files.old)
+        (W.taken out.old) (W.taken out.new) err.old err.new) }
     ensures says { OnOk result ((AsksToWarn (texts words.now) × (V.has_failed err.new ≡ true))
         ⊎ SaysAsAsked (texts words.now) (F.held files.old) (V.taken err.old) (V.taken err.new)) }
     ensures unsaid { OnErr result ((V.has_failed err.new ≡ true)
@@ -247,10 +253,11 @@ pub fn fail_with<V: Sink>(alloc: Global, fault: &Fault, err: &mut V) -> u8
 }
 
 /// Does the job that the words ask for, the first of which is the program's name, and returns the
-/// exit status: 0 if it was done, 1 if a text is refused or an audit does not agree, 2 if the words
-/// are refused or ask for too many scripts or seats, and 3 if the machine failed. If a solution was
-/// required to be more than it is, the status is 4 if it is not lawful, and 5 if it is lawful but
-/// not complete. Answers go to `out`, and the reason why a job was not done to `err`.
+/// exit status: 0 if it was done, 1 if a text is refused, a word or a name is not found or an audit
+/// does not agree, 2 if the words are refused or ask for too many scripts or seats, and 3 if the
+/// machine failed. If solutions were required to be more than they are, the status is 4 if one is
+/// not lawful, and 5 if all are lawful but one is not complete. Answers go to `out`, and the reason
+/// why a job was not done, or a file not compared, to `err`.
 pub fn program<R: AllocGlobal + Threads + Wait + Sync, F: Files, O: Office, W: Sink, V: Sink>(
     rt: &R,
     words: &[&str],

@@ -3,7 +3,7 @@ use Rattle.std.proofs.lemmas.Result.{IfErr-weaker, IfOk-weaker}
 use Rattle.ctt_words.specs.Jobs.{HasScripts}
 use Rattle.ctt_words.proofs.Given.{job_has_scripts}
 use Rattle.ctt_files.proofs.Plain.{on_ok_weaker}
-use Rattle.ctt_program.proofs.Ends.{done_so, on_err_too, on_err_weaker, on_ok_too, warned_as_asked}
+use Rattle.ctt_program.proofs.Ends.{done_differs, done_so, on_err_too, on_err_weaker, on_ok_too, warned_as_asked}
 use Rattle.ctt_program.proofs.Known.{help_asked, help_caused, help_kept, help_not_one, job_caused}
 use Rattle.ctt_commands.proofs.Plain.{kept_weaker}
 use Rattle.ctt_program.proofs.jobs.do_as_asked.Goals as goal
@@ -51,3 +51,9 @@ returns-in-Ok-clause-unsaid g c = on_err_weaker c.do_job.result _ _ (warned_as_a
 
 pub returns-in-Err-clause-unsaid : goal.returns-in-Err-clause-unsaid
 returns-in-Err-clause-unsaid g c = on_err_too c.answer_words.result _ (inr (inl refl))
+
+pub returns-in-Ok-clause-differs : goal.returns-in-Ok-clause-differs
+returns-in-Ok-clause-differs g c = IfOk-weaker c.do_job.result _ _ (λ outcome gives differs. (c.in-Ok.job, c.in-Ok.ensures.job, gives differs)) c.do_job.ensures.differs
+
+pub returns-in-Err-clause-differs : goal.returns-in-Err-clause-differs
+returns-in-Err-clause-differs g c = IfOk-weaker c.answer_words.result _ _ (λ outcome done differs. done_differs outcome done differs) c.answer_words.ensures.done

@@ -1,10 +1,10 @@
-use Rattle.std.proofs.Common.{◌≡◌, ◌≢◌, ◌≤◌, inl, inr, map, sym, ◌∙◌, ⊎_elim, arith}
+use Rattle.std.proofs.Common.{◌≡◌, ◌≢◌, ◌≤◌, inl, inr, map, sym, ◌∙◌, arith}
 use Rattle.ctt_files.specs.Faults.{status_of}
 use Rattle.ctt_files.specs.Outcomes.{outcome_status}
 use Rattle.ctt_files.specs.declared.outcome.Outcome.{Outcome}
 use Rattle.ctt_files.specs.declared.outcome.Outcome.TheVariants.{Differs, Done, Incomplete, Unlawful}
 use Rattle.ctt_program.specs.Work.{DoesAsAsked}
-use Rattle.ctt_program.proofs.Ends.{differs_taken, ended_kept, ends_as, is_not_two, is_other, is_some_status, one_is_of_fault, other_kept, said_since, two_is_of_fault, unprinted_one, unprinted_two, unsaid_other}
+use Rattle.ctt_program.proofs.Ends.{differs_taken, ended_kept, ends_as, is_not_differs, is_not_two, is_other, is_some_status, one_is_of_fault, other_kept, said_since, same_outcome, two_is_of_fault, unprinted_one, unprinted_two, unsaid_done, unsaid_other}
 use Rattle.ctt_program.proofs.Known.{asked_one, refused_two, says_caused}
 use Rattle.ctt_program.proofs.jobs.program.Goals as goal
 
@@ -12,14 +12,15 @@ pub returns-in-Ok-clause-served : goal.returns-in-Ok-clause-served
 returns-in-Ok-clause-served g c =
     let does : Outcome → Type 0 = λ outcome. DoesAsAsked (map (λ word. word.now) c.args.words.now) outcome (g.F.Files.held c.args.files.now) (g.F.Files.held c.do_as_asked.new.files) (g.W.Sink.taken c.args.out.now) (g.W.Sink.taken c.do_as_asked.new.out) in
     let ends : (told : Outcome) → c.status.result ≡ outcome_status told → does told = λ told. ends_as c.in-Ok.outcome told c.status.result does c.status.ensures c.in-Ok.ensures.done in
-    let unsaid : c.status.result ≢ 0 → c.do_as_asked.new.err ≡ c.args.err.now = λ some. unsaid_other c.in-Ok.outcome _ _ c.in-Ok.ensures.quiet (is_other c.in-Ok.outcome c.status.result c.status.ensures some) in
+    let same : (told : Outcome) → c.status.result ≡ outcome_status told → c.in-Ok.outcome ≡ told = λ told is. same_outcome c.in-Ok.outcome told (sym c.status.ensures ∙ is) in
+    let unsaid : c.status.result ≢ 0 → c.status.result ≢ 1 → c.do_as_asked.new.err ≡ c.args.err.now = λ some other. unsaid_other c.in-Ok.outcome _ _ c.in-Ok.ensures.quiet (is_other c.in-Ok.outcome c.status.result c.status.ensures some) (is_not_differs c.in-Ok.outcome c.status.result c.status.ensures other) in
     record {
       done = ends Done;
-      unsaid = λ zero. ⊎_elim (λ says. inl says.0) inr c.in-Ok.ensures.quiet;
+      unsaid = λ zero. unsaid_done c.in-Ok.outcome _ _ c.in-Ok.ensures.quiet (same Done zero);
       says = λ zero. c.in-Ok.ensures.says;
-      one = λ one. inr (ends Differs one, unsaid (is_some_status c.status.result 0 one));
-      four = λ four. (ends Unlawful four, unsaid (is_some_status c.status.result 3 four));
-      five = λ five. (ends Incomplete five, unsaid (is_some_status c.status.result 4 five));
+      one = λ one. inr (ends Differs one, c.in-Ok.ensures.differs (same Differs one));
+      four = λ four. (ends Unlawful four, unsaid (is_some_status c.status.result 3 four) (λ one. omega (arith, four, one)));
+      five = λ five. (ends Incomplete five, unsaid (is_some_status c.status.result 4 five) (λ one. omega (arith, five, one)));
       found = λ one. differs_taken _ _ _ _ _ (ends Differs one);
       refused = λ two. absurd (is_not_two c.in-Ok.outcome (sym c.status.ensures ∙ two));
       said = λ some. inl (c.in-Ok.outcome, sym c.status.ensures, c.in-Ok.ensures.done);
