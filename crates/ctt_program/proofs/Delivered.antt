@@ -16,7 +16,6 @@ use Rattle.ctt_files.specs.declared.outcome.Outcome.TheVariants.{Differs, Done}
 use Rattle.ctt_files.specs.declared.printed.Printed.{Printed}
 use Rattle.ctt_files.specs.declared.printed.Stored.{Stored}
 use Rattle.ctt_reports.specs.Compare.{outcome_of}
-use Rattle.ctt_reports.specs.declared.row.Row.{Row}
 use Rattle.ctt_files.proofs.Plain.{IsPlain, plain_written}
 use Rattle.ctt_program.specs.Jobs.{Saying, Warning, streams}
 use Rattle.ctt_program.specs.Work.{DiffersOfTask, DoesTask, IsAnswer, IsOfTask, SaysOfTask}
@@ -101,7 +100,7 @@ says_aside taken failed instance barred (Compare solutions form strict) held p o
 says_aside taken failed instance barred (Where word) held p old new is says quiet = inr (ap taken (unsaid (string_bytes p.aside) old new is.done.1.0 quiet))
 
 -- a comparison has something to report only if it ends with `Differs`
-reports_differs : (strict : Bool) (lines : List ℕ) (rows : List Row) (outcome : Outcome) → outcome ≡ outcome_of strict lines rows → (lines ≡ []) ⊎ (outcome ≡ Differs)
+reports_differs : (strict : Bool) (lines : List ℕ) (rows : _) (outcome : Outcome) → outcome ≡ outcome_of strict lines rows → (lines ≡ []) ⊎ (outcome ≡ Differs)
 reports_differs strict [] rows outcome is = inl refl
 reports_differs strict (b ∷ bs) rows outcome is = inr is
 
