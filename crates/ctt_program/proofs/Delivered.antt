@@ -135,18 +135,3 @@ differs_answer taken failed instance barred (Listing journal start) held p outco
 differs_answer taken failed instance barred (Mending solution) held p outcome old new err new_err is ends prints says quiet differs = done_differs outcome (ends ∙ is.2) differs
 differs_answer taken failed instance barred (Compare solutions form strict) held p outcome old new err new_err is ends prints says quiet differs = (p, is, sym ends ∙ differs, prints, says)
 differs_answer taken failed instance barred (Where word) held p outcome old new err new_err is ends prints says quiet differs = unsaid (string_bytes p.aside) err new_err is.done.1.0 quiet
-
--- a task that prints its answer while it works leaves standard error unchanged if it ends so
-pub differs_streamed : {V : Type 0} (taken : V → Option (List ℕ)) (failed : V → Bool) (instance : String Global) (barred : Option (String Global)) (task : Task) (held : Held) (outcome : Outcome)
-    (old new : Option (List ℕ)) (err new_err : V) → streams task ≡ true → (Saying task × (outcome ≡ Done)) ⊎ (new_err ≡ err)
-    → outcome ≡ Differs → DiffersOfTask taken failed instance barred task held old new err new_err
-differs_streamed taken failed instance barred (Show solution showing) held outcome old new err new_err whole quiet differs = ⊎_elim (λ says. done_differs outcome says.1 differs) (λ same. same) quiet
-differs_streamed taken failed instance barred (Run script start journal) held outcome old new err new_err whole quiet differs = ⊎_elim (λ says. done_differs outcome says.1 differs) (λ same. same) quiet
-differs_streamed taken failed instance barred (Audit journal start) held outcome old new err new_err whole quiet differs = ⊎_elim (λ says. done_differs outcome says.1 differs) (λ same. same) quiet
-differs_streamed taken failed instance barred (Crew scripts) held outcome old new err new_err whole quiet differs = ⊎_elim (λ says. done_differs outcome says.1 differs) (λ same. same) quiet
-differs_streamed taken failed instance barred (Desk seats start minutes) held outcome old new err new_err whole quiet differs = ⊎_elim (λ says. done_differs outcome says.1 differs) (λ same. same) quiet
-differs_streamed taken failed instance barred (Journals minutes) held outcome old new err new_err whole quiet differs = ⊎_elim (λ says. done_differs outcome says.1 differs) (λ same. same) quiet
-differs_streamed taken failed instance barred (Listing journal start) held outcome old new err new_err whole quiet differs = ⊎_elim (λ says. done_differs outcome says.1 differs) (λ same. same) quiet
-differs_streamed taken failed instance barred (Mending solution) held outcome old new err new_err whole quiet differs = ⊎_elim (λ says. done_differs outcome says.1 differs) (λ same. same) quiet
-differs_streamed taken failed instance barred (Compare solutions form strict) held outcome old new err new_err whole quiet differs = absurd (true≢false (sym whole))
-differs_streamed taken failed instance barred (Where word) held outcome old new err new_err whole quiet differs = ⊎_elim (λ says. done_differs outcome says.1 differs) (λ same. same) quiet

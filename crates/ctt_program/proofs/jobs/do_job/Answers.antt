@@ -1,8 +1,7 @@
-use Rattle.std.proofs.Common.{◌≡◌, ◌∙◌, inl, inr, ⊎_elim, refl, sym, true, false}
-use Rattle.std.proofs.lemmas.Result.{IfOk-weaker}
+use Rattle.std.proofs.Common.{◌≡◌, ◌∙◌, refl, sym, false}
 use Rattle.ctt_files.proofs.Plain.{on_ok_weaker, passed_on}
 use Rattle.ctt_program.specs.Jobs.{streams}
-use Rattle.ctt_program.proofs.Delivered.{both_on, differs_answer, differs_streamed, does_printed, none_changed, none_stored, quiet_answer, says_aside, so_ok, task_written}
+use Rattle.ctt_program.proofs.Delivered.{both_on, differs_answer, does_printed, none_changed, none_stored, quiet_answer, says_aside, so_ok, task_written}
 use Rattle.ctt_program.proofs.jobs.do_job.Goals as goal
 
 pub returns-in_err-printed-clause-cause : goal.returns-in_err-printed-clause-cause
@@ -38,4 +37,4 @@ returns-clause-differs g c =
     let job = c.args.job in
     so_ok c.deliver.result _ _ _ c.deliver.ensures.outcome (both_on c.deliver.result _ _ c.deliver.ensures.prints (both_on c.deliver.result _ _ c.deliver.ensures.says c.deliver.ensures.quiet))
     (λ outcome ends all. differs_answer g.V.Sink.taken g.V.Sink.has_failed job.instance job.barred job.task (g.F.Files.held c.args.files.now) c.in_ok-printed.printed outcome _ _ c.args.err.now c.deliver.new.err
-        c.in_ok-printed.ensures.answers ends all.0 all.1.0 all.1.1)
+    c.in_ok-printed.ensures.answers ends all.0 all.1.0 all.1.1)
