@@ -149,16 +149,16 @@ $(noted again) calls were made again, $(noted cut) lists of calls were not cut, 
 }
 
 try_trials 'the trials' "$trials" 23
-try_trials 'the trials of the program' "$program_trials" 16
+try_trials 'the trials of the program' "$program_trials" 26
 of_trials=$((passed + failed))
 done_without=0
 made_again=0
 names=$("$program" --help | sed -n '/^Commands:$/,/^$/s/^  \([a-z]*\) .*/\1/p')
 for words in 'check small.ctt s.sol --json --barred barred' 'check small.ctt small.ctt' \
-    'check small.ctt s.sol --explain' 'check small.ctt s.sol --explain --json' 'week small.ctt s.sol' 'week small.ctt s.sol --course geo' \
+    'check small.ctt s.sol --explain' 'check small.ctt s.sol --explain --json' 'compare small.ctt s.sol small.ctt' 'week small.ctt s.sol' 'week small.ctt s.sol --course geo' \
     'page small.ctt s.sol' \
     'run small.ctt refreshed --barred barred --journal journal' 'audit small.ctt told --start s0.sol' \
-    'journal small.ctt torn' 'list small.ctt told --start s0.sol' 'mend small.ctt mixed --barred barred' 'crew small.ctt twice' frobnicate; do
+    'journal small.ctt torn' 'list small.ctt told --start s0.sol' 'mend small.ctt mixed --barred barred' 'crew small.ctt twice' 'where small.ctt 14' frobnicate; do
     rm -f journal
     "$program" $words >out 2>err
     wanted=$?
