@@ -140,6 +140,7 @@ _office() {
     open) options='--after --barred --instance --planners --start' ;;
     sit) options='--name --plain' ;;
     close) options='--wait' ;;
+    show) options='--at' ;;
     esac
     if [[ -z $option && $typed == -* ]]; then
         for option in $options --help; do
@@ -153,7 +154,7 @@ _office() {
     *:--instance | open:1) _timedesk_files "$typed" .ctt ;;
     *:--barred) _timedesk_files "$typed" '' ;;
     *:--*) ;;
-    :0) _timedesk_words "$typed" close log open sit status ;;
+    :0) _timedesk_words "$typed" close log open show sit status ;;
     *:0) _office_days "$typed" ;;
     log:1) _timedesk_names "$typed" --course "$day/instance.ctt" ;;
     esac

@@ -126,8 +126,8 @@ offers '' timedesk week cut.ctt monday.sol --curriculum ''
 mkdir monday tuesday
 touch monday/day.json
 cp small.ctt monday/instance.ctt
-offers $'close\nlog\nopen\nsit\nstatus' office ''
-offers $'sit\nstatus' ./office s
+offers $'close\nlog\nopen\nshow\nsit\nstatus' office ''
+offers $'show\nsit\nstatus' ./office s
 offers $'open' office --unproved o
 offers $'--help\n--unproved' office -
 offers $'monday' office sit ''

@@ -4,9 +4,9 @@ from __future__ import annotations
 from typing import List, Optional
 
 from office.carry import SWAP, Carry
+from office.costs import COSTS, read_costs
 from office.grid import Row, View
 from office.planning import Planning
-from office.reading import COSTS, read_costs
 from office.text import counted, cut, fit, shown
 from office.text import width as columns
 from office.timetable import Lecture, Slot

@@ -27,6 +27,12 @@ def planner(text: str) -> int:
     return int(text)
 
 
+def draft_number(text: str) -> int:
+    if not (text.isascii() and text.isdigit()):
+        raise argparse.ArgumentTypeError("a draft is a number, from 1; 0 is the start")
+    return int(text)
+
+
 Commands = Any
 
 
@@ -72,6 +78,9 @@ def add_others(commands: Commands) -> None:
     one = add_command(commands, "log", log)
     only = "only those that changed this course"
     one.add_argument("course", metavar="COURSE", nargs="?", help=only)
+    one = add_command(commands, "show", "print the timetable of a day, open or closed")
+    at = "as it was after this draft, 0 for the start; else the newest one"
+    one.add_argument("--at", metavar="NUMBER", type=draft_number, help=at)
 
 
 def parser() -> argparse.ArgumentParser:
@@ -136,6 +145,10 @@ def do(words: argparse.Namespace, top: argparse.ArgumentParser) -> int:
         from office.closing import close_day
 
         return close_day(day, words.wait)
+    if words.command == "show":
+        from office.show import print_show
+
+        return print_show(day, words.at)
     from office.history import print_log
 
     return print_log(day, words.course)

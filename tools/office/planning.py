@@ -3,8 +3,9 @@ from __future__ import annotations
 
 from typing import List
 
+from office.costs import read_costs
 from office.edits import Redone
-from office.reading import Reading, read_costs
+from office.reading import Reading
 from office.reasons import reason
 from office.text import counted
 from office.words import words_of

@@ -6,6 +6,7 @@ import shutil
 import subprocess
 from typing import Optional
 
+from office.costs import COSTS
 from office.folder import Day, write_whole
 from office.refused import MACHINE, Refused, Silent
 
@@ -25,13 +26,13 @@ def program_words(unproved: bool) -> list[str]:
     return [os.path.abspath(found)]
 
 
-def output(words: list[str], quiet: bool = False) -> tuple[int, bytes]:
-    """The status of a command and what it prints. What it says goes where the office's goes, or
-    nowhere."""
+def output(words: list[str], quiet: bool = False, text: bytes = b"") -> tuple[int, bytes]:
+    """The status of a command that reads this text, and what it prints. What it says goes where the
+    office's goes, or nowhere."""
     try:
         done = subprocess.run(
             words,
-            stdin=subprocess.DEVNULL,
+            input=text,
             stdout=subprocess.PIPE,
             stderr=subprocess.DEVNULL if quiet else None,
             check=False,
@@ -49,8 +50,8 @@ class Left:
         self.program: list[str] = day.facts()["program"]
         self.quiet = quiet
 
-    def run(self, *words: str) -> tuple[int, bytes]:
-        return output([*self.program, *words], self.quiet)
+    def run(self, *words: str, text: bytes = b"") -> tuple[int, bytes]:
+        return output([*self.program, *words], self.quiet, text)
 
     def write_journal(self, path: str) -> None:
         status, text = self.run(
@@ -80,9 +81,6 @@ class Left:
             raise Silent(status or MACHINE)
         lines = (line.split(" ", 1) for line in text.decode().split("\n") if " " in line)
         return {kind: told for kind, told in lines}
-
-
-COSTS = ("capacity", "days", "compactness", "stability")
 
 
 def costs_in_words(report: dict[str, str]) -> str:

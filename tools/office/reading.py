@@ -4,6 +4,7 @@ from __future__ import annotations
 import time
 from typing import Dict, List, Optional
 
+from office.costs import read_costs
 from office.edits import WANTS
 from office.history import commits_of, read_pasts
 from office.instance import read_instance, read_solution
@@ -20,14 +21,7 @@ WAITS = (0.0, 0.05, 0.2, 0.5)
 # how many seconds an accepted draft may need to be in the minutes, and how many are on their way
 LATE = 1.0
 FEW = 8
-COSTS = ("capacity", "days", "compactness", "stability")
 DIFFERS = "The desk answered otherwise than expected: everything was read anew."
-
-
-def read_costs(answer: str) -> Dict[str, int]:
-    """The four costs by name; none if it is another answer."""
-    words = words_of(answer)
-    return dict(zip(COSTS, map(int, words[1:]))) if words[:1] == ["costs"] else {}
 
 
 class Reading:

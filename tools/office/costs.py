@@ -1,0 +1,15 @@
+"""The four soft costs of a timetable by name."""
+from __future__ import annotations
+
+from typing import Dict
+
+from office.words import words_of
+
+COSTS = ("capacity", "days", "compactness", "stability")
+Costs = Dict[str, int]
+
+
+def read_costs(answer: str) -> Costs:
+    """The four costs of an answer; none if it is another answer."""
+    words = words_of(answer)
+    return dict(zip(COSTS, map(int, words[1:]))) if words[:1] == ["costs"] else {}

@@ -1,0 +1,65 @@
+"""The accepted drafts of a day, played again on a desk of the program: what each of them cost, and
+the timetable after any of them, as the program answers."""
+from __future__ import annotations
+
+from typing import Dict, List, NamedTuple
+
+from office.costs import Costs, read_costs
+from office.folder import Day
+from office.instance import Instance
+from office.minutes import Entry
+from office.program import Left
+from office.refused import CONTENT, Refused
+from office.timetable import Lecture, read_lectures
+from office.words import decoded, encoded, words_of
+
+
+def read_missing(answer: str) -> Dict[str, int]:
+    """The courses of which lectures are missing, and how many."""
+    words = words_of(answer)[2:]
+    return {course: int(count) for course, count in zip(words[0::2], words[1::2])}
+
+
+class Played(NamedTuple):
+    """What the desk shows at the end."""
+
+    lectures: List[Lecture]
+    costs: Costs
+    missing: Dict[str, int]
+
+
+def draft_lines(entry: Entry) -> List[str]:
+    """The lines of a script that make an accepted draft again, by its edits alone."""
+    return ["0 open", *(f"0 {edit}" for edit in entry.edits()), "0 commit"]
+
+
+def answers(day: Day, lines: List[str]) -> List[str]:
+    """What a desk that begins as the day did answers to the lines of a script."""
+    text = encoded("".join(f"{line}\n" for line in lines))
+    status, printed = Left(day).run("run", day.instance, "-", *day.start_words(), text=text)
+    found = decoded(printed).split("\n")[:-1]
+    if status != 0 or len(found) != len(lines):
+        raise Refused(f"the program does not play the minutes of {day.path}", CONTENT)
+    for line, answer in zip(lines, found):
+        if line == "0 commit" and not answer.startswith("committed "):
+            raise Refused(f"the minutes of {day.path} do not fit its start: {answer}", CONTENT)
+    return found
+
+
+def play_costs(day: Day, entries: List[Entry]) -> List[Costs]:
+    """What the timetable cost at the start, and after each of the first drafts of a day."""
+    lines = ["show cost"]
+    for entry in entries:
+        lines += [*draft_lines(entry), "show cost"]
+    found = answers(day, lines)
+    return [read_costs(answer) for line, answer in zip(lines, found) if line == "show cost"]
+
+
+def play_all(day: Day, instance: Instance, entries: List[Entry]) -> Played:
+    """The timetable after the first drafts of a day."""
+    made = [line for entry in entries for line in draft_lines(entry)]
+    shows = [f"show course {course}" for course in instance.courses]
+    *_, costs, missing = found = answers(day, [*made, *shows, "show cost", "show missing"])
+    shown = found[len(made) : len(made) + len(shows)]
+    lectures = [lecture for answer in shown for lecture in read_lectures(answer) or []]
+    return Played(lectures, read_costs(costs), read_missing(missing))

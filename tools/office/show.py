@@ -1,0 +1,37 @@
+"""`office show`: the timetable of a day, after any of its drafts."""
+from __future__ import annotations
+
+from typing import List, Optional
+
+from office.at import At, read_at
+from office.costs import COSTS
+from office.folder import Day
+from office.places import slot_words
+
+
+def cost_lines(at: At) -> List[str]:
+    """What a timetable costs, and how many lectures are missing."""
+    parts = ", ".join(f"{kind} {at.costs[kind]}" for kind in COSTS)
+    return [
+        f"cost {sum(at.costs.values())} ({parts})",
+        f"missing lectures {sum(at.missing.values())}",
+    ]
+
+
+def whole_lines(at: At) -> List[str]:
+    """All lectures, slot by slot, each with its room and its teacher."""
+    courses, lines = at.instance.courses, []
+    for slot in at.instance.slots():
+        lectures = at.timetable.of_slot(slot)
+        if lectures:
+            lines += ["", slot_words(slot)]
+        lines += [f"    {one.course}  {one.room}  {courses[one.course].teacher}" for one in lectures]
+    return lines
+
+
+def print_show(day: Day, number: Optional[int]) -> int:
+    """Prints the timetable of a day after a draft; without a number the newest one."""
+    at = read_at(day, number)
+    for line in [at.title(), *cost_lines(at), *whole_lines(at)]:
+        print(line)
+    return 0
