@@ -115,6 +115,12 @@ _office_days() {
     done
 }
 
+# Adds folders.
+_office_folders() {
+    compopt -o filenames 2>/dev/null
+    mapfile -t COMPREPLY < <(compgen -d -- "$1")
+}
+
 # Completes a word of office.
 _office() {
     local typed=${COMP_WORDS[COMP_CWORD]} word option='' given=' ' command='' day='' place=0 options=''
@@ -137,7 +143,7 @@ _office() {
     [[ $typed != = ]] || typed=
     case $command in
     '') options='--unproved' ;;
-    open) options='--after --barred --instance --planners --start' ;;
+    open) options='--after --barred --instance --labels --planners --start' ;;
     sit) options='--name --plain' ;;
     close) options='--wait' ;;
     show) options='--at' ;;
@@ -150,6 +156,7 @@ _office() {
     fi
     case $command:${option:-$place} in
     *:--after) _office_days "$typed" ;;
+    *:--labels) _office_folders "$typed" ;;
     *:--start) _timedesk_files "$typed" .sol ;;
     *:--instance | open:1) _timedesk_files "$typed" .ctt ;;
     *:--barred) _timedesk_files "$typed" '' ;;

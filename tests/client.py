@@ -10,15 +10,15 @@ import unittest
 
 sys.dont_write_bytecode = True
 HERE = os.path.dirname(os.path.abspath(__file__))
-sys.path.insert(0, os.path.join(HERE, "client"))
 
 
-def main():
+def main(folder):
+    """Runs the tests of a folder beside this file."""
+    folder = os.path.join(HERE, folder)
+    sys.path.insert(0, folder)
     loader = unittest.TestLoader()
     names = sys.argv[1:]
-    suite = (
-        loader.loadTestsFromNames(names) if names else loader.discover(os.path.join(HERE, "client"))
-    )
+    suite = loader.loadTestsFromNames(names) if names else loader.discover(folder)
     found = unittest.TextTestRunner(stream=sys.stdout, verbosity=0).run(suite)
     faults = [test for test, _ in found.failures + found.errors] + found.unexpectedSuccesses
     failed = len(faults)
@@ -30,4 +30,4 @@ def main():
 
 
 if __name__ == "__main__":
-    main()
+    main("client")

@@ -137,7 +137,8 @@ offers $'small.ctt' office open wednesday s
 offers $'monday' office open wednesday --after ''
 offers $'small.ctt' office open wednesday --after monday --instance s
 offers $'monday\nmonday.sol' office open wednesday small.ctt 2 --start m
-offers $'--after\n--barred\n--help\n--instance\n--planners\n--start' office open wednesday -
+offers $'--after\n--barred\n--help\n--instance\n--labels\n--planners\n--start' office open wednesday -
+offers $'monday' office open wednesday small.ctt 2 --labels m
 offers $'--help\n--name' office sit monday 0 --plain -
 offers $'--help\n--wait' office close monday --
 

@@ -55,6 +55,8 @@ def add_open(commands: Commands) -> None:
     start = "the timetable to begin with; else it is empty"
     one.add_argument("--start", metavar="SOLUTION", help=start)
     one.add_argument("--barred", metavar="FILE", help="rooms that courses must not have")
+    labels = "a folder with names, times and the term; with --after: other ones"
+    one.add_argument("--labels", metavar="FOLDER", help=labels)
     after = "begin with what this day has left, and as many planners"
     one.add_argument("--after", metavar="DAY", help=after)
     changed = "with --after: the instance that holds from now on"
@@ -110,10 +112,9 @@ def open_by(words: argparse.Namespace, top: argparse.ArgumentParser) -> int:
                 "open: with --after the day begins with what that one has left: "
                 "no INSTANCE, no PLANNERS, no --start"
             )
-        return open_day(
-            plan_after(day, Day(words.after), words.seats, words.changed, words.barred),
-            words.unproved,
-        )
+        plan = plan_after(day, Day(words.after), words.seats, words.changed, words.barred)
+        plan.labels = words.labels or plan.labels
+        return open_day(plan, words.unproved)
     if (
         words.instance is None
         or words.planners is None
@@ -121,9 +122,9 @@ def open_by(words: argparse.Namespace, top: argparse.ArgumentParser) -> int:
         or words.seats is not None
     ):
         top.error("open: DAY INSTANCE PLANNERS, or DAY --after DAY")
-    return open_day(
-        Plan(day, words.planners, words.instance, words.start, words.barred), words.unproved
-    )
+    plan = Plan(day, words.planners, words.instance, words.start, words.barred)
+    plan.labels = words.labels
+    return open_day(plan, words.unproved)
 
 
 def do(words: argparse.Namespace, top: argparse.ArgumentParser) -> int:

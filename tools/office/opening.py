@@ -12,6 +12,7 @@ from typing import Optional
 from office import mending, processes
 from office.folder import Day, lock, write_whole
 from office.instance import names_of, read_instance
+from office.label_files import FILES, has_labels, read_labels
 from office.pipes import HeldSeats
 from office.processes import Signals, Stopped
 from office.program import program_words
@@ -35,6 +36,8 @@ class Plan:
         self.start = start
         self.barred = barred
         self.after: Optional[Day] = None
+        # the folder of the labels that the day takes along
+        self.labels: Optional[str] = None
         # the start is the end of another day under another instance, or with other rooms barred:
         # what cannot stand any more is set aside
         self.mends = False
@@ -61,6 +64,7 @@ def plan_after(
         day, planners or facts["planners"], instance or before.instance, before.end, barred or kept
     )
     plan.after, plan.program = before, facts["program"]
+    plan.labels = before.path if has_labels(before.path) else None
     plan.mends = instance is not None or barred is not None
     return plan
 
@@ -126,6 +130,8 @@ class Opening:
         plan, day = self.plan, self.day
         if self.run(*plan.program, "--help") != 0:
             raise Refused("there is no program to run a desk with")
+        if plan.labels:
+            self.copy_labels(plan.labels)
         self.copy(plan.instance, day.instance)
         if plan.mends:
             self.check()
@@ -151,6 +157,14 @@ class Opening:
                 "after": os.path.abspath(plan.after.path) if plan.after else None,
             }
         )
+
+    def copy_labels(self, folder: str) -> None:
+        if not has_labels(folder):
+            raise Refused(f"{folder} has none of {', '.join(FILES)}")
+        read_labels(folder)
+        for file in FILES:
+            if os.path.exists(os.path.join(folder, file)):
+                self.copy(os.path.join(folder, file), self.day.file(file))
 
     def check(self) -> None:
         """Has the program read what was copied so far."""
@@ -217,6 +231,7 @@ class Opening:
             day.names,
             day.aside,
             day.file("before.sol"),
+            *map(day.file, FILES),
         ]
         for path in [*made, day.office]:
             for ending in ("", ".new"):
