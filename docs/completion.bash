@@ -71,7 +71,7 @@ _timedesk() {
             option=
         elif [[ $word == --* ]]; then
             given+="$word "
-            [[ $word =~ ^--(csv|json|name|explain|strict|help|version|unproved)$ ]] || option=$word
+            [[ $word =~ ^--(csv|json|name|explain|strict|help|version|unproved|proved|build)$ ]] || option=$word
         elif [[ -z $command ]]; then
             command=$word
         else

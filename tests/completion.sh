@@ -56,6 +56,7 @@ offers $'audit\ncheck\ncompare\ncrew\ndesk\nhelp\njournal\nlist\nmend\npage\nrun
 offers $'check\ncompare\ncrew' timedesk c
 offers $'audit' ./timedesk au
 offers $'check\ncompare\ncrew' timedesk --unproved c
+offers $'check\ncompare\ncrew' timedesk --proved c
 offers $'list' timedesk help l
 offers '' timedesk help list ''
 offers '' timedesk frobnicate

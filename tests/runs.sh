@@ -79,50 +79,7 @@ total 27
 lawful no
 complete no
 '
-help="A shared desk for curriculum-based course timetabling
-
-Usage: timedesk <COMMAND>
-
-Commands:
-  check    Report what a solution breaks and what it costs
-  compare  Print a row for each solution, with what it breaks and what it costs
-  week     Print the week as a table, with a column for each day and a line for each period
-  page     Print a page for a browser with the report, all that is found, and the weeks
-  run      Run a script of planners' steps and print the answers
-  audit    Report whether a journal has the replies that its drafts get, run one after another
-  crew     Run scripts at once, each by a planner on a thread, and print the answers
-  desk     Keep a desk for planners at their terminals
-  journal  Print the journal of the minutes of a desk
-  list     Print the timetable after a journal as a solution
-  mend     Print a solution without the lectures that cannot be placed, and report each of these
-  where    Print the line and the column of a word of a file, and the line
-  help     Print this message or the help of the given subcommand(s)
-
-Options:
-  -h, --help     Print help
-  -V, --version  Print version
-
-Examples:
-  timedesk check comp07.ctt comp07.sol --explain
-  timedesk compare comp07.ctt monday.sol tuesday.sol --csv
-  timedesk week comp07.ctt comp07.sol --teacher t067
-  timedesk page comp07.ctt comp07.sol >comp07.html
-  timedesk run comp07.ctt planners.txt --start comp07.sol --journal monday.journal
-  timedesk audit comp07.ctt monday.journal --start comp07.sol
-  timedesk crew comp07.ctt anna.txt ben.txt
-  timedesk desk comp07.ctt - --start comp07.sol
-  timedesk journal comp07.ctt monday.minutes >monday.journal
-  timedesk list comp07.ctt monday.journal --start comp07.sol >tuesday.sol
-  timedesk mend comp07.ctt comp07.sol >mended.sol
-  timedesk where comp07.ctt 14
-
-Status: 0 if it is done, also if a report says that a solution is unlawful;
-1 if the content of a file is refused, a name is not in it, or an audit does not agree; 2 if the
-words are refused; 3 if a file cannot be read, is too long, minutes exist, or output or memory fails;
-with --strict 4 if the solution is not lawful, and 5 if it is lawful but not complete.
-A refused file is one line, as in 'timedesk: instance I2 14': docs/FORMATS.md has
-each fault by its number, and 'timedesk where' shows the word that it names.
-"
+help=$(<"$here/docs/help.txt")$'\n'
 check_help='Report what a solution breaks and what it costs
 
 Usage: timedesk check [OPTIONS] <INSTANCE> <SOLUTION>

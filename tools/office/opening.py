@@ -15,7 +15,7 @@ from office.instance import names_of, read_instance
 from office.label_files import FILES, has_labels, read_labels
 from office.pipes import HeldSeats
 from office.processes import Signals, Stopped
-from office.program import program_words
+from office.program import build_words, program_words
 from office.refused import Refused, Silent
 from office.words import encoded
 
@@ -128,7 +128,7 @@ class Opening:
         """Builds the program if need be, copies the files, and has them checked as they were
         copied."""
         plan, day = self.plan, self.day
-        if self.run(*plan.program, "--help") != 0:
+        if self.run(*build_words(plan.program)) != 0:
             raise Refused("there is no program to run a desk with")
         if plan.labels:
             self.copy_labels(plan.labels)

@@ -26,6 +26,12 @@ def program_words(unproved: bool) -> list[str]:
     return [os.path.abspath(found)]
 
 
+def build_words(program: list[str]) -> list[str]:
+    """The words that build a program if need be, and run nothing; another one is asked for help."""
+    is_ours = program[0] == os.path.join(HERE, "timedesk")
+    return [*program, "--build" if is_ours else "--help"]
+
+
 def output(words: list[str], quiet: bool = False, text: bytes = b"") -> tuple[int, bytes]:
     """The status of a command that reads this text, and what it prints. What it says goes where the
     office's goes, or nowhere."""
