@@ -31,6 +31,8 @@ class Faults:
     def __init__(self) -> None:
         # by files; row 0 is the file as a whole
         self.found: Dict[str, List[Tuple[int, str]]] = {}
+        # what is not wrong, but to be said
+        self.notes: List[str] = []
 
     def add(self, file: str, row: int, cause: str) -> None:
         self.found.setdefault(file, []).append((row, cause))
@@ -144,9 +146,12 @@ def find_columns(
     meant = {plain(each): one.name for one in columns for each in (one.name, *one.others)}
     for place, head in enumerate(heads):
         name = meant.get(plain(head))
-        if name in places:
+        if name is None:
+            if head:
+                faults.notes.append(shown(f"{file}: the column {head} is not read"))
+        elif name in places:
             faults.add(file, 1, f"two columns are the {name}")
-        elif name is not None:
+        else:
             places[name] = place
     for column in columns:
         if column.is_needed and column.name not in places:

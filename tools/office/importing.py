@@ -1,0 +1,157 @@
+"""`office import`: an instance, its side files and labels, of the tables of an office. What is wrong
+in them is said at once, and then nothing is written."""
+from __future__ import annotations
+
+import os
+import shlex
+import shutil
+import tempfile
+from typing import Dict, List, Tuple
+
+from office.instance import Instance
+from office.label_files import LABELS_COLUMNS
+from office.labels import KINDS, PLAN
+from office.plan_tables import Tables
+from office.program import output, program_words
+from office.refused import MACHINE, Refused, Silent
+from office.tables import read_bytes, write_table
+from office.text import counted
+from office.words import encoded
+
+INSTANCE, START, BARRED = "instance.ctt", "start.sol", "barred"
+
+
+def instance_text(instance: Instance) -> bytes:
+    """An instance as the desk reads it."""
+    closed = [(course, *slot) for course, slots in instance.closed.items() for slot in sorted(slots)]
+    lines: List[Tuple[object, ...]] = [
+        ("Name:", instance.name),
+        ("Courses:", len(instance.courses)),
+        ("Rooms:", len(instance.rooms)),
+        ("Days:", instance.days),
+        ("Periods_per_day:", instance.periods),
+        ("Curricula:", len(instance.curricula)),
+        ("Constraints:", len(closed)),
+        ("COURSES:",),
+        *((c.name, c.teacher, c.lectures, c.minimum_days, c.students) for c in instance.courses.values()),
+        ("ROOMS:",),
+        *instance.rooms.items(),
+        ("CURRICULA:",),
+        *((name, len(members), *members) for name, members in instance.curricula.items()),
+        ("UNAVAILABILITY_CONSTRAINTS:",),
+        *closed,
+        ("END.",),
+    ]
+    return encoded("".join(" ".join(map(str, line)) + "\n" for line in lines))
+
+
+def barred_text(instance: Instance) -> bytes:
+    """Barred rooms as the desk reads them."""
+    pairs = "".join(f"{course} {room}\n" for course, room in sorted(instance.barred))
+    return encoded(f"Barred: {len(instance.barred)}\n{pairs}END.\n")
+
+
+def label_rows(tables: Tables, instance: Instance) -> List[Tuple[str, str, str, str]]:
+    """What is called by more than its code, with the name of the whole."""
+    title = tables.labels.names.get((PLAN, instance.name))
+    rows = [(PLAN, instance.name, title.name if title else "", title.short if title else "")]
+    for kind in KINDS:
+        for code, name in tables.codes[kind].names.items():
+            if name.name or name.short:
+                rows.append((kind, code, *name))
+    return rows
+
+
+def files_of(tables: Tables, instance: Instance) -> Dict[str, bytes]:
+    """The files that an import writes."""
+    heads = [column.name for column in LABELS_COLUMNS]
+    files = {
+        INSTANCE: instance_text(instance),
+        "labels.csv": write_table(heads, label_rows(tables, instance)),
+    }
+    if tables.barred is not None:
+        files[BARRED] = barred_text(instance)
+    if tables.start is not None:
+        lines = (f"{lecture.words()}\n" for _, lecture in tables.start)
+        files[START] = encoded("".join(lines))
+    for file in ("times.csv", "term.csv"):
+        text = read_bytes(os.path.join(tables.folder, file))
+        if text is not None:
+            files[file] = text
+    return files
+
+
+def claim_folder(folder: str) -> str:
+    """Makes a folder beside one that is to be, which must not have anything yet."""
+    if os.path.exists(folder) and (not os.path.isdir(folder) or os.listdir(folder)):
+        raise Refused(f"{folder} is there already, and is not written over")
+    whole = os.path.abspath(folder)
+    try:
+        return tempfile.mkdtemp(prefix=f".{os.path.basename(whole)}.", dir=os.path.dirname(whole))
+    except OSError as fault:
+        raise Refused(f"cannot write beside {folder}: {fault.strerror}") from None
+
+
+def write_folder(folder: str, files: Dict[str, bytes]) -> None:
+    for name, text in files.items():
+        with open(os.path.join(folder, name), "wb") as file:
+            file.write(text)
+
+
+def validate(program: List[str], folder: str, has: Dict[str, bytes]) -> None:
+    """Has the program read what was written, as a desk would."""
+    path = {name: os.path.join(folder, name) for name in has}
+    start = ["--start", path[START]] if START in has else []
+    barred = ["--barred", path[BARRED]] if BARRED in has else []
+    status, _ = output([*program, "run", path[INSTANCE], os.devnull, *start, *barred])
+    if status != 0:
+        raise Silent(status or MACHINE)
+
+
+def say_what(tables: Tables, instance: Instance, has: Dict[str, bytes], folder: str) -> None:
+    """Says what was imported, and how a day begins with it."""
+    lectures = sum(course.lectures for course in instance.courses.values())
+    parts = [
+        counted(len(instance.courses), "course") + f" with {counted(lectures, 'lecture')}",
+        counted(len(instance.teachers), "teacher"),
+        counted(len(instance.rooms), "room"),
+        f"{len(instance.curricula)} curricula",
+        f"{counted(instance.days, 'day')} of {counted(instance.periods, 'period')}",
+    ]
+    print(f"{folder}: {', '.join(parts)}")
+    for note in tables.faults.notes:
+        print(note)
+    if tables.start is not None:
+        print(f"placed at the start: {len(tables.start)} of {counted(lectures, 'lecture')}")
+    path = {name: shlex.quote(os.path.join(folder, name)) for name in has}
+    start = f" --start {path[START]}" if START in has else ""
+    barred = f" --barred {path[BARRED]}" if BARRED in has else ""
+    labels = f" --labels {shlex.quote(folder)}"
+    print(f"to open a day: office open DAY {path[INSTANCE]} PLANNERS{start}{barred}{labels}")
+
+
+def import_folder(source: str, folder: str, unproved: bool) -> int:
+    """Imports the tables of a folder into a new one."""
+    if not os.path.isdir(source):
+        raise Refused(f"there is no folder {source}")
+    tables = Tables(source)
+    instance = tables.read()
+    files = files_of(tables, instance)
+    program = program_words(unproved)
+    made = claim_folder(folder)
+    try:
+        write_folder(made, files)
+        validate(program, made, files)
+        os.chmod(made, 0o777 & ~current_mask())
+        os.rename(made, folder)
+    except BaseException:
+        shutil.rmtree(made, ignore_errors=True)
+        raise
+    say_what(tables, instance, files, folder)
+    return 0
+
+
+def current_mask() -> int:
+    mask = os.umask(0)
+    os.umask(mask)
+    return mask
