@@ -116,11 +116,11 @@ FAULTS = {
         "day,period,weekday,from,to\n0,1,Mon,,\nx,,,,\n1,1,Moon,8:15,9:45\n1,2,Mon,8:75,9:45\n"
         "1,3,Tue,9:45,8:15\n1,3,,,\n2,1,Mon,8:15,\n3,1,Wed,8:15,9:45\n3,2,Wed,9:30,11:00\n",
         [
-            "row 2: the day is not 1 to 2000: 0",
-            "row 3: the day is no whole number: x",
+            "row 2: day: 0 is not 1 to 2000",
+            "row 3: day: x is no whole number",
             "row 3: the period is empty",
             "row 4: the weekday is not Mon to Sun: Moon",
-            "row 5: the from is no time as 10:15: 8:75",
+            "row 5: from: 8:75 is no time as 10:15",
             "row 6: day 1 was Mon before, and is Tue here",
             "row 6: it ends at 8:15, and does not begin before that",
             "row 7: day 1, period 3 stands in row 6 already",
@@ -204,7 +204,7 @@ class OfADay(Folder):
     def test_bad_labels_are_refused(self):
         folder = self.labels(times="day,period,weekday\n0,1,Mon\n")
         found = self.office("open", self.path("day"), SMALL, "1", "--labels", folder)
-        fault = "times.csv row 2: the day is not 1 to 2000: 0"
+        fault = "times.csv row 2: day: 0 is not 1 to 2000"
         self.assertEqual(found, (1, "", f"office: the labels in {folder}: 1 fault\n  {fault}\n"))
         self.assertFalse(os.path.exists(self.path("day")))
         found = self.office("open", self.path("day"), SMALL, "1", "--labels", self.room)

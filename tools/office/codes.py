@@ -43,7 +43,8 @@ class Codes:
             row.fault(f"the code has a blank: {code}")
             return None
         if not code:
-            found = called(name, self.names) or called(name, self.earlier)
+            is_code = name in self.names or name in self.earlier
+            found = [name] if is_code else called(name, self.names) or called(name, self.earlier)
             if len(found) > 1:
                 row.fault(f"several are called {name}: {', '.join(found)}; the code is needed")
                 return None

@@ -4,13 +4,13 @@ from __future__ import annotations
 
 import os
 import shlex
-import shutil
-import tempfile
 from typing import Dict, List, Tuple
 
+from office.codes import NO_NAME
 from office.instance import Instance
 from office.label_files import LABELS_COLUMNS
 from office.labels import KINDS, PLAN
+from office.new_folder import new_folder, write_files
 from office.plan_tables import Tables
 from office.program import output, program_words
 from office.refused import MACHINE, Refused, Silent
@@ -23,17 +23,18 @@ INSTANCE, START, BARRED = "instance.ctt", "start.sol", "barred"
 
 def instance_text(instance: Instance) -> bytes:
     """An instance as the desk reads it."""
-    closed = [(course, *slot) for course, slots in instance.closed.items() for slot in sorted(slots)]
+    courses = instance.courses.values()
+    closed = [(one.name, *slot) for one in courses for slot in sorted(instance.closed[one.name])]
     lines: List[Tuple[object, ...]] = [
         ("Name:", instance.name),
-        ("Courses:", len(instance.courses)),
+        ("Courses:", len(courses)),
         ("Rooms:", len(instance.rooms)),
         ("Days:", instance.days),
         ("Periods_per_day:", instance.periods),
         ("Curricula:", len(instance.curricula)),
         ("Constraints:", len(closed)),
         ("COURSES:",),
-        *((c.name, c.teacher, c.lectures, c.minimum_days, c.students) for c in instance.courses.values()),
+        *((c.name, c.teacher, c.lectures, c.minimum_days, c.students) for c in courses),
         ("ROOMS:",),
         *instance.rooms.items(),
         ("CURRICULA:",),
@@ -52,13 +53,11 @@ def barred_text(instance: Instance) -> bytes:
 
 
 def label_rows(tables: Tables, instance: Instance) -> List[Tuple[str, str, str, str]]:
-    """What is called by more than its code, with the name of the whole."""
-    title = tables.labels.names.get((PLAN, instance.name))
-    rows = [(PLAN, instance.name, title.name if title else "", title.short if title else "")]
+    """All codes, with the names that they have."""
+    plan = tables.labels.names.get((PLAN, instance.name), NO_NAME)
+    rows = [(PLAN, instance.name, *plan)]
     for kind in KINDS:
-        for code, name in tables.codes[kind].names.items():
-            if name.name or name.short:
-                rows.append((kind, code, *name))
+        rows += [(kind, code, *name) for code, name in tables.codes[kind].names.items()]
     return rows
 
 
@@ -79,23 +78,6 @@ def files_of(tables: Tables, instance: Instance) -> Dict[str, bytes]:
         if text is not None:
             files[file] = text
     return files
-
-
-def claim_folder(folder: str) -> str:
-    """Makes a folder beside one that is to be, which must not have anything yet."""
-    if os.path.exists(folder) and (not os.path.isdir(folder) or os.listdir(folder)):
-        raise Refused(f"{folder} is there already, and is not written over")
-    whole = os.path.abspath(folder)
-    try:
-        return tempfile.mkdtemp(prefix=f".{os.path.basename(whole)}.", dir=os.path.dirname(whole))
-    except OSError as fault:
-        raise Refused(f"cannot write beside {folder}: {fault.strerror}") from None
-
-
-def write_folder(folder: str, files: Dict[str, bytes]) -> None:
-    for name, text in files.items():
-        with open(os.path.join(folder, name), "wb") as file:
-            file.write(text)
 
 
 def validate(program: List[str], folder: str, has: Dict[str, bytes]) -> None:
@@ -138,20 +120,8 @@ def import_folder(source: str, folder: str, unproved: bool) -> int:
     instance = tables.read()
     files = files_of(tables, instance)
     program = program_words(unproved)
-    made = claim_folder(folder)
-    try:
-        write_folder(made, files)
+    with new_folder(folder) as made:
+        write_files(made, files)
         validate(program, made, files)
-        os.chmod(made, 0o777 & ~current_mask())
-        os.rename(made, folder)
-    except BaseException:
-        shutil.rmtree(made, ignore_errors=True)
-        raise
     say_what(tables, instance, files, folder)
     return 0
-
-
-def current_mask() -> int:
-    mask = os.umask(0)
-    os.umask(mask)
-    return mask

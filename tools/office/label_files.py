@@ -105,7 +105,7 @@ def take_time(labels: Labels, row: Row, slot: Slot) -> None:
     begins, ends = read_minute(row.needed("from")), read_minute(row.needed("to"))
     for column, minute in (("from", begins), ("to", ends)):
         if row[column] and minute is None:
-            row.fault(f"the {column} is no time as 10:15: {row[column]}")
+            row.fault(f"{column}: {row[column]} is no time as 10:15")
     if begins is None or ends is None:
         return
     if begins >= ends:

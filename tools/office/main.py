@@ -46,6 +46,11 @@ def add_command(commands: Commands, name: str, told: str) -> argparse.ArgumentPa
     return made
 
 
+def add_at(command: argparse.ArgumentParser) -> None:
+    at = "as it was after this draft, 0 for the start; else the newest one"
+    command.add_argument("--at", metavar="NUMBER", type=draft_number, help=at)
+
+
 def add_open(commands: Commands) -> None:
     one = add_command(commands, "open", "open a day, and keep it until it is closed")
     instance = "the instance, if the day does not follow another one"
@@ -81,8 +86,20 @@ def add_others(commands: Commands) -> None:
     only = "only those that changed this course"
     one.add_argument("course", metavar="COURSE", nargs="?", help=only)
     one = add_command(commands, "show", "print the timetable of a day, open or closed")
-    at = "as it was after this draft, 0 for the start; else the newest one"
-    one.add_argument("--at", metavar="NUMBER", type=draft_number, help=at)
+    add_at(one)
+
+
+def add_tables(commands: Commands) -> None:
+    told = "make an instance, a start and labels of the tables of an office"
+    one = commands.add_parser(
+        "import", help=told, description=told[0].upper() + told[1:] + ".", allow_abbrev=False
+    )
+    one.add_argument("folder", metavar="FOLDER", help="the tables: courses.csv, rooms.csv ..")
+    into = {"dest": "into", "required": True}
+    one.add_argument("-o", "--output", metavar="DIR", help="the folder that is made", **into)
+    one = add_command(commands, "export", "write the tables of a day, with its timetable")
+    one.add_argument("-o", "--output", metavar="FOLDER", help="the folder that is made", **into)
+    add_at(one)
 
 
 def parser() -> argparse.ArgumentParser:
@@ -99,6 +116,7 @@ def parser() -> argparse.ArgumentParser:
     commands = top.add_subparsers(dest="command", metavar="COMMAND", required=True)
     add_open(commands)
     add_others(commands)
+    add_tables(commands)
     return top
 
 
@@ -129,8 +147,12 @@ def open_by(words: argparse.Namespace, top: argparse.ArgumentParser) -> int:
 
 def do(words: argparse.Namespace, top: argparse.ArgumentParser) -> int:
     """Does a command. Each takes in what it needs alone."""
-    if words.unproved and words.command != "open":
-        top.error("--unproved is for open alone: a day remembers its program")
+    if words.unproved and words.command not in ("open", "import"):
+        top.error("--unproved is for open and import alone: a day remembers its program")
+    if words.command == "import":
+        from office.importing import import_folder
+
+        return import_folder(words.folder, words.into, words.unproved)
     day = Day(words.day)
     if words.command == "open":
         return open_by(words, top)
@@ -146,6 +168,10 @@ def do(words: argparse.Namespace, top: argparse.ArgumentParser) -> int:
         from office.closing import close_day
 
         return close_day(day, words.wait)
+    if words.command == "export":
+        from office.exporting import export_day
+
+        return export_day(day, words.at, words.into)
     if words.command == "show":
         from office.show import print_show
 

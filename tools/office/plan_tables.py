@@ -137,7 +137,7 @@ class Tables:
     def coded(self, kind: str, file: str) -> List[Tuple[Row, str]]:
         """The rows of a table, each with the code of what it is about."""
         codes, rows, found = self.codes[kind], self.rows(file) or [], []
-        codes.is_read = file not in self.faults.found
+        codes.is_read = bool(rows) or file not in self.faults.found
         codes.written.update(row["code"] for row in rows)
         for row in rows:
             if not row["code"] and not row["name"]:
@@ -173,6 +173,7 @@ class Tables:
                 students or 0,
             )
             self.closed[code] = set()
+        self.codes["teacher"].is_read = self.codes["course"].is_read
 
     def take_rooms(self) -> None:
         for row, code in self.once("room", "rooms.csv"):

@@ -76,9 +76,9 @@ class Row:
         if not text:
             return None
         if not (text.isascii() and text.isdigit()):
-            self.fault(f"the {column} is no whole number: {text}")
+            self.fault(f"{column}: {text} is no whole number")
         elif not least <= int(text) <= most:
-            self.fault(f"the {column} is not {least} to {most}: {text}")
+            self.fault(f"{column}: {text} is not {least} to {most}")
         else:
             return int(text)
         return None
@@ -175,7 +175,7 @@ def read_table(
     for number, cells in enumerate(rows[1:], 2):
         if len(cells) > len(heads) and any(cells[len(heads) :]):
             faults.add(file, number, "more cells than headings")
-        elif any(cells):
+        if any(cells):
             cells += [""] * (len(heads) - len(cells))
             by_name = {one.name: "" for one in columns}
             by_name.update({name: cells[place] for name, place in places.items()})
