@@ -130,7 +130,7 @@ _office() {
             continue
         elif [[ -n $option ]]; then
             option=
-        elif [[ $word == --* ]]; then
+        elif [[ $word == --* || $word == -o ]]; then
             given+="$word "
             [[ $word =~ ^--(help|plain|unproved)$ ]] || option=$word
         elif [[ -z $command ]]; then
@@ -147,6 +147,8 @@ _office() {
     sit) options='--name --plain' ;;
     close) options='--wait' ;;
     show) options='--at' ;;
+    import) options='--output' ;;
+    export) options='--at --output' ;;
     esac
     if [[ -z $option && $typed == -* ]]; then
         for option in $options --help; do
@@ -156,12 +158,12 @@ _office() {
     fi
     case $command:${option:-$place} in
     *:--after) _office_days "$typed" ;;
-    *:--labels) _office_folders "$typed" ;;
+    *:--labels | *:--output | *:-o | import:0) _office_folders "$typed" ;;
     *:--start) _timedesk_files "$typed" .sol ;;
     *:--instance | open:1) _timedesk_files "$typed" .ctt ;;
     *:--barred) _timedesk_files "$typed" '' ;;
     *:--*) ;;
-    :0) _timedesk_words "$typed" close log open show sit status ;;
+    :0) _timedesk_words "$typed" close export import log open show sit status ;;
     *:0) _office_days "$typed" ;;
     log:1) _timedesk_names "$typed" --course "$day/instance.ctt" ;;
     esac

@@ -127,7 +127,7 @@ offers '' timedesk week cut.ctt monday.sol --curriculum ''
 mkdir monday tuesday
 touch monday/day.json
 cp small.ctt monday/instance.ctt
-offers $'close\nlog\nopen\nshow\nsit\nstatus' office ''
+offers $'close\nexport\nimport\nlog\nopen\nshow\nsit\nstatus' office ''
 offers $'show\nsit\nstatus' ./office s
 offers $'open' office --unproved o
 offers $'--help\n--unproved' office -
@@ -140,6 +140,10 @@ offers $'small.ctt' office open wednesday --after monday --instance s
 offers $'monday\nmonday.sol' office open wednesday small.ctt 2 --start m
 offers $'--after\n--barred\n--help\n--instance\n--labels\n--planners\n--start' office open wednesday -
 offers $'monday' office open wednesday small.ctt 2 --labels m
+offers $'monday' office import m
+offers $'new' office import monday -o n
+offers $'new' office export monday --output n
+offers $'--help\n--output' office import monday --
 offers $'--help\n--name' office sit monday 0 --plain -
 offers $'--help\n--wait' office close monday --
 
@@ -159,7 +163,7 @@ office=$here/office
 commands=$("$office" --help | sed -n 's/^    \([a-z][a-z]*\)  .*/\1/p')
 offers "$commands" office ''
 for command in $commands; do
-    options=$("$office" "$command" --help | sed -n '/^option/,$s/^  \(-h, \)\?\(--[a-z]*\).*/\2/p')
+    options=$("$office" "$command" --help | sed -n '/^option/,$s/^  \(-[a-z][ A-Z]*, \)\?\(--[a-z]*\).*/\2/p')
     offers "$options" office "$command" monday --
 done
 

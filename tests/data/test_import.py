@@ -145,13 +145,12 @@ class Codes(Tables):
         self.imported()
         # the labels of an import go back into the tables: codes stay, whatever else is new
         shutil.copy(self.path("plan/labels.csv"), self.path("college/labels.csv"))
-        self.change("courses.csv", "Linear Algebra,", "Linear.Algebra,Ada Byron,1,1,3\nLinear Algebra,")
+        new = "Linear.Algebra,Ada Byron,1,1,3\nLinear Algebra,"
+        self.change("courses.csv", "Linear Algebra,", new)
         self.imported(to="next")
         courses = list(read_instance(self.path("next/instance.ctt")).courses)
         self.assertEqual(courses[:2], ["Linear.Algebra", "Linear-Algebra"])
-        self.change("courses.csv", "Linear.Algebra,", "Linear-Algebra!,")
-        self.change("courses.csv", "Linear-Algebra!,", "Linear  algebra,")
-        self.change("courses.csv", "Linear  algebra,", "Linear Algebra !,")
+        self.change("courses.csv", "Linear.Algebra,", "Linear Algebra !,")
         self.imported(to="last")
         courses = list(read_instance(self.path("last/instance.ctt")).courses)
         self.assertEqual(courses[:2], ["Linear-Algebra-2", "Linear-Algebra"])

@@ -1,5 +1,5 @@
-"""`office import`: an instance, its side files and labels, of the tables of an office. What is wrong
-in them is said at once, and then nothing is written."""
+"""`office import`: an instance, its side files and labels, of the tables of an office. What is
+wrong in them is said at once, and then nothing is written."""
 from __future__ import annotations
 
 import os
