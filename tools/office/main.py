@@ -4,9 +4,11 @@ from __future__ import annotations
 import argparse
 import os
 import sys
-from typing import Any, Optional
+from typing import Optional
 
+from office.arguments import Commands, add_at, add_command, planner
 from office.folder import Day
+from office.past import add_past
 from office.refused import MACHINE, Refused
 
 EXAMPLES = """a day, and the next one:
@@ -19,36 +21,6 @@ EXAMPLES = """a day, and the next one:
 A day is a folder, with all that belongs to it. Close it also after a crash:
 what was committed is on the disk. `office COMMAND --help` explains a command,
 and docs/OFFICE.md has a whole day."""
-
-
-def planner(text: str) -> int:
-    if not (text.isascii() and text.isdigit() and int(text) < 64):
-        raise argparse.ArgumentTypeError("a planner is a number, 0 to 63")
-    return int(text)
-
-
-def draft_number(text: str) -> int:
-    if not (text.isascii() and text.isdigit()):
-        raise argparse.ArgumentTypeError("a draft is a number, from 1; 0 is the start")
-    return int(text)
-
-
-Commands = Any
-
-
-def add_command(commands: Commands, name: str, told: str) -> argparse.ArgumentParser:
-    """Adds a command about a day."""
-    told_whole = told[0].upper() + told[1:] + "."
-    made: argparse.ArgumentParser = commands.add_parser(
-        name, help=told, description=told_whole, allow_abbrev=False
-    )
-    made.add_argument("day", metavar="DAY", help="the folder of the day")
-    return made
-
-
-def add_at(command: argparse.ArgumentParser) -> None:
-    at = "as it was after this draft, 0 for the start; else the newest one"
-    command.add_argument("--at", metavar="NUMBER", type=draft_number, help=at)
 
 
 def add_open(commands: Commands) -> None:
@@ -81,12 +53,6 @@ def add_others(commands: Commands) -> None:
     one = add_command(commands, "close", close)
     wait = "how long those who sit have for it; 60 by default"
     one.add_argument("--wait", metavar="SECONDS", type=float, default=60.0, help=wait)
-    log = "print the accepted drafts with planners, times and edits"
-    one = add_command(commands, "log", log)
-    only = "only those that changed this course"
-    one.add_argument("course", metavar="COURSE", nargs="?", help=only)
-    one = add_command(commands, "show", "print the timetable of a day, open or closed")
-    add_at(one)
 
 
 def add_tables(commands: Commands) -> None:
@@ -116,6 +82,7 @@ def parser() -> argparse.ArgumentParser:
     commands = top.add_subparsers(dest="command", metavar="COMMAND", required=True)
     add_open(commands)
     add_others(commands)
+    add_past(commands)
     add_tables(commands)
     return top
 
@@ -172,13 +139,8 @@ def do(words: argparse.Namespace, top: argparse.ArgumentParser) -> int:
         from office.exporting import export_day
 
         return export_day(day, words.at, words.into)
-    if words.command == "show":
-        from office.show import print_show
-
-        return print_show(day, words.at)
-    from office.history import print_log
-
-    return print_log(day, words.course)
+    done: int = words.do(words)
+    return done
 
 
 def main(typed: Optional[list[str]] = None) -> int:
