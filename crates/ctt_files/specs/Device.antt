@@ -10,6 +10,14 @@ inner_of device = device.inner
 abbrev pub is_marked : {T : Type 0} → Device T → Bool
 is_marked device = device.failed
 
--- how many reads were tried; saturates at 2 ^ 64 - 1
+-- how many reads were tried
 abbrev pub pulls_of : {T : Type 0} → Device T → ℕ
-pulls_of device = device.pulls
+pulls_of device = device.pulls.number
+
+-- how many reads were tried after one had failed
+abbrev pub retries_of : {T : Type 0} → Device T → ℕ
+retries_of device = device.retries.number
+
+-- how many writes have taken bytes since the last flush that succeeded
+abbrev pub unflushed_of : {T : Type 0} → Device T → ℕ
+unflushed_of device = device.unflushed.number

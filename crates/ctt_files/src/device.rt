@@ -1,5 +1,6 @@
 //! Readers and writers of the system.
 
+use crate::count::Count;
 use crate::sink::Sink;
 use crate::source::{Failed, Source};
 use std::io::{Read, Write};
@@ -9,23 +10,29 @@ use std::io::{Read, Write};
 pub struct Device<T> {
     inner: T,
     failed: bool,
-    pulls: u64,
+    pulls: Count,
+    retries: Count,
+    unflushed: Count,
 }
 
 impl<T> Device<T> {
     ghost use Rattle.std.specs.Prelude.{◌≡◌, false, true};
-    ghost use Rattle.ctt_files.specs.Device.{inner_of, is_marked, pulls_of};
+    ghost use Rattle.ctt_files.specs.Device.{inner_of, is_marked, pulls_of, retries_of, unflushed_of};
 
-    /// Wraps a reader or writer, unmarked and with no reads counted.
+    /// Wraps a reader or writer, unmarked and with nothing counted.
     pub fn new(inner: T) -> Self
         ensures inner { inner_of result ≡ inner }
         ensures unmarked { is_marked result ≡ false }
         ensures unread { pulls_of result ≡ 0 }
+        ensures unretried { retries_of result ≡ 0 }
+        ensures flushed { unflushed_of result ≡ 0 }
     {
         Device {
             inner,
             failed: false,
-            pulls: 0,
+            pulls: Count::new(),
+            retries: Count::new(),
+            unflushed: Count::new(),
         }
     }
 
@@ -41,22 +48,29 @@ impl<T> Device<T> {
         ensures inner { inner_of self.new ≡ inner_of self.old }
         ensures marked { is_marked self.new ≡ true }
         ensures unread { pulls_of self.new ≡ pulls_of self.old }
+        ensures unretried { retries_of self.new ≡ retries_of self.old }
+        ensures unflushed { unflushed_of self.new ≡ unflushed_of self.old }
     {
         self.failed = true;
     }
 }
 
 impl<T: Read> Source for Device<T> {
-    ghost use Rattle.ctt_files.specs.Device.{inner_of, is_marked, pulls_of};
+    ghost use Rattle.ctt_files.specs.Device.{inner_of, is_marked, pulls_of, retries_of};
 
     ghost has_failed = { is_marked };
 
     ghost pulls = { pulls_of };
 
+    ghost retries = { retries_of };
+
     ghost left = { λ device. T.remaining (inner_of device) };
 
     fn pull(&mut self, buffer: &mut [u8]) -> Result<usize, Failed> {
-        self.pulls = self.pulls.saturating_add(1);
+        self.pulls = self.pulls.next();
+        if self.failed {
+            self.retries = self.retries.next();
+        }
         match self.inner.read(buffer) {
             Ok(n) => Ok(n),
             Err(_) => {
@@ -68,16 +82,20 @@ impl<T: Read> Source for Device<T> {
 }
 
 impl<T: Write> Sink for Device<T> {
-    ghost use Rattle.ctt_files.specs.Device.{inner_of, is_marked};
+    ghost use Rattle.ctt_files.specs.Device.{inner_of, is_marked, unflushed_of};
 
     ghost has_failed = { is_marked };
 
     ghost taken = { λ device. T.contents (inner_of device) };
 
+    ghost unflushed = { unflushed_of };
+
     fn put(&mut self, bytes: &[u8]) -> Result<usize, Failed> {
         match self.inner.write(bytes) {
             Ok(n) => {
-                if n == 0 && !bytes.is_empty() {
+                if n > 0 {
+                    self.unflushed = self.unflushed.next();
+                } else if !bytes.is_empty() {
                     self.failed = true;
                 }
                 Ok(n)
@@ -91,7 +109,10 @@ impl<T: Write> Sink for Device<T> {
 
     fn flush(&mut self) -> Result<(), Failed> {
         match self.inner.flush() {
-            Ok(()) => Ok(()),
+            Ok(()) => {
+                self.unflushed = Count::new();
+                Ok(())
+            }
             Err(_) => {
                 self.failed = true;
                 Err(Failed)

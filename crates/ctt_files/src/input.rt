@@ -61,6 +61,7 @@ pub fn read_all<R: Source>(
     ensures no_memory { result ≡ Err InputFault.NoMemory →
         IfSome (R.left reader.old) (λ bytes. 0 < length bytes) }
 
+    ensures once { R.retries reader.new ≡ R.retries reader.old }
     ensures few { R.pulls reader.new ≤ R.pulls reader.old + limit + 1 }
     ensures fewer { IfSome (R.left reader.old) (λ old. IfSome (R.left reader.new) (λ new.
         R.pulls reader.new + length new ≤ R.pulls reader.old + length old + 1)) }

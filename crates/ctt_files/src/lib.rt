@@ -1,6 +1,7 @@
 //! Readers and writers with a failure mark, files by name, and the program's faults and outcomes.
 #![tactic(auto)]
 
+mod count;
 mod device;
 mod fault;
 mod files;
@@ -12,6 +13,7 @@ mod sink;
 mod source;
 mod texts;
 
+pub use count::Count;
 pub use device::Device;
 pub use fault::{Fault, NO_MEMORY};
 pub use files::{FileInput, Files, SystemFiles, read_file, read_files};

@@ -79,11 +79,14 @@ pub fn deliver<F: Files, W: Sink, V: Sink>(
     ensures outcome { IfOk result (λ outcome. outcome ≡ printed.outcome) }
     ensures prints { OnOk result
         (Appends (W.taken out.old) (W.taken out.new) printed.text.items) }
+    ensures flushed { OnOk result (W.unflushed out.new ≡ 0) }
     ensures unmarked { OnOk result (W.has_failed out.new ≡ W.has_failed out.old) }
     ensures stores { OnOk result
         (StoresFile printed.store (F.held files.old) (F.held files.new)) }
     ensures says { OnOk result ((V.has_failed err.new ≡ true)
         ⊎ Appends (V.taken err.old) (V.taken err.new) (string_bytes printed.aside)) }
+    ensures said { OnOk result ((V.has_failed err.new ≡ true)
+        ⊎ (V.unflushed err.new ≡ 0) ⊎ (err.new ≡ err.old)) }
     ensures quiet { OnOk result ((string_bytes printed.aside ≢ []) ⊎ (err.new ≡ err.old)) }
 
     ensures fault { IfErr result (λ fault. fault ≡ CannotWrite) }

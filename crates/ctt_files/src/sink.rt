@@ -1,6 +1,6 @@
 //! A writer, and functions that write whole texts to it.
 
-ghost use Rattle.std.specs.Prelude.{◌≡◌, ◌<◌, ◌≤◌, [], true, length, take, IfOk, OnOk, OnErr, string_bytes};
+ghost use Rattle.std.specs.Prelude.{◌≡◌, ◌+◌, ◌<◌, ◌≤◌, [], true, length, take, IfOk, OnOk, OnErr, string_bytes};
 ghost use Rattle.std.specs.Io.KnownBytes.{Appends, Keeps};
 ghost use Rattle.ctt_files.specs.Output.{AppendsFront, AppendsPart, WritesOut};
 
@@ -17,6 +17,9 @@ pub trait Sink {
     /// All bytes that were taken, if they are known.
     ghost taken: { Self → Option (List ℕ) };
 
+    /// How many writes have taken bytes since the last flush that succeeded.
+    ghost unflushed: { Self → ℕ };
+
     /// Takes a prefix of `bytes`, and returns its length.
     ///
     /// Fails with `Failed` if the write fails, and then has taken nothing.
@@ -30,7 +33,11 @@ pub trait Sink {
         ensures idle { IfOk result (λ n.
             n ≡ 0 → 0 < length bytes.now → has_failed self.new ≡ true) }
         ensures unmarked { IfOk result (λ n. 0 < n → has_failed self.new ≡ has_failed self.old) }
-        ensures empty { OnOk result (bytes.now ≡ [] → has_failed self.new ≡ has_failed self.old) };
+        ensures empty { OnOk result (bytes.now ≡ [] → has_failed self.new ≡ has_failed self.old) }
+
+        ensures waits { IfOk result (λ n. 0 < n → unflushed self.new ≡ unflushed self.old + 1) }
+        ensures idles { IfOk result (λ n. n ≡ 0 → unflushed self.new ≡ unflushed self.old) }
+        ensures fails { OnErr result (unflushed self.new ≡ unflushed self.old) };
 
     /// Flushes the bytes that were taken.
     ///
@@ -38,7 +45,10 @@ pub trait Sink {
     fn flush(&mut self) -> Result<(), Failed>
         ensures kept { Keeps (taken self.old) (taken self.new) }
         ensures marked { OnErr result (has_failed self.new ≡ true) }
-        ensures unmarked { OnOk result (has_failed self.new ≡ has_failed self.old) };
+        ensures unmarked { OnOk result (has_failed self.new ≡ has_failed self.old) }
+
+        ensures flushed { OnOk result (unflushed self.new ≡ 0) }
+        ensures still { OnErr result (unflushed self.new ≡ unflushed self.old) };
 }
 
 /// Writes all of `bytes`, with as many writes as needed.
@@ -71,6 +81,7 @@ pub fn put_whole<W: Sink>(writer: &mut W, bytes: &[u8]) -> Result<(), Failed>
     ensures all { OnOk result (Appends (W.taken writer.old) (W.taken writer.new) bytes.now) }
     ensures front { OnErr result
         (AppendsFront (W.taken writer.old) (W.taken writer.new) bytes.now) }
+    ensures flushed { OnOk result (W.unflushed writer.new ≡ 0) }
 
     ensures marked { OnErr result (W.has_failed writer.new ≡ true) }
     ensures unmarked { OnOk result (W.has_failed writer.new ≡ W.has_failed writer.old) }

@@ -1,6 +1,6 @@
 //! A reader with a failure mark.
 
-ghost use Rattle.std.specs.Prelude.{◌≡◌, ◌+◌, ◌-◌, ◌^◌, ◌<◌, ◌≤◌, min, true, length, take, IfOk, OnOk, OnErr};
+ghost use Rattle.std.specs.Prelude.{◌≡◌, ◌+◌, ◌<◌, ◌≤◌, false, true, length, take, IfOk, OnOk, OnErr};
 ghost use Rattle.std.specs.Io.KnownBytes.{Consumes, Keeps, IsAtEnd};
 
 use thiserror::Error;
@@ -17,8 +17,11 @@ pub trait Source {
     /// Whether a read has failed.
     ghost has_failed: { Self → Bool };
 
-    /// How many reads were tried. The count saturates at 2 ^ 64 - 1.
+    /// How many reads were tried.
     ghost pulls: { Self → ℕ };
+
+    /// How many reads were tried after one had failed.
+    ghost retries: { Self → ℕ };
 
     /// The bytes that are still to be read, if they are known.
     ghost left: { Self → Option (List ℕ) };
@@ -38,5 +41,7 @@ pub trait Source {
         ensures marked { OnErr result (has_failed self.new ≡ true) }
         ensures unmarked { OnOk result (has_failed self.new ≡ has_failed self.old) }
 
-        ensures counted { pulls self.new ≡ min (pulls self.old + 1) (2 ^ 64 - 1) };
+        ensures counted { pulls self.new ≡ pulls self.old + 1 }
+        ensures first { has_failed self.old ≡ false → retries self.new ≡ retries self.old }
+        ensures again { has_failed self.old ≡ true → retries self.new ≡ retries self.old + 1 };
 }

@@ -2,7 +2,7 @@
 
 ghost use Rattle.std.specs.Prelude.{◌≡◌, None, false};
 
-use ctt_files::{Failed, Sink};
+use ctt_files::{Count, Failed, Sink};
 use std::alloc::Global;
 
 /// How many bytes a writer takes at most.
@@ -15,6 +15,7 @@ pub(crate) struct Buffer {
     /// How many more bytes it takes.
     left: usize,
     failed: bool,
+    unflushed: Count,
 }
 
 impl Buffer {
@@ -25,6 +26,7 @@ impl Buffer {
             text,
             left: CAPACITY,
             failed: false,
+            unflushed: Count::new(),
         })
     }
 
@@ -48,6 +50,8 @@ impl Sink for Buffer {
 
     ghost taken = { λ _. None };
 
+    ghost unflushed = { λ buffer. buffer.unflushed.number };
+
     fn put(&mut self, bytes: &[u8]) -> Result<usize, Failed> {
         let count = bytes.len().min(self.left);
         if count == 0 && !bytes.is_empty() {
@@ -59,10 +63,14 @@ impl Sink for Buffer {
             return Err(Failed);
         }
         self.left -= count;
+        if count > 0 {
+            self.unflushed = self.unflushed.next();
+        }
         Ok(count)
     }
 
     fn flush(&mut self) -> Result<(), Failed> {
+        self.unflushed = Count::new();
         Ok(())
     }
 }

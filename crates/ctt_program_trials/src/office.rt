@@ -50,6 +50,8 @@ impl Sink for NoMinutes {
 
     ghost taken = { λ _. None };
 
+    ghost unflushed = { λ _. 0 };
+
     fn put(&mut self, _bytes: &[u8]) -> Result<usize, Failed> {
         self.failed = true;
         Err(Failed)

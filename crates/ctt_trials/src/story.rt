@@ -5,7 +5,7 @@ ghost use Rattle.ctt_script.specs.Entries.{AnswerFits, RowFits};
 
 use ctt_core::{Answer, JournalEntry};
 use ctt_edits::{EditFault, Lectures, Reply, Row};
-use ctt_files::{Failed, Sink, put_all};
+use ctt_files::{Count, Failed, Sink, put_all};
 use ctt_rules::Cost;
 use ctt_script::{write_answer, write_entry};
 use ctt_text::{Instance, NoMemory, Placed};
@@ -30,6 +30,7 @@ pub(crate) struct Story {
     /// How many more bytes it takes, as a writer.
     pub(crate) room: usize,
     failed: bool,
+    unflushed: Count,
 }
 
 /// Returns whether the number of a row is one of the instance.
@@ -77,6 +78,7 @@ impl Story {
             is_deaf: false,
             room: usize::MAX,
             failed: false,
+            unflushed: Count::new(),
         })
     }
 
@@ -289,6 +291,8 @@ impl Sink for Story {
 
     ghost taken = { λ story. None };
 
+    ghost unflushed = { λ story. story.unflushed.number };
+
     fn put(&mut self, bytes: &[u8]) -> Result<usize, Failed> {
         let taken = bytes.len().min(self.room);
         if taken == 0 && !bytes.is_empty() {
@@ -300,6 +304,9 @@ impl Sink for Story {
         self.bytes(&bytes[..taken]);
         self.failed = failed;
         self.room = room;
+        if taken > 0 {
+            self.unflushed = self.unflushed.next();
+        }
         Ok(taken)
     }
 
@@ -308,6 +315,7 @@ impl Sink for Story {
             self.failed = true;
             return Err(Failed);
         }
+        self.unflushed = Count::new();
         Ok(())
     }
 }

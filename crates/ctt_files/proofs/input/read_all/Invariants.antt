@@ -7,6 +7,7 @@ invariant-loop-n g l = record {
   short : length l.bytes.items ≤ l.limit;
   room : 0 < length l.buffer;
   unmarked : g.R.Source.has_failed l.reader ≡ false;
+  once : g.R.Source.retries l.reader ≡ g.R.Source.retries l.fn.reader;
   few : g.R.Source.pulls l.reader ≤ g.R.Source.pulls l.fn.reader + length l.bytes.items;
   given : Consumes (g.R.Source.left l.fn.reader) (g.R.Source.left l.reader) l.bytes.items;
 }

@@ -8,4 +8,4 @@ pub returns-in-Ok-clause-told : goal.returns-in-Ok-clause-told
 returns-in-Ok-clause-told g c = subst (λ status. (1 ≤ status) × (status ≤ 3)) (sym c.status.ensures) (status_between c.args.fault.now)
 
 pub returns-in-Err-clause-said : goal.returns-in-Err-clause-said
-returns-in-Err-clause-said g c = says_fault _ _ _ NoMemory _ _ c.as_bytes-in-Err.result.now (inr refl) (search rules) c.complain-in-Err.ensures
+returns-in-Err-clause-said g c = says_fault _ _ _ NoMemory _ _ c.as_bytes-in-Err.result.now (inr refl) (search rules) c.complain-in-Err.ensures.said
