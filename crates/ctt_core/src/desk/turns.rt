@@ -127,7 +127,8 @@ impl<'i, S: Sheet<'i>> Desk<'i, S> {
         }
     }
 
-    /// Settles a draft that is not stale, and appends it to the journal.
+    /// Settles a draft that is not stale, and appends it to the journal. Only the room of its entry
+    /// may be refused, before anything has changed.
     fn accept(&mut self, planner: PlannerNo) -> Answer
         requires planner { planner < length self.old.drafts }
         requires fresh { IsFresh self.old (draft_at self.old.drafts planner) }
@@ -141,9 +142,7 @@ impl<'i, S: Sheet<'i>> Desk<'i, S> {
         }
         let work = self.drafts[place].take().unwrap().draft.finish();
         work.settle(&mut self.sheet);
-        let mut list = work.asked;
-        list.shrink_to_fit();
-        let asked = AskedCalls::new(list);
+        let asked = AskedCalls::new(work.asked);
         self.journal.push(JournalEntry { planner, asked }).unwrap();
         Answer::Committed(self.journal.len() as u64)
     }
