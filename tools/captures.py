@@ -29,6 +29,7 @@ def without_times(text):
     text = re.sub(r"\d\d\d\d-\d\d-\d\d \d\d:\d\d:\d\d", "2026-11-30 10:15:00", text)
     text = re.sub(r"\d\d\d\d-\d\d-\d\d \d\d:\d\d", "2026-11-30 08:00", text)
     text = re.sub(r"\d\d:\d\d:\d\d", "10:15:00", text)
+    text = re.sub(r"(draft \d+, \w+), \d\d:\d\d:", r"\1, 10:15:", text)
     return re.sub(r"(anna|ben)( +)\d\d:\d\d ", r"\g<1>\g<2>08:05 ", text)
 
 
@@ -74,7 +75,7 @@ class Play:
         anna, ben = self.sit("0", "anna"), self.sit("1", "ben")
         anna.wait("no draft open")
         anna.press(*TO_LECTURE)
-        self.take("week", anna, "day 4, period 1: room r01")
+        self.take("week", anna, "day 5, period 2: room r01")
         anna.press("Enter", "b")
         self.take("picked up", anna, "> -257 r04")
         anna.press("Enter", "v", *"q022", "Enter", "Enter", "b", "Enter")

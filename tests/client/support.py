@@ -39,6 +39,14 @@ def wait_until(fact, seconds=PATIENCE):
     return fact()
 
 
+def said(told):
+    """A notice, or the last one of a planner, in the words of the screen."""
+    from office.keys import KeyNames
+    from office.wording import Wording
+
+    return Wording(KeyNames()).notice(getattr(told, "notice", told))
+
+
 def is_alive(number):
     """Whether a process goes on; one that has ended and was not waited for does not."""
     try:

@@ -5,7 +5,7 @@ import subprocess
 import sys
 import threading
 
-from support import COMP07, COMP07_SOL, HERE, PROGRAM, SMALL, SMALL_SOL, OfficeTest
+from support import COMP07, COMP07_SOL, HERE, PROGRAM, SMALL, SMALL_SOL, OfficeTest, said
 
 sys.path.append(os.path.join(HERE, "tests"))
 from drawn import draw_instance, draw_solution  # noqa: E402
@@ -13,7 +13,7 @@ from rules import Instance as Plain  # noqa: E402
 
 from office.board import Board  # noqa: E402
 from office.edits import is_edit, read_prices  # noqa: E402
-from office.grid import View  # noqa: E402
+from office.week import View  # noqa: E402
 from office.instance import read_instance, read_solution  # noqa: E402
 from office.minutes import read_minutes  # noqa: E402
 from office.text import cut, fit, shown, width, wrap  # noqa: E402
@@ -101,7 +101,7 @@ class Drawn(OfficeTest):
             else:
                 board.press(draw.choice(KEYS))
             self.check_rows(board, draw)
-            self.assertEqual(board.planning.alarm, "")
+            self.assertEqual(said(board.planning.alarm), "")
         # no look of the screen is a call
         calls = [call for entry in read_minutes(self.path("day/minutes")) for call in entry.calls]
         self.assertEqual([call for call, _ in calls if not is_edit(call)], [])
@@ -150,7 +150,7 @@ class Beside(OfficeTest):
                 board.tick()
                 board.press(draw.choice(KEYS))
                 board.rows(24, 80)
-                self.assertEqual(board.planning.alarm, "")
+                self.assertEqual(said(board.planning.alarm), "")
         finally:
             self.is_over = True
             for other in others:
@@ -229,7 +229,7 @@ class Shown(OfficeTest):
             for key in [":", *line, "enter"]:
                 board.press(key)
             self.assertIn(f"{line}: {answer}", text_of(board))
-            self.assertEqual(board.planning.alarm, "")
+            self.assertEqual(said(board.planning.alarm), "")
         for key in [":", *"leave", "enter"]:
             board.press(key)
         self.assertTrue(board.is_done)

@@ -5,7 +5,7 @@ import subprocess
 import sys
 import time
 
-from support import COMP07, COMP07_SOL, FAKE, OFFICE, SMALL, SMALL_SOL, OfficeTest, wait_until
+from support import COMP07, COMP07_SOL, FAKE, OFFICE, SMALL, SMALL_SOL, OfficeTest, said, wait_until
 
 import office.seat
 from office.board import Board
@@ -14,6 +14,7 @@ from office.seat import NoAnswer
 from office.seatlog import read_past
 
 EDIT = "drop geo 1 2"
+TOLD = "geo: taken out of day 2, period 3"
 # a desk that says nothing, or something else than costs, at its seats
 MUTE = """#!/bin/sh
 [ "$1" = desk ] || exec {program} "$@"
@@ -98,7 +99,7 @@ class Faults(OfficeTest):
         board.desk_ended("The desk does not answer")
         # it was accepted, as the minutes say
         self.assertIn("Your accepted drafts are on the disk: 1.", self.text(board))
-        self.assertNotIn(EDIT, self.text(board))
+        self.assertNotIn(TOLD, self.text(board))
 
     def test_minutes_are_late(self):
         """The desk shows an accepted draft a moment before it is in the minutes: that is no answer
@@ -122,7 +123,7 @@ class Faults(OfficeTest):
         board.press("r")
         text = self.text(board)
         self.assertIn("0 of 2 edits made again, none committed yet.", text)
-        self.assertEqual((anna.alarm, anna.edits()), ("", []))
+        self.assertEqual((said(anna.alarm), anna.edits()), ("", []))
         self.assertTrue(anna.known.base.same_as(anna.known.newest))
 
     def dies(self, fault):
@@ -145,7 +146,7 @@ class Faults(OfficeTest):
     def test_dies_before_it_writes(self):
         shown, status, offered = self.dies("dies before")
         self.assertIn("Your accepted drafts are on the disk: none.", shown)
-        self.assertIn(EDIT, shown)
+        self.assertIn(TOLD, shown)
         self.assertRegex(status, r"0 +nobody +1 edit, not accepted +\d\d:\d\d:\d\d +0\n")
         self.assertEqual(offered, [EDIT])
 

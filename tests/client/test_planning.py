@@ -2,16 +2,18 @@
 import os
 import signal
 
-from support import COMP07, COMP07_SOL, SMALL, SMALL_SOL, OfficeTest, wait_until
+from support import COMP07, COMP07_SOL, SMALL, SMALL_SOL, OfficeTest, said, wait_until
 
 from office.board import Board
 from office.carry import MOVE, PLACE, SWAP, Carry
 from office.earlier import Earlier
-from office.grid import View, cells_of
+from office.week import View, cells_of
 from office.seat import DeskEnded
 from office.timetable import Lecture
 
 BEST = "move c0109 4 1 r04 4 3"
+# as it is said where the old room is not known
+TOLD = "c0109: day 5, period 2 -> day 5, period 4, r04"
 
 
 class Planners(OfficeTest):
@@ -43,22 +45,22 @@ class Planners(OfficeTest):
         self.look_around(anna)
         self.assertTrue(ben.edit("swap c0110 4 2 c0014 4 2"))
         ben.commit()
-        self.assertIn("Committed as draft 1", ben.notice)
+        self.assertIn("Committed as draft 1", said(ben))
         self.assertTrue(anna.tick())
         self.look_around(anna)
         anna.commit()
-        self.assertIn("Committed as draft 2", anna.notice)
+        self.assertIn("Committed as draft 2", said(anna))
         with open(self.path("day/minutes")) as file:
             minutes = file.read()
         self.assertEqual(
             minutes, f"entry 1 1\nswap c0110 4 2 c0014 4 2\ndone\nentry 0 1\n{BEST}\ndone\n"
         )
-        self.assertEqual((anna.alarm, ben.alarm), ("", ""))
+        self.assertEqual((said(anna.alarm), said(ben.alarm)), ("", ""))
 
     def test_stale_and_redo(self):
         anna, ben = self.two()
         for edit in (BEST, "reroom c0049 r04 0 0", "drop c0001 1 2"):
-            self.assertTrue(anna.edit(edit), anna.notice)
+            self.assertTrue(anna.edit(edit), said(anna))
         ben.edit("move c0109 4 1 r09 4 2")
         ben.commit()
         anna.tick()
@@ -67,13 +69,13 @@ class Planners(OfficeTest):
         board.press("c")
         text = "\n".join(row[0][0] for row in board.rows(24, 80))
         self.assertIn("Your draft is stale: nothing is lost", text)
-        self.assertIn("draft 1, planner 1 (ben), ", text)
-        self.assertIn("  move c0109 4 1 r09 4 2", text)
+        self.assertIn("draft 1, ben, ", text)
+        self.assertIn("  c0109: day 5, period 2, r01 -> day 5, period 3, r09", text)
         self.assertEqual(anna.seat.story.ended, [BEST, "reroom c0049 r04 0 0", "drop c0001 1 2"])
         board.press("r")
         text = "\n".join(row[0][0] for row in board.rows(24, 80))
         self.assertIn("2 of 3 edits made again, none committed yet.", text)
-        self.assertIn(f"1. {BEST}: no lecture of c0109 stands there any more", text)
+        self.assertIn(f"1. {TOLD}: no lecture of c0109 stands", text)
         self.assertEqual(len(anna.minutes.entries), 1)
         self.assertEqual(anna.edits(), ["reroom c0049 r04 0 0", "drop c0001 1 2"])
         # what was refused stays to be seen, also after one goes away
@@ -82,12 +84,12 @@ class Planners(OfficeTest):
         board = Board(anna)
         board.press("e")
         text = "\n".join(row[0][0] for row in board.rows(24, 80))
-        self.assertIn("2. drop c0001 1 2", text)
-        self.assertIn(f"1. {BEST}: no lecture of c0109 stands there any more", text)
+        self.assertIn("2. c0001: taken out of day 2, period 3, r14", text)
+        self.assertIn(f"1. {TOLD}: no lecture of c0109 stands", text)
         board.press("escape")
         board.press("c")
-        self.assertIn("Committed as draft 2: 2 edits", anna.notice)
-        self.assertEqual(anna.alarm, "")
+        self.assertIn("Committed as draft 2: 2 edits", said(anna))
+        self.assertEqual(said(anna.alarm), "")
 
     def test_stale_edits_are_not_left_behind(self):
         """Who goes on after a stale draft is asked first what becomes of its edits."""
@@ -97,11 +99,11 @@ class Planners(OfficeTest):
         ben.commit()
         anna.commit()
         self.assertFalse(anna.edit("drop c0001 1 2"))
-        self.assertIn("r makes them again, a gives them up", anna.notice)
+        self.assertIn("r makes them again, a gives them up", said(anna))
         anna.seat.go()
         anna = self.planning("day", 0, "anna")
         self.assertEqual(anna.ended(), [BEST])
-        self.assertEqual(anna.redo()[0].split(":")[0], f"1. {BEST}")
+        self.assertEqual(said(anna.redo()[0]).rsplit(":", 1)[0], f"1. {TOLD}")
         anna.abandon()
         self.assertTrue(anna.edit("move c0109 3 2 r04 4 3"))
         ben.edit("drop c0109 3 2")
@@ -112,7 +114,7 @@ class Planners(OfficeTest):
             board.press(key)
         self.assertEqual(anna.ended(), [])
         self.assertTrue(anna.edit("drop c0001 1 2"))
-        self.assertEqual(anna.alarm, "")
+        self.assertEqual(said(anna.alarm), "")
 
     def test_undo(self):
         anna, _ = self.two()
@@ -124,10 +126,10 @@ class Planners(OfficeTest):
         self.assertEqual((anna.missing(), anna.edits()), ({}, [BEST]))
         anna.undo()
         anna.undo()
-        self.assertEqual(anna.notice, "No edit is left to undo.")
+        self.assertEqual(said(anna), "No edit is left to undo.")
         self.assertEqual(sum(anna.costs().values()), total)
         anna.commit()
-        self.assertIn("no edits", anna.notice)
+        self.assertIn("no edits", said(anna))
         anna.abandon()
         self.assertFalse(anna.is_open)
 
@@ -148,14 +150,14 @@ class Planners(OfficeTest):
         ben.edit("drop c0001 1 2")
         ben.commit()
         anna.commit()
-        self.assertIn("Stale", anna.notice)
+        self.assertIn("Stale", said(anna))
         # the desk counts all that was accepted, also what was taken back
-        self.assertEqual([line.split(".")[0] for line in anna.redo()], ["2"])
+        self.assertEqual([said(line).split(".")[0] for line in anna.redo()], ["2"])
         self.assertEqual(anna.edits(), [BEST])
         anna.undo()
         anna.undo()
-        self.assertEqual((anna.notice, anna.edits()), ("No edit is left to undo.", []))
-        self.assertEqual((anna.alarm, ben.alarm), ("", ""))
+        self.assertEqual((said(anna), anna.edits()), ("No edit is left to undo.", []))
+        self.assertEqual((said(anna.alarm), said(ben.alarm)), ("", ""))
 
     def test_goes_away_and_comes_back(self):
         anna, ben = self.two()
@@ -167,31 +169,31 @@ class Planners(OfficeTest):
         ben.edit("swap c0110 4 2 c0014 4 2")
         ben.commit()
         anna = self.planning("day", 0, "anna")
-        self.assertEqual(anna.notice, "Your draft is as you left it: 1 edit.")
+        self.assertEqual(said(anna), "Your draft is as you left it: 1 edit.")
         self.assertEqual((anna.edits(), anna.base_total, anna.behind()), ([BEST], total, 1))
         cells = cells_of(anna, View("course", "c0109"))
         self.assertTrue(cells[4, 1].is_mine and cells[4, 3].is_mine and not cells[4, 3].is_others)
         self.assertTrue(cells_of(anna, View("course", "c0014"))[4, 2].is_others)
         anna.commit()
-        self.assertIn("Committed as draft 2", anna.notice)
+        self.assertIn("Committed as draft 2", said(anna))
 
     def test_offers(self):
         anna, _ = self.two()
         lecture = Lecture("c0109", "r01", 4, 1)
         carry = Carry(anna, MOVE, "c0109", lecture)
-        self.assertEqual(carry.best(), (4, 3))
-        self.assertEqual(carry.told((4, 3)), "-257 in r04 (1 of 3; Tab for the next)")
-        self.assertEqual(carry.told((0, 0)), "cannot stand there: c0109 is unavailable then")
+        self.assertEqual(carry.best()[0], (4, 3))
+        self.assertEqual(said(carry.told((4, 3))), "-257 in r04 (1 of 3; Tab for the next)")
+        self.assertEqual(said(carry.told((0, 0))), "cannot stand there: c0109 is unavailable then")
         self.assertEqual(
-            carry.told((3, 0)), "cannot stand there: its teacher t067 teaches c0120 then"
+            said(carry.told((3, 0))), "cannot stand there: its teacher t067 teaches c0120 then"
         )
         carry.begin_at((4, 1))
         self.assertTrue(carry.is_in_place((4, 1)))
         swap = Carry(anna, SWAP, "c0109", lecture)
-        self.assertEqual(swap.told((4, 1)).split(" (")[0], "-258 with c0113")
+        self.assertEqual(said(swap.told((4, 1))).split(" (")[0], "-258 with c0113")
         anna.edit("drop c0109 4 1")
         place = Carry(anna, PLACE, "c0109", None)
-        self.assertEqual(place.best(), (4, 3))
+        self.assertEqual(place.best()[0], (4, 3))
         self.assertEqual(len(anna.minutes.entries), 0)
 
     def test_others_at_the_same_seat(self):
@@ -203,12 +205,12 @@ class Planners(OfficeTest):
             lines.write("drop c0109 4 3\n")
         self.assertTrue(wait_until(lambda: anna.seat.read(1) == "done"))
         anna.edit("reroom c0049 r04 0 0")
-        self.assertEqual(anna.alarm, "")
+        self.assertEqual(said(anna.alarm), "")
         anna._cache.clear()
         self.assertEqual(
             [one.slot for one in anna.lectures("course c0109")], [(0, 3), (1, 4), (2, 4), (3, 2)]
         )
-        self.assertIn("everything was read anew", anna.alarm)
+        self.assertIn("everything was read anew", said(anna.alarm))
         self.assertIsNone(anna.known.present().room_at("c0109", (4, 3)))
 
     def test_desk_is_killed(self):
@@ -224,7 +226,7 @@ class Planners(OfficeTest):
         board.desk_ended("The desk has ended")
         text = "\n".join(row[0][0] for row in board.rows(24, 80))
         self.assertIn("Your accepted drafts are on the disk: none.", text)
-        self.assertIn(BEST, text)
+        self.assertIn(TOLD, text)
         anna.seat.go()
         ben.seat.go()
         self.office_process.wait(20)
@@ -253,9 +255,9 @@ class Planners(OfficeTest):
                 board.rows(24, 80)
         self.assertEqual(anna.missing(), {})
         board.press("m")
-        self.assertEqual(anna.notice, "No lecture is missing.")
+        self.assertEqual(said(anna), "No lecture is missing.")
         board.press("c")
-        self.assertIn("Committed as draft 1: 5 edits", anna.notice)
+        self.assertIn("Committed as draft 1: 5 edits", said(anna))
         self.assertEqual(self.listed("day").count("\n"), 5)
 
     def test_changed_by_others(self):
@@ -265,12 +267,12 @@ class Planners(OfficeTest):
         board = Board(anna)
         board.show_view(View("course", "top"))
         board.press("enter")
-        self.assertIsNotNone(board.carry)
+        self.assertIsNotNone(board.work.carry)
         ben.edit("drop top 0 2")
         ben.commit()
         board.tick()
-        self.assertIsNone(board.carry)
-        self.assertIn("Somebody has changed top", anna.notice)
+        self.assertIsNone(board.work.carry)
+        self.assertIn("Somebody has changed top", said(anna))
         self.assertEqual(anna.missing(), {"top": 1})
         # the same, if a key comes before the news
         board.show_view(View("course", "geo"))
@@ -279,5 +281,5 @@ class Planners(OfficeTest):
         ben.commit()
         anna.read_minutes()
         board.press("enter")
-        self.assertEqual((board.carry, anna.is_open), (None, False))
-        self.assertIn("Somebody has changed geo", anna.notice)
+        self.assertEqual((board.work.carry, anna.is_open), (None, False))
+        self.assertIn("Somebody has changed geo", said(anna))

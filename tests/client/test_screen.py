@@ -12,7 +12,10 @@ from terminal import Terminals, has_tmux
 from test_day import LIMITED
 
 BEST = "move c0109 4 1 r04 4 3"
-# from the first week to the lecture of c0109 on day 4, period 1, picked up
+# the same in words, and where the old room is not known
+SAID = "c0109: day 5, period 2, r01 -> day 5, period 4, r04"
+TOLD = "c0109: day 5, period 2 -> day 5, period 4, r04"
+# from the first week to the lecture of c0109 on day 5, period 2, picked up
 TO_BEST = ["v", *"c0109", "Enter", "Right", "Right", "Right", "Right", "Up", "Up", "Enter"]
 
 
@@ -38,10 +41,10 @@ class Screens(OfficeTest):
         costs = "cost 8847: capacity 8030, days 0, compactness 708, stability 109; missing 0"
         self.sees(anna, "seat 0 anna: no draft open", costs)
         anna.press(*TO_BEST)
-        cheapest = "Cheapest: -257 in r04, day 4, period 3: b goes there."
+        cheapest = "Cheapest: -257 in r04, day 5, period 4: b goes there."
         self.sees(anna, "c0109 is picked up", cheapest, "clash c0120", "closed")
         anna.press("b", "Enter")
-        self.sees(anna, f"Done: {BEST}.", "draft open: 1 edit, saves 257, 0 accepted since", "*r04")
+        self.sees(anna, f"Done: {SAID}.", "draft open: 1 edit, saves 257, 0 accepted since", "*r04")
         ben.press("v", *"c0014", "Enter", "s")
         self.sees(ben, "c0014 is picked up to swap")
         ben.press("b", "Enter", "c")
@@ -67,9 +70,9 @@ class Screens(OfficeTest):
         anna.press("x")
         self.sees(anna, "missing 1", "draft open: 2 edits")
         anna.press("u")
-        self.sees(anna, "missing 0", "draft open: 1 edit,", "Taken back, by place c0109 r04 4 3.")
+        self.sees(anna, "missing 0", "draft open: 1 edit,", "Taken back: c0109: taken out of day 5, period 4, r04.")
         anna.press("e")
-        self.sees(anna, "The edits of your draft: 1", f"1. {BEST}")
+        self.sees(anna, "The edits of your draft: 1", f"1. {SAID}")
         anna.press("q")
 
     def test_stale_and_redo(self):
@@ -86,15 +89,15 @@ class Screens(OfficeTest):
         self.sees(
             anna,
             "Your draft is stale: nothing is lost",
-            "draft 1, planner 1 (ben), ",
-            "  move c0109 4 1 r09 4 2",
-            f"  {BEST}",
+            "draft 1, ben, ",
+            "  c0109: day 5, period 2, r01 -> day 5, period 3, r09",
+            f"  {TOLD}",
         )
         anna.press("r")
         self.sees(
             anna,
             "1 of 2 edits made again, none committed yet.",
-            f"1. {BEST}: no lecture of c0109 stands there any more",
+            f"1. {TOLD}: no lecture of c0109 stands",
         )
         self.assertEqual(self.sit("day", 1, "show course c0049\n")[0].count("r04"), 0)
         anna.press("q", "c")
@@ -137,7 +140,7 @@ class Screens(OfficeTest):
             anna,
             "The desk has ended",
             "Your accepted drafts are on the disk: 1.",
-            "  drop c0109 4 3",
+            "  c0109: taken out of day 5, period 4",
             "offered again",
         )
         anna.press("c", "q")
@@ -147,7 +150,7 @@ class Screens(OfficeTest):
         self.assertEqual(self.office("close", self.path("day"))[0], 0)
         self.open("next", "--after", self.path("day"))
         anna = self.sit_down("next", 0)
-        self.sees(anna, "1 edit of day not accepted: make them again?", "drop c0109 4 3")
+        self.sees(anna, "1 edit of day not accepted: make them again?", "c0109: taken out of day 5, period 4")
         anna.press("y")
         self.sees(
             anna, "1 of 1 edits made again, none committed yet.", "draft open: 1 edit", "missing 1"
@@ -156,7 +159,7 @@ class Screens(OfficeTest):
     def test_sizes(self):
         self.open("day", COMP07, "1", "--start", COMP07_SOL)
         anna = self.sit_down("day", 0)
-        self.sees(anna, "day 4")
+        self.sees(anna, "day 5")
         for columns, lines in ((200, 60), (80, 24), (50, 12), (20, 5), (132, 40), (80, 24)):
             anna.resize(columns, lines)
             anna.press("Down")
@@ -177,7 +180,7 @@ class Screens(OfficeTest):
         self.sees(anna, "seat 0 アンナ")
         for _ in range(4):
             anna.press("m", "Enter", "b", "Enter")
-            self.sees(anna, "Done: place")
+            self.sees(anna, "placed on")
         anna.press("v", "一", "Enter")
         self.sees(anna, "week of curriculum 一年", "数学の時間 ")
         rows = [row for row in anna.text().split("\n") if row.endswith("|")]

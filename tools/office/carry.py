@@ -4,9 +4,9 @@ from __future__ import annotations
 from typing import Dict, List, NamedTuple, Optional, Tuple
 
 from office.edits import read_prices
+from office.notice import NOTHING, Notice, say
 from office.planning import Planning
 from office.reasons import move_reason, short_reason, swap_reason
-from office.text import signed
 from office.timetable import Lecture, Slot
 from office.words import words_of
 
@@ -73,20 +73,35 @@ class Carry:
     def at(self, slot: Slot) -> List[Offer]:
         """What is offered at a slot, cheapest first. What the one answer had no place for is asked
         alone."""
-        if slot not in self.offers and not self.is_whole and self.kind != SWAP:
-            self._ask_slot(slot)
+        if (
+            slot not in self.offers
+            and not self.is_whole
+            and (slot != self.slot or self.kind == SWAP)
+        ):
+            self.offers[slot] = self._ask_swaps(slot) if self.kind == SWAP else self._ask(slot)
         return self.offers.get(slot, [])
 
-    def _ask_slot(self, slot: Slot) -> None:
+    def _ask(self, slot: Slot) -> List[Offer]:
+        """The rooms of a slot by price."""
         end = f"* {slot[0]} {slot[1]}"
         if self.lecture is None:
             pattern = f"place {self.course} {end}"
-        elif slot != self.slot:
-            pattern = f"move {self.course} {self.lecture.day} {self.lecture.period} {end}"
         else:
-            return
+            pattern = f"move {self.course} {self.lecture.day} {self.lecture.period} {end}"
         answer = self.planning.look(f"cheapest {MOST} {pattern}")
-        self.offers[slot] = [offer_of(price, edit)[1] for price, edit in read_prices(answer) or []]
+        return [offer_of(price, edit)[1] for price, edit in read_prices(answer) or []]
+
+    def _ask_swaps(self, slot: Slot) -> List[Offer]:
+        """The lectures of a slot to change places with, by price: those that may be, one by one."""
+        assert self.lecture is not None
+        timetable, found = self.planning.known.present(), []
+        for other in timetable.of_slot(slot):
+            place = f"{self.course} {self.lecture.day} {self.lecture.period}"
+            edit = f"swap {place} {other.course} {slot[0]} {slot[1]}"
+            if timetable.fault(edit) is None:
+                kind, *price = words_of(self.planning.look(f"price {edit}"))
+                found += [Offer(int(price[0]), edit, other.course)] if kind == "price" else []
+        return sorted(found, key=lambda offer: offer.price)
 
     def chosen(self, slot: Slot) -> Optional[Offer]:
         """The offer that the key for rooms has come to."""
@@ -100,34 +115,45 @@ class Carry:
             rooms = [offer.about for offer in self.offers.get(slot, [])]
             self.choice = rooms.index(self.lecture.room) if self.lecture.room in rooms else 0
 
-    def best(self) -> Optional[Slot]:
-        """The slot with the cheapest offer; of several the first one."""
-        elsewhere = {
-            slot: offers for slot, offers in self.offers.items() if offers and slot != self.slot
-        }
-        found = elsewhere or {slot: offers for slot, offers in self.offers.items() if offers}
-        return min(sorted(found), key=lambda slot: found[slot][0].price) if found else None
+    def best(self) -> Optional[Tuple[Slot, Offer]]:
+        """The cheapest of all that is offered, in its own slot, too; of several the first one. To
+        leave everything as it is is no offer."""
+        found = [
+            (offers[0].price, slot, offers[0])
+            for slot in sorted(self.offers)
+            for offers in [[one for one in self.offers[slot] if not self.is_idle(slot, one)]]
+            if offers
+        ]
+        if not found:
+            return None
+        _, slot, offer = min(found, key=lambda one: one[0])
+        return slot, offer
+
+    def is_idle(self, slot: Slot, offer: Optional[Offer]) -> bool:
+        """Whether an offer leaves everything as it is."""
+        return bool(
+            self.kind == MOVE
+            and self.lecture
+            and offer
+            and slot == self.slot
+            and offer.about == self.lecture.room
+        )
 
     def is_in_place(self, slot: Slot) -> bool:
         """Whether the chosen offer leaves everything as it is."""
-        offer = self.chosen(slot)
-        return bool(
-            self.lecture and offer and slot == self.slot and offer.about == self.lecture.room
-        )
+        return self.is_idle(slot, self.chosen(slot))
 
-    def price_text(self, slot: Slot) -> str:
-        """The cell's line for a slot: the price and the room or partner, or why it cannot be."""
-        if slot in self.offers and self.offers[slot]:
-            offer = self.offers[slot][0]
-            return f"{signed(offer.price)} {offer.about}"
-        if not self.is_whole:
-            return "?"
+    def choose(self, slot: Slot, offer: Offer) -> None:
+        self.choice = self.at(slot).index(offer)
+
+    def short_reason(self, slot: Slot) -> Notice:
+        """Why nothing is offered at a slot, in two words."""
         if self.kind == SWAP:
-            return "no swap"
+            return say("cell no swap")
         timetable = self.planning.known.present()
         return short_reason(timetable, self.course, self.slot, slot)
 
-    def reason(self, slot: Slot) -> str:
+    def reason(self, slot: Slot) -> Notice:
         """Why nothing is offered at a slot."""
         timetable = self.planning.known.present()
         if self.kind == SWAP:
@@ -135,20 +161,31 @@ class Carry:
             found = swap_reason(timetable, self.course, self.slot, slot)
         else:
             found = move_reason(timetable, self.course, self.slot, slot)
-        return found or f"dearer than the {MOST} cheapest"
+        return found or say("dearer", count=MOST)
 
-    def told(self, slot: Slot) -> str:
-        """What the cursor's slot offers, in words."""
-        offers = self.at(slot)
-        offer = self.chosen(slot)
+    def told(self, slot: Slot) -> Notice:
+        """What the chosen offer of a slot is, or why there is none."""
+        offers, offer = self.at(slot), self.chosen(slot)
         if offer is None:
-            return f"cannot stand there: {self.reason(slot)}"
-        what = {MOVE: "in", PLACE: "in", SWAP: "with"}[self.kind]
-        more = (
-            f" ({self.choice % len(offers) + 1} of {len(offers)}; Tab for the next)"
-            if len(offers) > 1
-            else ""
-        )
+            return say("no offer", reason=self.reason(slot))
+        more = NOTHING
+        if len(offers) > 1:
+            more = say("offer of several", number=self.choice % len(offers) + 1, of=len(offers))
         if self.is_in_place(slot):
-            return f"stays where it is{more}"
-        return f"{signed(offer.price)} {what} {offer.about}{more}"
+            return say("offer stays", more=more)
+        return self.offer_told(offer, more)
+
+    def offer_told(self, offer: Offer, more: Notice = NOTHING) -> Notice:
+        if self.kind == SWAP:
+            return say("offer with", price=offer.price, other=offer.about, more=more)
+        return say("offer in", price=offer.price, room=offer.about, more=more)
+
+    def best_told(self) -> Notice:
+        """The cheapest of all that is offered."""
+        best = self.best()
+        if best is None:
+            return say("nowhere else")
+        slot, offer = best
+        if self.kind == SWAP:
+            return say("cheapest with", price=offer.price, other=offer.about, slot=slot)
+        return say("cheapest in", price=offer.price, room=offer.about, slot=slot)

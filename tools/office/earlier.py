@@ -5,10 +5,10 @@ from typing import List, Optional, Tuple
 
 from office.folder import Day
 from office.minutes import read_minutes
+from office.notice import Notice
 from office.planning import Planning
 from office.refused import Refused
 from office.seatlog import read_past
-from office.text import counted
 
 
 def unfinished_before(day: Day, planner: int) -> Tuple[str, List[str]]:
@@ -45,13 +45,10 @@ class Earlier:
         if not seat.offer:
             self.name, self.edits = unfinished_before(seat.day, seat.planner)
 
-    def title(self) -> str:
-        return f"{counted(len(self.edits), 'edit')} of {self.name} not accepted: make them again?"
-
     def decline(self) -> None:
         self.planning.seat.log.noted("offer declined")
 
-    def take_up(self) -> List[str]:
+    def take_up(self) -> List[Notice]:
         """Makes them again in a draft, and answers those that were refused, with the reason."""
         refused = self.planning.make_again(self.edits)
         self.planning.seat.log.noted("offer taken")

@@ -5,11 +5,15 @@ from typing import List, Optional
 
 from office.carry import SWAP, Carry
 from office.costs import COSTS, read_costs
-from office.grid import Row, View
+from office.grid import Row
+from office.keys import FREE, key_of, row_of
 from office.planning import Planning
 from office.text import counted, cut, fit, shown
 from office.text import width as columns
 from office.timetable import Lecture, Slot
+from office.week import Cell, courses_of_view
+from office.wording import Wording
+from office.work import Work
 
 
 def draft_text(planning: Planning) -> str:
@@ -31,81 +35,88 @@ def cost_text(planning: Planning) -> str:
     return f"cost {sum(costs.values())}: {parts}; missing {sum(missing.values())}"
 
 
-def missing_text(planning: Planning, view: View) -> str:
-    """How many lectures are missing in a week."""
-    instance = planning.instance
-    courses = {
-        "curriculum": instance.curricula.get(view.name, []),
-        "teacher": instance.teachers.get(view.name, []),
-        "course": [view.name],
-    }.get(view.kind, [])
-    missing = planning.missing()
-    count = sum(missing.get(course, 0) for course in courses)
-    return f": {counted(count, 'lecture')} missing" if count else ""
+class Header:
+    """What stands around the grid of a planner's work."""
 
+    def __init__(self, work: Work, wording: Wording, width: int) -> None:
+        self.work, self.wording, self.width = work, wording, width
+        self.planning = work.planning
 
-def head_rows(planning: Planning, carry: Optional[Carry], view: View, width: int) -> List[Row]:
-    seat = planning.seat
-    who = f" seat {seat.planner} {shown(seat.name)}: {draft_text(planning)}"
-    title = f" week of {shown(view.title())}{missing_text(planning, view)}"
-    if carry is not None:
-        what = "picked up to swap" if carry.kind == SWAP else "picked up"
-        title = f" {shown(carry.course)} is {what};{title}"
-    last: Row = [(fit(title, width), "title")]
-    if planning.is_open and planning.foretold:
-        told = f"stale by now: {shown(planning.foretold)} has changed; c says who "
-        told = cut(told, width)
-        last = [(fit(title, width - columns(told)), "title"), (told, "bad")]
-    return [[(fit(who, width), "head")], [(fit(f" {cost_text(planning)}", width), "head")], last]
+    def missing_text(self) -> str:
+        """How many lectures are missing in the week."""
+        missing = self.planning.missing()
+        courses = courses_of_view(self.planning.instance, self.work.view)
+        count = sum(missing.get(course, 0) for course in courses)
+        return f": {counted(count, 'lecture')} missing" if count else ""
 
+    def head_rows(self) -> List[Row]:
+        planning, work, width = self.planning, self.work, self.width
+        seat = planning.seat
+        who = f" seat {seat.planner} {shown(seat.name)}: {draft_text(planning)}"
+        title = f" week of {self.wording.view(*work.view)}{self.missing_text()}"
+        if work.carry is not None:
+            what = "picked up to swap" if work.carry.kind == SWAP else "picked up"
+            title = f" {self.wording.course(work.carry.course)} is {what};{title}"
+        last: Row = [(fit(title, width), "title")]
+        if planning.is_open and planning.foretold:
+            row = self.wording.row(planning.foretold)
+            told = cut(f"stale by now: {row} has changed; {key_of('commit')} says who ", width)
+            last = [(fit(title, width - columns(told)), "title"), (told, "bad")]
+        cost = fit(f" {cost_text(planning)}", width)
+        return [[(fit(who, width), "head")], [(cost, "head")], last]
 
-def course_text(planning: Planning, name: str) -> str:
-    """A course in words: who needs it, and how far it is placed."""
-    course = planning.instance.courses[name]
-    lectures = planning.lectures(f"course {name}")
-    days = len({lecture.day for lecture in lectures})
-    return (
-        f"{name}: {counted(course.students, 'student')}, teacher {course.teacher}, "
-        f"{len(lectures)} of {course.lectures} placed, on {counted(days, 'day')} "
-        f"({course.minimum_days} wanted)"
-    )
+    def course_text(self, name: str) -> str:
+        """A course in words: who needs it, and how far it is placed."""
+        course = self.planning.instance.courses[name]
+        lectures = self.planning.lectures(f"course {name}")
+        days = len({lecture.day for lecture in lectures})
+        return (
+            f"{self.wording.course(name)}: {counted(course.students, 'student')}, "
+            f"teacher {self.wording.name('teacher', course.teacher)}, "
+            f"{len(lectures)} of {course.lectures} placed, on {counted(days, 'day')} "
+            f"({course.minimum_days} wanted)"
+        )
 
+    def points_text(self, name: str) -> str:
+        """What a course costs by itself, and which curricula have it."""
+        costs = read_costs(self.planning.look(f"coursecost {name}"))
+        told = ", ".join(f"{kind} {points}" for kind, points in costs.items() if points)
+        curricula = " ".join(
+            self.wording.short("curriculum", one)
+            for one in self.planning.instance.curricula_of[name]
+        )
+        told_curricula = f"curricula {curricula}" if curricula else "in no curriculum"
+        return f"costs {told or 'nothing'}; {told_curricula}"
 
-def points_text(planning: Planning, name: str) -> str:
-    """What a course costs by itself, and which curricula have it."""
-    costs = read_costs(planning.look(f"coursecost {name}"))
-    told = ", ".join(f"{kind} {points}" for kind, points in costs.items() if points)
-    curricula = " ".join(planning.instance.curricula_of[name])
-    told_curricula = f"curricula {curricula}" if curricula else "in no curriculum"
-    return f"costs {told or 'nothing'}; {told_curricula}"
+    def room_text(self, lecture: Lecture) -> str:
+        instance = self.planning.instance
+        seats = instance.rooms[lecture.room]
+        short = instance.courses[lecture.course].students - seats
+        lacking = f", {counted(short, 'student')} without one" if short > 0 else ""
+        return f"room {self.wording.room(lecture.room)}, {counted(seats, 'seat')}{lacking}"
 
+    def here_text(self, lecture: Lecture) -> str:
+        return (
+            f"here now: {self.wording.course(lecture.course)} in {self.wording.room(lecture.room)}"
+        )
 
-def room_text(planning: Planning, lecture: Lecture) -> str:
-    seats = planning.instance.rooms[lecture.room]
-    short = planning.instance.courses[lecture.course].students - seats
-    lacking = f", {counted(short, 'student')} without one" if short > 0 else ""
-    return f"room {lecture.room}, {counted(seats, 'seat')}{lacking}"
-
-
-def detail_rows(
-    planning: Planning,
-    view: View,
-    cursor: Slot,
-    lecture: Optional[Lecture],
-    carry: Optional[Carry],
-    width: int,
-) -> List[Row]:
-    """Three rows about the slot at the cursor."""
-    where = f"day {cursor[0]}, period {cursor[1]}"
-    if carry is not None:
-        here = f"here now: {lecture.course} in {lecture.room}" if lecture else ""
-        lines = [course_text(planning, carry.course), f"{where}: {carry.told(cursor)}", here]
-    elif lecture is not None:
-        lines = [course_text(planning, lecture.course), points_text(planning, lecture.course)]
-        lines.append(f"{where}: {room_text(planning, lecture)}")
-    else:
-        lines = [f"{where}: nothing of {view.title()}", "", ""]
-    return [[(fit(f" {shown(line)}", width), "detail")] for line in lines]
+    def detail_rows(self, cursor: Slot, cell: Cell) -> List[Row]:
+        """Three rows about the slot at the cursor."""
+        lecture = next(iter(cell.lectures), None)
+        carry, wording, where = self.work.carry, self.wording, self.wording.slot(cursor)
+        if carry is not None:
+            told = wording.notice(carry.told(cursor))
+            lines = [self.course_text(carry.course), f"{where}: {told}"]
+            lines.append(self.here_text(lecture) if lecture else "")
+        elif lecture is not None:
+            lines = [self.course_text(lecture.course), self.points_text(lecture.course)]
+            lines.append(f"{where}: {self.room_text(lecture)}")
+        else:
+            lines = [f"{where}: nothing of {wording.view(*self.work.view)}", "", ""]
+        changed = self.work.changed_here(cursor) if cell.is_others and not carry else None
+        if changed is not None:
+            lines[-1] += f"{'; ' if lines[-1] else ''}{wording.notice(changed)}"
+        return [[(fit(f" {shown(line)}", self.width), "detail")] for line in lines]
 
 
 def key_rows(carry: Optional[Carry], width: int) -> List[Row]:
@@ -113,6 +124,5 @@ def key_rows(carry: Optional[Carry], width: int) -> List[Row]:
         first = "arrows go  Enter puts it down  b cheapest  Tab next room  Escape leaves it"
         second = "s swap with another  v week of ..  w week of its course, teacher ..  ? help"
     else:
-        first = "Enter pick up  s swap  m missing  x take out  v week of ..  w its weeks"
-        second = "u undo  e edits  c commit  f refresh  r redo  a abandon  : line  ? help  q go"
+        first, second = map(row_of, FREE)
     return [[(fit(f" {line}", width), "head")] for line in (first, second)]

@@ -15,6 +15,8 @@ class Known:
 
     def __init__(self, instance: Instance, lectures: Iterable[Tuple[str, str, int, int]]) -> None:
         self.newest = Timetable(instance, lectures)
+        # the newest one when the planner sat down, or when his last draft ended
+        self.met = self.newest
         self.base: Optional[Timetable] = None
         self.draft: Optional[Timetable] = None
         # the edits that were made in the draft, and those of the last draft, if it ended stale
@@ -27,8 +29,16 @@ class Known:
         """The timetable that a planner works on."""
         return self.draft or self.newest
 
+    def seen(self) -> Timetable:
+        """The timetable beside which changes of others are new."""
+        return self.base or self.met
+
+    def meet(self) -> None:
+        """Nothing that others have changed is new from now on."""
+        self.met = self.newest.copy()
+
     def accept(self, edits: List[str]) -> bool:
-        """Takes up an accepted draft, and answers whether it fits what is known."""
+        """Takes up accepted edits, and answers whether they fit what is known."""
         return all(self.newest.try_edit(edit) for edit in edits)
 
     def hear(self, line: str, answer: str) -> bool:

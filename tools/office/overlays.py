@@ -2,10 +2,13 @@
 line to type."""
 from __future__ import annotations
 
-from typing import Callable, Generic, List, Optional, Sequence, Tuple, TypeVar
+from typing import Callable, Dict, Generic, List, Optional, Sequence, Tuple, TypeVar
 
 from office.grid import Row
+from office.keys import BY_NAME, key_of
+from office.notice import Question
 from office.text import fit, shown, wrap
+from office.wording import Wording
 
 Choice = TypeVar("Choice")
 
@@ -82,12 +85,12 @@ class Page(Overlay):
         self,
         title: str,
         lines: List[str],
-        answers: Optional[dict] = None,
+        answers: Optional[Dict[str, Callable[[], None]]] = None,
         last: str = "any key goes back",
     ) -> None:
         self.title, self.lines, self.last = title, lines, last
         # what a key does; a page without such keys goes by any key
-        self.answers: dict = answers or {}
+        self.answers = answers or {}
         self.at = 0
 
     def press(self, key: str) -> bool:
@@ -110,6 +113,27 @@ class Page(Overlay):
             rows[: height - 1]
             + [[("", "")]] * (height - len(rows) - 1)
             + [[(fit(f" {self.last}{more}", width), "head")]]
+        )
+
+
+class Asked(Page):
+    """A question of the model, with the keys of its answers."""
+
+    def __init__(
+        self,
+        question: Question,
+        wording: Wording,
+        ask: Callable[[Optional[Question]], None],
+    ) -> None:
+        keys = [f"{key_of(name)} {BY_NAME[name].short}" for name in question.answers]
+        super().__init__(
+            wording.notice(question.title),
+            wording.lines(question.lines),
+            {
+                BY_NAME[name].key: lambda answer=answer: ask(answer())  # type: ignore[misc]
+                for name, answer in question.answers.items()
+            },
+            ", ".join([*keys, "Escape goes back"]) if keys else "any key goes back",
         )
 
 

@@ -2,17 +2,20 @@
 from __future__ import annotations
 
 import time
-from typing import Dict, List, Optional
+from typing import Dict, List, Optional, Tuple
 
+from office.at import instance_of
 from office.costs import read_costs
 from office.edits import WANTS
-from office.history import commits_of, read_pasts
-from office.instance import read_instance, read_solution
+from office.instance import Instance, read_solution
 from office.known import Known
 from office.minutes import Entry, Minutes
-from office.seat import Seat, read_sitter
+from office.news import Accepted, News
+from office.notice import NOTHING, Notice, say
+from office.processes import now
+from office.seat import Seat
 from office.seatlog import read_past
-from office.text import counted
+from office.shifts import Shift, all_shifts, shifts_of
 from office.timetable import Lecture, Timetable, read_lectures
 from office.words import words_of
 
@@ -21,33 +24,37 @@ WAITS = (0.0, 0.05, 0.2, 0.5)
 # how many seconds an accepted draft may need to be in the minutes, and how many are on their way
 LATE = 1.0
 FEW = 8
-DIFFERS = "The desk answered otherwise than expected: everything was read anew."
 
 
 class Reading:
-    """What a planner knows. `notice` is what the last step has to say."""
+    """What a planner knows. `notice` is what the last step has to say. Several seats in one process
+    may share an instance."""
 
-    def __init__(self, seat: Seat) -> None:
+    def __init__(self, seat: Seat, instance: Optional[Instance] = None) -> None:
         self.seat = seat
-        day = seat.day
-        self.instance = read_instance(day.instance, day.barred if day.barred_words() else None)
+        self.instance = instance or instance_of(seat.day)
         self.known = Known(self.instance, self._start())
-        self.minutes = Minutes(day.minutes)
-        self.notice = ""
+        self.minutes = Minutes(seat.day.minutes)
+        self.news = News(seat.day)
+        self.notice: Notice = NOTHING
         # said beside the notice, where the desk has answered otherwise than expected
-        self.alarm = ""
+        self.alarm: Notice = NOTHING
         # answers to looks, until something changes
         self._cache: Dict[str, str] = {}
         # how many drafts were accepted before the draft was opened, and what the timetable cost
         # then
         self.opened_at = 0
         self.base_total: Optional[int] = None
+        self.base_costs: Dict[str, int] = {}
+        # how many were accepted when the planner sat down, or when his last draft ended
+        self.met_at = 0
+        self.has_begun = False
         # the row for which a commit was or, by the last status, would be told that the draft is
         # stale
         self.stale_row = ""
         self.foretold = ""
 
-    def _start(self) -> list:
+    def _start(self) -> List[Tuple[str, str, int, int]]:
         day = self.seat.day
         return read_solution(day.start) if "--start" in day.start_words() else []
 
@@ -59,6 +66,10 @@ class Reading:
         """The edits of the draft, without those that were taken back."""
         return [edit for edit, _ in self.known.standing]
 
+    def shifts(self) -> List[List[Shift]]:
+        """What each edit of the draft did."""
+        return all_shifts(self.edits(), self.known.base) if self.known.base else []
+
     def ended(self) -> List[str]:
         """The edits of the last draft, if it ended without being accepted and was not given up."""
         return self.seat.story.ended
@@ -66,6 +77,13 @@ class Reading:
     def behind(self) -> int:
         """How many drafts were accepted since the draft was opened."""
         return len(self.minutes.entries) - self.opened_at
+
+    def accepted_since(self) -> List[Accepted]:
+        """What others have had accepted since the draft was opened; without a draft, since the
+        planner sat down or his last draft ended."""
+        since = self.opened_at if self.is_open else self.met_at
+        mine = self.seat.planner
+        return [one for one in self.news.accepted[since:] if one.entry.planner != mine]
 
     def look(self, words: str) -> str:
         """What a look is told: of the draft if one is open, without becoming part of it; else of
@@ -91,11 +109,19 @@ class Reading:
         """Hears what was under way, and takes up a draft that is open."""
         self.seat.catch_up()
         answer = self.ask_again("status")
+        self.read_minutes()
         self.read_newest()
+        self.has_begun = True
+        self._meet()
         if answer.startswith("draft "):
             self._resume()
         else:
             self.known.ended = list(self.seat.story.ended_made)
+
+    def _meet(self) -> None:
+        """What others have done until now is not new any more."""
+        self.known.meet()
+        self.met_at = len(self.minutes.entries)
 
     def take_up_draft(self) -> None:
         """Takes up the open draft: its base is what the drafts before it have left, and on that
@@ -112,7 +138,7 @@ class Reading:
             if self._find_base(made, draft):
                 return
         known.draft = draft
-        self.alarm = DIFFERS
+        self.alarm = say("differs")
 
     def _find_base(self, made: List[str], draft: Timetable) -> bool:
         """Finds the base on which the edits lead to the draft. Drafts that were accepted just now
@@ -139,7 +165,7 @@ class Reading:
         """Takes up a draft that was left open."""
         self.take_up_draft()
         self.base_total = read_past(self.seat.day.log(self.seat.planner)).base
-        self.notice = f"Your draft is as you left it: {counted(len(self.edits()), 'edit')}."
+        self.notice = say("as you left it", count=len(self.edits()))
 
     def ask(self, line: str) -> str:
         """Sends a line and takes up its answer. If it is not as expected, everything is read
@@ -172,9 +198,12 @@ class Reading:
 
     def turn(self, line: str) -> str:
         """A line that changes something: what was told before does not hold any more."""
+        was_open = self.is_open
         answer = self.ask(line)
         self._cache.clear()
         self.read_minutes()
+        if was_open and not self.is_open:
+            self._meet()
         return answer
 
     def ask_again(self, line: str) -> str:
@@ -196,7 +225,7 @@ class Reading:
     def read_newest(self) -> None:
         """Reads the newest timetable, again if somebody is accepted meanwhile."""
         for _ in range(5):
-            self.minutes.read_on()
+            self.read_minutes()
             self.known.newest = self.read_all("show")
             if not self.minutes.has_grown():
                 return
@@ -204,7 +233,7 @@ class Reading:
     def read_anew(self) -> None:
         """Reads everything anew, as the desk has it, and says so."""
         self.read_again()
-        self.alarm = DIFFERS
+        self.alarm = say("differs")
 
     def read_again(self) -> None:
         self._cache.clear()
@@ -229,8 +258,8 @@ class Reading:
         entries = self.minutes.read_on()
         if entries:
             self._cache.clear()
-        if not all(self.known.accept(entry.edits()) for entry in entries):
-            self.read_newest()
+        if not all([self._accept(entry) for entry in entries]):
+            self.known.newest = self.read_all("show")
         return entries
 
     def has_entry(self, number: int) -> bool:
@@ -246,21 +275,16 @@ class Reading:
             self.opened_at = len(self.minutes.entries) - int(words[2])
             self.foretold = " ".join(words[4:])
 
-    def who_changed(self, row: str) -> List[str]:
-        """Who changed a row since the draft was opened, and how, in lines."""
-        told = commits_of(read_pasts(self.seat.day))
-        timetable = Timetable(self.instance, self._start())
-        lines = []
-        for entry in self.minutes.entries:
-            before = timetable.look(row)
-            for edit in entry.edits():
-                timetable.try_edit(edit)
-            if entry.number > self.opened_at and timetable.look(row) != before:
-                time, name = told.get(entry.number, ("", ""))
-                # of a seat whose log is closed to this planner who sits there now is known
-                name = name or read_sitter(self.seat.day, entry.planner)[0]
-                who = f"planner {entry.planner}{f' ({name})' if name else ''}"
-                when = f", {time[11:19]}" if time else ""
-                lines.append(f"draft {entry.number}, {who}{when}:")
-                lines += [f"  {edit}" for edit in entry.edits()]
-        return lines
+    def _accept(self, entry: Entry) -> bool:
+        """Takes up an accepted draft, and answers whether it fits what is known."""
+        shifts: List[List[Shift]] = []
+        fits = True
+        for edit in entry.edits():
+            shifts.append(shifts_of(edit, self.known.newest))
+            fits = self.known.accept([edit]) and fits
+        self.news.hear(entry, shifts, now() if self.has_begun else "")
+        return fits
+
+    def changes_of(self, row: str) -> List[Accepted]:
+        """The accepted drafts that changed a row since the draft was opened."""
+        return [one for one in self.news.accepted[self.opened_at :] if one.changes(row)]

@@ -5,7 +5,6 @@ import contextlib
 import curses
 import locale
 import os
-import select
 import signal
 import sys
 import time
@@ -134,7 +133,7 @@ class Screen:
         else:
             if not sys.stdin.isatty():
                 raise Gone
-            if not board.is_dead and select.select([seat.answers], [], [], 0)[0]:
+            if not board.is_dead and seat.has_more():
                 # nothing was asked: the desk has ended
                 seat.read(0)
             board.tick()

@@ -50,6 +50,14 @@ def user_name() -> str:
         return "somebody"
 
 
+def is_ready(end: int, sign: int, seconds: float) -> bool:
+    """Whether a pipe can be read or written within so many seconds. Unlike `select` it takes any
+    number of a descriptor, so that one process may sit at many seats."""
+    poll = select.poll()
+    poll.register(end, sign)
+    return bool(poll.poll(max(0.0, seconds) * 1000))
+
+
 class Seat:
     """A seat at which somebody sits."""
 
@@ -118,18 +126,22 @@ class Seat:
     def _write(self, rest: bytes) -> None:
         try:
             while rest:
-                if select.select([], [self._lines], [], PATIENCE)[1] == []:
+                if not is_ready(self._lines, select.POLLOUT, PATIENCE):
                     raise NoAnswer
                 with contextlib.suppress(BlockingIOError):
                     rest = rest[os.write(self._lines, rest) :]
         except BrokenPipeError:
             raise DeskEnded from None
 
+    def has_more(self) -> bool:
+        """Whether the desk has said something that was not read; its end counts, too."""
+        return is_ready(self.answers, select.POLLIN, 0)
+
     def read(self, seconds: float) -> Optional[str]:
         """The next line of the desk, as it came; None if none has come in so many seconds."""
         until = time.monotonic() + seconds
         while b"\n" not in self._heard:
-            if not select.select([self.answers], [], [], max(0.0, until - time.monotonic()))[0]:
+            if not is_ready(self.answers, select.POLLIN, until - time.monotonic()):
                 return None
             with contextlib.suppress(BlockingIOError):
                 more = os.read(self.answers, 65536)

@@ -1,0 +1,129 @@
+"""What is done with the draft. Each act answers what is to be read or asked then, if anything is."""
+from __future__ import annotations
+
+from typing import List, Optional
+
+from office.earlier import Earlier
+from office.edits import is_edit
+from office.notice import Notice, Question, say
+from office.planning import Planning
+from office.seatlog import settle
+from office.shifts import shifts_of
+
+BLANK = say("blank")
+
+
+def told_edits(edits: List[str]) -> List[Notice]:
+    """Edits of which the timetable is not known, a line each."""
+    return [say("edit line", shifts=shifts_of(edit)) for edit in edits]
+
+
+class Drafting:
+    """The acts of a draft."""
+
+    def __init__(self, planning: Planning) -> None:
+        self.planning = planning
+
+    def offer_earlier(self) -> Optional[Question]:
+        """Offers the edits of an earlier day that were not accepted."""
+        earlier = Earlier(self.planning)
+        if not earlier.edits:
+            return None
+        title = say("earlier edits", count=len(earlier.edits), day=earlier.name)
+        return Question(
+            title,
+            told_edits(earlier.edits),
+            {"make earlier": lambda: self.take_up(earlier), "decline": earlier.decline},
+        )
+
+    def take_up(self, earlier: Earlier) -> Optional[Question]:
+        return self._refused(earlier.take_up())
+
+    def _refused(self, refused: List[Notice]) -> Optional[Question]:
+        """The edits that could not be made again, to be read."""
+        if not refused:
+            return None
+        return Question(self.planning.notice, [say("these refused"), *refused])
+
+    def undo(self) -> None:
+        self.planning.undo()
+
+    def edits(self) -> Question:
+        """The edits of the draft, and those that a redo could not make again."""
+        planning = self.planning
+        lines = [
+            say("numbered", number=number, shifts=shifts)
+            for number, shifts in enumerate(planning.shifts(), 1)
+        ]
+        left_out = planning.left_out()
+        title = say("edits of draft", count=len(lines))
+        if left_out:
+            lines += [BLANK, say("left out before"), *left_out]
+        return Question(title, lines)
+
+    def commit(self) -> Optional[Question]:
+        self.planning.commit()
+        return self.explain_stale()
+
+    def refresh(self) -> Optional[Question]:
+        self.planning.refresh()
+        return self.explain_stale()
+
+    def explain_stale(self) -> Optional[Question]:
+        """Says who changed what, and offers to make the edits again."""
+        planning = self.planning
+        row, planning.stale_row = planning.stale_row, ""
+        if not row:
+            return None
+        lines = [
+            say("row changed", row=row),
+            *self.who_changed(row),
+            BLANK,
+            say("your edits"),
+            *told_edits(planning.seat.story.ended),
+            BLANK,
+            say("redo commits nothing"),
+        ]
+        return Question(say("stale title"), lines, {"make again": self.redo})
+
+    def who_changed(self, row: str) -> List[Notice]:
+        """Who changed a row since the draft was opened, and how."""
+        planning, lines = self.planning, []
+        for accepted in planning.changes_of(row):
+            who, time = planning.news.who(accepted), planning.news.told(accepted)[1]
+            lines.append(say("by draft", number=accepted.entry.number, who=who, time=time))
+            lines += [say("edit line", shifts=shifts) for shifts in accepted.shifts]
+        return lines
+
+    def redo(self) -> Optional[Question]:
+        return self._refused(self.planning.redo())
+
+    def ask_abandon(self) -> Optional[Question]:
+        planning = self.planning
+        if not planning.is_open and not planning.ended():
+            planning.notice = say("no draft")
+            return None
+        lines = [say("edit line", shifts=shifts) for shifts in planning.shifts()]
+        return Question(
+            say("give up"), lines or told_edits(planning.ended()), {"give up": self.abandon}
+        )
+
+    def abandon(self) -> None:
+        self.planning.abandon()
+
+    def type_line(self, line: str) -> Optional[Question]:
+        """Sends a line of the desk."""
+        self.planning.type_line(line)
+        return self.explain_stale()
+
+    def left(self) -> List[Notice]:
+        """What has become of a planner's drafts when the desk has ended."""
+        planning = self.planning
+        seat, story = planning.seat, planning.seat.story
+        planning.minutes.read_on()
+        settle(story, seat.waiting, planning.minutes.entries, seat.planner)
+        lines = [say("on the disk", numbers=", ".join(map(str, story.accepted)) or "none")]
+        edits = story.unfinished() + [line for line in seat.waiting if is_edit(line)]
+        if edits:
+            lines += [say("not accepted"), *told_edits(edits)]
+        return lines

@@ -1,0 +1,135 @@
+"""The actions of a seat by their names, each with its key at the screen. Help, rows of keys, boxes
+and sentences are made of this table."""
+from __future__ import annotations
+
+from typing import Dict, NamedTuple, Tuple
+
+
+class Action(NamedTuple):
+    """Something that a planner can do: its name, its key, two words for a row of keys (empty if it
+    is in none), and a sentence for the help (empty if it is no key of the week)."""
+
+    name: str
+    key: str
+    short: str
+    help: str
+
+
+ACTIONS = (
+    Action(
+        "pick up",
+        "enter",
+        "pick up",
+        "picks up the lecture at the cursor: each slot shows its cheapest price. Enter again puts "
+        "it down, Escape leaves it.",
+    ),
+    Action(
+        "cheapest",
+        "b",
+        "",
+        "goes to the slot with the cheapest price; Tab goes through the rooms of a slot by price, "
+        "in the slot of the lecture itself, too.",
+    ),
+    Action(
+        "swap",
+        "s",
+        "swap",
+        "picks up the lecture for a swap: each slot shows the cheapest one to change places with.",
+    ),
+    Action(
+        "missing",
+        "m",
+        "missing",
+        "lists the missing lectures: choose one, and put it down as one that was picked up.",
+    ),
+    Action(
+        "take out",
+        "x",
+        "take out",
+        "takes the lecture at the cursor out of the week; it is missing then.",
+    ),
+    Action(
+        "view",
+        "v",
+        "week of ..",
+        "chooses another week: of a curriculum, a teacher, a room or a course. Letters narrow the "
+        "list.",
+    ),
+    Action(
+        "weeks",
+        "w",
+        "its weeks",
+        "shows the week of the course at the cursor, then of its teacher, its room, its curricula.",
+    ),
+    Action("undo", "u", "undo", "takes the last edit of the draft back."),
+    Action(
+        "edits",
+        "e",
+        "edits",
+        "lists the edits of the draft, and those that a redo could not make again.",
+    ),
+    Action(
+        "commit",
+        "c",
+        "commit",
+        "commits the draft: it is accepted if nothing that it stands on has changed.",
+    ),
+    Action(
+        "refresh",
+        "f",
+        "refresh",
+        "brings the draft up to date with what others have committed.",
+    ),
+    Action(
+        "redo",
+        "r",
+        "redo",
+        "makes the edits of a stale draft again on the newest timetable, and commits nothing.",
+    ),
+    Action("abandon", "a", "abandon", "gives the draft up, when you have said yes."),
+    Action("line", ":", "line", "types a line of the desk by hand, as `course c0109`."),
+    Action("help", "?", "help", ""),
+    Action(
+        "leave",
+        "q",
+        "go",
+        "goes away for a while: an open draft stays, and you find it when you sit down again.",
+    ),
+    Action("next", "tab", "", ""),
+    Action("last", "backtab", "", ""),
+    Action("lay down", "escape", "", ""),
+    # answers to questions
+    Action("make earlier", "y", "makes them again in a draft", ""),
+    Action("decline", "n", "never asks again", ""),
+    Action("give up", "y", "gives them up", ""),
+    Action("make again", "r", "makes them again", ""),
+)
+BY_NAME: Dict[str, Action] = {action.name: action for action in ACTIONS}
+# the keys of the week, by the key
+WEEK_KEYS: Dict[str, str] = {
+    action.key: action.name for action in ACTIONS if action.help or action.key in ("tab", "?")
+}
+NAMED = {"enter": "Enter", "tab": "Tab", "backtab": "Shift-Tab", "escape": "Escape"}
+# the two rows of keys, free and with a lecture picked up
+FREE: Tuple[Tuple[str, ...], ...] = (
+    ("pick up", "swap", "missing", "take out", "view", "weeks"),
+    ("undo", "edits", "commit", "refresh", "redo", "abandon", "line", "help", "leave"),
+)
+
+
+def key_of(name: str) -> str:
+    """The key of an action, as a person reads it."""
+    key = BY_NAME[name].key
+    return NAMED.get(key, key)
+
+
+class KeyNames(Dict[str, str]):
+    """The keys of actions, for sentences."""
+
+    def __missing__(self, name: str) -> str:
+        return key_of(name)
+
+
+def row_of(names: Tuple[str, ...]) -> str:
+    """A row of keys."""
+    return "  ".join(f"{key_of(name)} {BY_NAME[name].short}" for name in names)

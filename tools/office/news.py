@@ -1,0 +1,77 @@
+"""What accepted drafts have done, by whom and when, as far as a client can know it."""
+from __future__ import annotations
+
+from collections import Counter
+from dataclasses import dataclass
+from typing import Dict, List, Tuple
+
+from office.commit_notes import read_commit_notes
+from office.folder import Day
+from office.history import commits_of, read_pasts
+from office.minutes import Entry
+from office.notice import Notice, say
+from office.seat import read_sitter
+from office.shifts import Shift
+from office.timetable import Lecture, Slot
+from office.words import words_of
+
+
+@dataclass(frozen=True)
+class Accepted:
+    """An accepted draft: what each edit of it did, and when the client heard of it; empty if that
+    was before the planner sat down."""
+
+    entry: Entry
+    shifts: List[List[Shift]]
+    heard: str
+
+    def all(self) -> List[Shift]:
+        return [shift for shifts in self.shifts for shift in shifts]
+
+    def changes(self, row: str) -> bool:
+        """Whether a row, as `course geo` or `slot 0 1`, is another one after the draft than
+        before."""
+        kind, *rest = words_of(row)
+
+        def is_in(lecture: Lecture) -> bool:
+            if kind == "slot":
+                return lecture.slot == (int(rest[0]), int(rest[1]))
+            return lecture.course == rest[0]
+
+        was = Counter(one.was for one in self.all() if one.was and is_in(one.was))
+        return was != Counter(one.now for one in self.all() if one.now and is_in(one.now))
+
+    def at(self, slot: Slot, courses: List[str]) -> List[Shift]:
+        """What it did with these courses at a slot."""
+        return [one for one in self.all() if one.course in courses and slot in one.slots()]
+
+
+class News:
+    """The accepted drafts of a day in their order."""
+
+    def __init__(self, day: Day) -> None:
+        self.day = day
+        self.accepted: List[Accepted] = []
+        self._told: Dict[int, Tuple[str, str]] = {}
+
+    def hear(self, entry: Entry, shifts: List[List[Shift]], heard: str) -> None:
+        """Takes up an accepted draft."""
+        self.accepted.append(Accepted(entry, shifts, heard))
+
+    def told(self, accepted: Accepted) -> Tuple[str, str]:
+        """The name of who committed a draft, and the time: by the notes of commits, by the logs, as
+        far as they are open to this planner, else who sits there now, and when it was heard of."""
+        number = accepted.entry.number
+        if number not in self._told:
+            found = dict(commits_of(read_pasts(self.day)))
+            for note in read_commit_notes(self.day).values():
+                found[note.number] = (note.time, note.name)
+            time, name = found.get(number, ("", ""))
+            name = name or read_sitter(self.day, accepted.entry.planner)[0]
+            self._told[number] = (name, time or accepted.heard)
+        return self._told[number]
+
+    def who(self, accepted: Accepted) -> Notice:
+        """Who committed a draft: the name, or the seat of somebody without one."""
+        name, planner = self.told(accepted)[0], accepted.entry.planner
+        return say("named", name=name) if name else say("seat", planner=planner)

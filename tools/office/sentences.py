@@ -1,0 +1,123 @@
+"""The sentences of notices by their codes. `{key[redo]}` is a face's name for an action."""
+from __future__ import annotations
+
+from typing import Dict
+
+# why an edit is refused
+REASONS = {
+    "teacher busy": "its teacher {teacher} teaches {other} then",
+    "curriculum busy": "curriculum {curriculum} has {other} then",
+    "room taken": "{other} is in {room} then",
+    "its room taken": "{other} is in its room then",
+    "unavailable": "{course} is unavailable then",
+    "one unavailable": "one is unavailable then",
+    "barred": "{room} is barred for {course}",
+    "its room barred": "its room is barred for {course}",
+    "already": "{course} has a lecture there already",
+    "full": "all lectures of {course} are placed",
+    "not placed": "no lecture of {course} stands there any more",
+    "same slot": "it stands in this slot already",
+    "same course": "both are lectures of {course}",
+    "fault": "{fault}",
+    "rooms": "{reasons}",
+    "no room": "each room is taken or barred then",
+    "partner": "with {other}: {reason}",
+    "no partner": "nothing stands there to swap with",
+    # where a cell has room for two words
+    "cell clash": "clash {other}",
+    "cell closed": "closed",
+    "cell has one": "has one",
+    "cell full": "full",
+    "cell gone": "gone",
+    "cell no room": "no room",
+    "cell no swap": "no swap",
+}
+# what the desk answers to an edit or a turn that is not as it was hoped for
+DESK = {
+    "nothing to redo": "There is no stale draft to make again.",
+    "no edit to undo": "No edit is left to undo.",
+    "already open": "A draft is open already.",
+    "no draft": "No draft is open.",
+    "no memory": "The desk has no memory for it now; try again.",
+    "no place": "The desk has no place for it now; try again.",
+    "desk says": "The desk says: {answer}",
+    "typed": "{line}: {answer}",
+    "differs": "The desk answered otherwise than expected: everything was read anew.",
+}
+DRAFT = {
+    "decide first": "First say what becomes of the {count:edit} of your last draft: {key[redo]} "
+    "makes them again, {key[abandon]} gives them up.",
+    "done": "Done: {shifts}.",
+    "refused": "Refused: {shifts}: {reason}.",
+    "nothing to undo": "No draft is open: nothing to undo.",
+    "taken back": "Taken back: {shifts}.",
+    "nothing to commit": "No draft is open: nothing to commit.",
+    "no edits": "Your draft has no edits: nothing to commit.",
+    "committed": "Committed as draft {number}: {count:edit}, on the disk.",
+    "not in the minutes": "Not written: {answer}, says the desk; the minutes do not have it.",
+    "not written": "Not written: the disk is full, or fails. Your edits are in the log; tell the "
+    "office.",
+    "newest": "No draft is open: you see the newest timetable.",
+    "up to date": "Your draft is up to date.",
+    "stale": "Stale: {row} has changed. Your edits are kept: {key[redo]} makes them again.",
+    "last given up": "The last draft is given up: {count:edit}.",
+    "given up": "The draft is given up: {count:edit}.",
+    "is open": "Your draft is open: if {key[commit]} or {key[refresh]} finds it stale, {key[redo]} "
+    "makes its edits again.",
+    "made again": "{made} of {count:edit} made again, none committed yet.",
+    "left out": "{number}. {shifts}: {reason}",
+    "as you left it": "Your draft is as you left it: {count:edit}.",
+}
+LECTURES = {
+    "no lecture": "No lecture stands here: {key[missing]} lists those that are missing.",
+    "no lecture here": "No lecture stands here.",
+    "lecture first": "Go to a lecture first.",
+    "pick up first": "Pick a lecture up first, by {key[pick up]}.",
+    "changed by others": "Somebody has changed {course}: it is not picked up any more.",
+    # what the chosen offer of a slot is
+    "no offer": "cannot stand there: {reason}",
+    "offer stays": "stays where it is{more}",
+    "offer in": "{price} in {room}{more}",
+    "offer with": "{price} with {other}{more}",
+    "offer of several": " ({number} of {of}; {key[next]} for the next)",
+    "dearer": "dearer than the {count} cheapest",
+    "nowhere else": "It can stand nowhere else now.",
+    "cheapest in": "Cheapest: {price} in {room}, {slot}: {key[cheapest]} goes there.",
+    "cheapest with": "Cheapest: {price} with {other}, {slot}: {key[cheapest]} goes there.",
+    "other price": "Others have changed it just now: {now}.",
+    "cannot stand": "It cannot stand there: {reason}.",
+    "stays": "It stays where it was.",
+    "nothing missing": "No lecture is missing.",
+}
+# what others have done
+OTHERS = {
+    "named": "{name}",
+    "seat": "seat {planner}",
+    "moved here": "{who} moved {course} here, {time}.",
+    "moved away": "{who} took {course} away from here, {time}.",
+    "new room here": "{who} gave {course} this room, {time}.",
+    "not as seen": "Somebody has just changed {course}: look again.",
+    "by draft": "draft {number}, {who}, {time}:",
+}
+# titles and lines of what is read or asked
+LINES = {
+    "blank": "",
+    "edit line": "  {shifts}",
+    "numbered": "{number}. {shifts}",
+    "earlier edits": "{count:edit} of {day} not accepted: make them again?",
+    "these refused": "These were refused:",
+    "edits of draft": "The edits of your draft: {count}",
+    "left out before": "Not made again, of the draft before:",
+    "row changed": "{row} has changed:",
+    "your edits": "Your edits:",
+    "redo commits nothing": "{key[redo]} makes them again on the newest timetable. Nothing is "
+    "committed by it.",
+    "stale title": "Your draft is stale: nothing is lost",
+    "give up": "Give up these edits?",
+    "on the disk": "Your accepted drafts are on the disk: {numbers}.",
+    "not accepted": "These edits were not accepted. They are in the log of the seat, and offered "
+    "again after the next opening:",
+    "log fault": "The log cannot be written ({fault}): edits are lost if the desk dies.",
+    "closing": "The office closes in {seconds} s: commit now, or your edits are offered again.",
+}
+SENTENCES: Dict[str, str] = {**REASONS, **DESK, **DRAFT, **LECTURES, **OTHERS, **LINES}

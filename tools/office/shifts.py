@@ -1,0 +1,63 @@
+"""What an edit does to each lecture: where it was, and where it is then."""
+from __future__ import annotations
+
+from typing import Iterable, List, NamedTuple, Optional
+
+from office.timetable import Lecture, Slot, Timetable
+from office.words import words_of
+
+
+class Shift(NamedTuple):
+    """A lecture before and after an edit; None where it is not placed. A room that is not known is
+    empty."""
+
+    was: Optional[Lecture]
+    now: Optional[Lecture]
+
+    @property
+    def course(self) -> str:
+        one = self.was or self.now
+        assert one is not None
+        return one.course
+
+    def slots(self) -> List[Slot]:
+        """The slots at which something is another than before."""
+        return list(dict.fromkeys(one.slot for one in (self.was, self.now) if one is not None))
+
+
+def shifts_of(edit: str, timetable: Optional[Timetable] = None) -> List[Shift]:
+    """The shifts of an edit on a timetable. Without one, rooms that the edit does not name are not
+    known."""
+    kind, course, *rest = words_of(edit)
+
+    def lecture(name: str, day: str, period: str, room: str = "") -> Lecture:
+        slot = int(day), int(period)
+        if not room and timetable is not None:
+            room = timetable.room_at(name, slot) or ""
+        return Lecture(name, room, *slot)
+
+    if kind == "place":
+        return [Shift(None, lecture(course, rest[1], rest[2], rest[0]))]
+    if kind == "drop":
+        return [Shift(lecture(course, rest[0], rest[1]), None)]
+    if kind == "reroom":
+        was, now = lecture(course, rest[1], rest[2]), lecture(course, rest[1], rest[2], rest[0])
+        return [Shift(was, now)]
+    if kind == "move":
+        was, now = lecture(course, rest[0], rest[1]), lecture(course, rest[3], rest[4], rest[2])
+        return [Shift(was, now)]
+    one, other = lecture(course, rest[0], rest[1]), lecture(rest[2], rest[3], rest[4])
+    return [
+        Shift(one, Lecture(one.course, other.room, *other.slot)),
+        Shift(other, Lecture(other.course, one.room, *one.slot)),
+    ]
+
+
+def all_shifts(edits: Iterable[str], timetable: Timetable) -> List[List[Shift]]:
+    """The shifts of edits one after another, each on what those before it leave. The timetable is
+    left as it is."""
+    now, found = timetable.copy(), []
+    for edit in edits:
+        found.append(shifts_of(edit, now))
+        now.try_edit(edit)
+    return found

@@ -1,0 +1,131 @@
+"""Whose week is seen, and what stands in it."""
+from __future__ import annotations
+
+from dataclasses import dataclass, field
+from typing import Dict, Iterable, List, NamedTuple
+
+from office.instance import Instance
+from office.planning import Planning
+from office.timetable import Lecture, Slot, Timetable
+
+KINDS = ("curriculum", "teacher", "room", "course")
+
+
+class View(NamedTuple):
+    """Whose week is shown."""
+
+    kind: str
+    name: str
+
+    def words(self) -> str:
+        """The look of the desk at it; there is none at a room."""
+        return f"{self.kind} {self.name}"
+
+
+class Signs(NamedTuple):
+    """What a lecture costs where it stands: so many students without a seat, and points for
+    standing alone on its day."""
+
+    short: int
+    alone: int
+
+
+@dataclass
+class Cell:
+    """What stands in a slot of a week, each lecture with its signs."""
+
+    lectures: List[Lecture] = field(default_factory=list)
+    signs: List[Signs] = field(default_factory=list)
+    # changed by the draft, and by others
+    is_mine: bool = False
+    is_others: bool = False
+    is_closed: bool = False
+
+
+def all_views(instance: Instance) -> List[View]:
+    named: Dict[str, Iterable[str]] = {
+        "curriculum": instance.curricula,
+        "teacher": instance.teachers,
+        "room": instance.rooms,
+        "course": instance.courses,
+    }
+    return [View(kind, name) for kind in KINDS for name in named[kind]]
+
+
+def courses_of_view(instance: Instance, view: View) -> List[str]:
+    """The courses whose week it is; none of a room."""
+    return {
+        "curriculum": instance.curricula.get(view.name, []),
+        "teacher": instance.teachers.get(view.name, []),
+        "course": [view.name],
+    }.get(view.kind, [])
+
+
+def weeks_of(instance: Instance, lecture: Lecture) -> List[View]:
+    """The weeks in which a lecture stands."""
+    teacher = instance.courses[lecture.course].teacher
+    return [
+        View("course", lecture.course),
+        View("teacher", teacher),
+        View("room", lecture.room),
+        *(View("curriculum", name) for name in instance.curricula_of[lecture.course]),
+    ]
+
+
+def of_view(timetable: Timetable, view: View) -> List[Lecture]:
+    """The lectures of a view in a timetable that is known."""
+    if view.kind == "room":
+        return timetable.of_room(view.name)
+    return timetable.look(view.words()) or []
+
+
+def told_of_view(planning: Planning, view: View) -> List[Lecture]:
+    """The lectures of a view as the desk tells them; the desk has no look at a room."""
+    if view.kind == "room":
+        return planning.known.present().of_room(view.name)
+    return planning.lectures(view.words())
+
+
+def by_slot(lectures: List[Lecture]) -> Dict[Slot, List[Lecture]]:
+    found: Dict[Slot, List[Lecture]] = {}
+    for lecture in lectures:
+        found.setdefault(lecture.slot, []).append(lecture)
+    return found
+
+
+def alone_points(timetable: Timetable, curricula: List[str], slot: Slot) -> int:
+    """Two points for each of these curricula of which nothing stands beside a slot on its day."""
+    instance, (day, period) = timetable.instance, slot
+    beside = [(day, period - 1), (day, period + 1)]
+    count = 0
+    for curriculum in curricula:
+        rows = [timetable.by_course[member] for member in instance.curricula[curriculum]]
+        count += not any(near in row for row in rows for near in beside)
+    return 2 * count
+
+
+def signs_of(planning: Planning, view: View, lecture: Lecture) -> Signs:
+    instance = planning.instance
+    short = instance.courses[lecture.course].students - instance.rooms[lecture.room]
+    curricula = [view.name] if view.kind == "curriculum" else instance.curricula_of[lecture.course]
+    alone = alone_points(planning.known.present(), curricula, lecture.slot)
+    return Signs(max(0, short), alone)
+
+
+def cells_of(planning: Planning, view: View) -> Dict[Slot, Cell]:
+    """The cells of a week, with what the draft and others have changed in them."""
+    known, instance = planning.known, planning.instance
+    present = by_slot(told_of_view(planning, view))
+    closed = instance.closed[view.name] if view.kind == "course" else set()
+    cells = {
+        slot: Cell(present.get(slot, []), is_closed=slot in closed) for slot in instance.slots()
+    }
+    if known.base is not None:
+        base = by_slot(of_view(known.base, view))
+        for slot, cell in cells.items():
+            cell.is_mine = base.get(slot) != present.get(slot)
+    before, newest = by_slot(of_view(known.seen(), view)), by_slot(of_view(known.newest, view))
+    for slot, cell in cells.items():
+        cell.is_others = before.get(slot) != newest.get(slot)
+        cell.signs = [signs_of(planning, view, one) for one in cell.lectures]
+    return cells

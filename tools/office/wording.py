@@ -1,0 +1,151 @@
+"""Words for what a person reads, in either face: slots, names, edits, reasons, notices. It is the
+one place that decides how they are said, and from which number on is counted."""
+from __future__ import annotations
+
+from typing import Any, Callable, Dict, List, Mapping, Optional, Sequence
+
+from office.instance import Course
+from office.labels import Labels
+from office.notice import Notice
+from office.sentences import SENTENCES
+from office.shifts import Shift, shifts_of
+from office.text import counted, shown, signed
+from office.timetable import Lecture, Slot, Timetable
+from office.words import words_of
+
+# what names of data are names of
+NAMES = {
+    "course": "course",
+    "other": "course",
+    "room": "room",
+    "teacher": "teacher",
+    "curriculum": "curriculum",
+}
+
+
+class Count(int):
+    """A number that is written with its noun: `{count:edit}` is `1 edit`, `2 edits`."""
+
+    def __format__(self, noun: str) -> str:
+        return counted(self, noun) if noun else str(int(self))
+
+
+class Wording:
+    """Words for one face. `actions` are its names for what a person can do, as keys or buttons;
+    `safe` makes of a name what the face can show."""
+
+    def __init__(
+        self,
+        actions: Mapping[str, str],
+        labels: Optional[Labels] = None,
+        safe: Callable[[str], str] = shown,
+    ) -> None:
+        self.actions, self.safe = actions, safe
+        self.labels = labels or Labels()
+
+    # names and slots
+
+    def name(self, kind: str, code: str) -> str:
+        return self.safe(self.labels.said(kind, code))
+
+    def short(self, kind: str, code: str) -> str:
+        """A name where there is room for a few letters."""
+        return self.safe(self.labels.short(kind, code))
+
+    def course(self, code: str) -> str:
+        return self.name("course", code)
+
+    def room(self, code: str) -> str:
+        return self.name("room", code)
+
+    def view(self, kind: str, code: str) -> str:
+        """Whose week it is."""
+        return f"{kind} {self.name(kind, code)}"
+
+    def slot(self, slot: Slot) -> str:
+        return self.labels.slot(slot)
+
+    def day(self, day: int) -> str:
+        return self.labels.day(day)
+
+    def period(self, period: int) -> str:
+        return self.labels.period(period)
+
+    def row(self, row: str) -> str:
+        """A row on which a draft depends, and which has changed."""
+        kind, *rest = words_of(row)
+        if kind == "slot":
+            return self.slot((int(rest[0]), int(rest[1])))
+        return f"{kind} {self.name(kind, rest[0])}"
+
+    def place(self, lecture: Lecture) -> str:
+        """Where a lecture stands; its room is left out where it is not known."""
+        where = self.slot(lecture.slot)
+        return f"{where}, {self.room(lecture.room)}" if lecture.room else where
+
+    # edits
+
+    def edit(self, edit: str, timetable: Optional[Timetable] = None) -> str:
+        """An edit on a timetable; without one the old rooms are not said."""
+        return self.shifts(shifts_of(edit, timetable))
+
+    def shifts(self, shifts: Sequence[Shift]) -> str:
+        """What an edit does, in one line."""
+        if len(shifts) == 2:
+            one, other = shifts[0].was, shifts[1].was
+            assert one is not None and other is not None
+            return (
+                f"{self.course(one.course)} ({self.place(one)}) <-> "
+                f"{self.course(other.course)} ({self.place(other)})"
+            )
+        was, now = shifts[0].was, shifts[0].now
+        course = self.course(shifts[0].course)
+        if was is None:
+            assert now is not None
+            return f"{course}: placed on {self.place(now)}"
+        if now is None:
+            return f"{course}: taken out of {self.place(was)}"
+        if was.slot == now.slot:
+            old = f"{self.room(was.room)} -> " if was.room else "to "
+            return f"{course}: {self.slot(was.slot)}, {old}{self.room(now.room)}"
+        return f"{course}: {self.place(was)} -> {self.place(now)}"
+
+    def missing(self, course: Course, count: int) -> str:
+        """A course of which lectures are missing, in a list of those."""
+        return (
+            f"{self.course(course.name)}: {count} of {course.lectures} missing, "
+            f"{counted(course.students, 'student')}, {self.name('teacher', course.teacher)}"
+        )
+
+    # what is said
+
+    def notice(self, notice: Notice) -> str:
+        if not notice:
+            return ""
+        words = {name: self.value(name, value) for name, value in notice.data.items()}
+        return SENTENCES[notice.code].format(key=self.actions, **words)
+
+    def lines(self, notices: Sequence[Notice]) -> List[str]:
+        return [self.notice(one) for one in notices]
+
+    def value(self, name: str, value: Any) -> Any:
+        """A piece of data in words, by what it is."""
+        if isinstance(value, Notice):
+            return self.notice(value)
+        by_name: Dict[str, Callable[[Any], Any]] = {
+            "slot": self.slot,
+            "row": self.row,
+            "place": self.place,
+            "shifts": self.shifts,
+            "price": signed,
+            "count": Count,
+            "made": Count,
+            "students": Count,
+            "time": lambda time: time[11:16] or "time not known",
+            "reasons": lambda reasons: "; ".join(self.lines(reasons)),
+        }
+        if name in NAMES:
+            return self.name(NAMES[name], value)
+        if name in by_name:
+            return by_name[name](value)
+        return self.safe(value) if isinstance(value, str) else value

@@ -1,0 +1,190 @@
+"""What a planner does at a seat, without keys, rows or sentences: both faces are thin over it.
+
+What is acted on is what the planner has seen: a lecture with its slot and room, an offer with its
+price, the edits of a draft. If it is another by then, this is said and nothing is done. An act
+answers what is to be read or asked then, if anything is.
+"""
+from __future__ import annotations
+
+from typing import Dict, List, Optional
+
+from office.carry import MOVE, PLACE, SWAP, Carry, Offer
+from office.drafting import Drafting
+from office.notice import Notice, Question, say
+from office.planning import Planning
+from office.timetable import Lecture, Slot
+from office.week import Cell, View, all_views, cells_of, told_of_view, weeks_of
+
+
+class Work:
+    """A planner's work: whose week he looks at, what he has picked up, and his draft."""
+
+    def __init__(self, planning: Planning) -> None:
+        self.planning = planning
+        self.views = all_views(planning.instance)
+        self.view = self.views[0] if self.views else View("course", "")
+        self.carry: Optional[Carry] = None
+        self.drafting = Drafting(planning)
+
+    @property
+    def notice(self) -> Notice:
+        return self.planning.notice
+
+    @notice.setter
+    def notice(self, notice: Notice) -> None:
+        self.planning.notice = notice
+
+    def begin(self) -> Optional[Question]:
+        """Hears what was under way, and offers edits of an earlier day."""
+        self.planning.begin()
+        return self.drafting.offer_earlier()
+
+    # what is seen
+
+    def lectures(self) -> List[Lecture]:
+        return told_of_view(self.planning, self.view)
+
+    def lecture_at(self, slot: Slot) -> Optional[Lecture]:
+        """The lecture of the week at a slot."""
+        return next((one for one in self.lectures() if one.slot == slot), None)
+
+    def cells(self) -> Dict[Slot, Cell]:
+        return cells_of(self.planning, self.view)
+
+    def show(self, view: View) -> None:
+        self.view = view
+
+    def show_next_week(self, lecture: Optional[Lecture]) -> None:
+        """The week of a lecture's course, of its teacher, its room, and its curricula, in turn."""
+        if lecture is None:
+            self.notice = say("no lecture here")
+            return
+        turns = weeks_of(self.planning.instance, lecture)
+        at = turns.index(self.view) if self.view in turns else -1
+        self.view = turns[(at + 1) % len(turns)]
+
+    def changed_here(self, slot: Slot) -> Optional[Notice]:
+        """Who else has last changed a slot of the week, and how: since the draft was opened, else
+        since the planner sat down or his last draft ended."""
+        for accepted in reversed(self.planning.accepted_since()):
+            for shift in reversed(accepted.all()):
+                if slot not in shift.slots() or not self._is_of_week(shift.was, shift.now, slot):
+                    continue
+                news = self.planning.news
+                is_here = shift.now is not None and shift.now.slot == slot
+                code = "moved here" if is_here else "moved away"
+                if is_here and shift.was is not None and shift.was.slot == slot:
+                    code = "new room here"
+                who, time = news.who(accepted), news.told(accepted)[1]
+                return say(code, who=who, course=shift.course, time=time)
+        return None
+
+    def _is_of_week(self, was: Optional[Lecture], now: Optional[Lecture], slot: Slot) -> bool:
+        """Whether a lecture that was or is at a slot belongs to the week that is seen."""
+        there = [one for one in (was, now) if one is not None and one.slot == slot]
+        instance, (kind, name) = self.planning.instance, self.view
+        if kind == "room":
+            return any(one.room == name for one in there)
+        course = there[0].course if there else ""
+        return bool(there) and View(kind, name) in weeks_of(instance, Lecture(course, "", *slot))
+
+    def is_there(self, lecture: Lecture) -> bool:
+        """Whether a lecture stands where it was seen, by all that is known now; says so if it does
+        not."""
+        self.planning.tick()
+        if self.planning.known.present().room_at(lecture.course, lecture.slot) == lecture.room:
+            return True
+        self.notice = self.changed_here(lecture.slot) or say("not as seen", course=lecture.course)
+        return False
+
+    # a lecture that is picked up
+
+    def pick_up(self, lecture: Optional[Lecture], kind: str = MOVE) -> Optional[Question]:
+        """Picks up a lecture that was seen, to be moved or swapped."""
+        if lecture is None:
+            self.notice = say("no lecture")
+        elif self.is_there(lecture):
+            self._carry(kind, lecture.course, lecture)
+        return None
+
+    def pick_up_missing(self, course: str) -> Optional[Question]:
+        """Picks up a lecture of a course that is not placed."""
+        self.view = View("course", course)
+        self._carry(PLACE, course, None)
+        return None
+
+    def swap_instead(self) -> None:
+        """What is picked up to be moved is to be swapped."""
+        if self.carry and self.carry.lecture:
+            self._carry(SWAP, self.carry.course, self.carry.lecture)
+
+    def _carry(self, kind: str, course: str, lecture: Optional[Lecture]) -> None:
+        self.carry = Carry(self.planning, kind, course, lecture)
+        self.notice = self.carry.best_told()
+
+    def renew(self) -> bool:
+        """Asks anew what is offered, if others have changed the timetable that is shown; answers
+        whether what was picked up is there still."""
+        carry, planning = self.carry, self.planning
+        if carry is None or planning.is_open or carry.seen == len(planning.minutes.entries):
+            return True
+        lecture = carry.lecture
+        is_gone = lecture and lecture.room != planning.known.present().room_at(
+            carry.course, lecture.slot
+        )
+        if is_gone:
+            self.carry = None
+            self.notice = say("changed by others", course=carry.course)
+            return False
+        self.carry = Carry(planning, carry.kind, carry.course, lecture)
+        self.carry.choice = carry.choice
+        return True
+
+    def put_down(self, slot: Slot, offer: Optional[Offer]) -> Optional[Question]:
+        """Puts down what is picked up, by an offer that was seen at a slot."""
+        self.planning.tick()
+        if not self.renew() or self.carry is None:
+            return None
+        carry = self.carry
+        if offer is None or offer not in carry.at(slot):
+            fresh = carry.chosen(slot)
+            if fresh is None:
+                self.notice = say("cannot stand", reason=carry.reason(slot))
+            else:
+                self.notice = say("other price", now=carry.offer_told(fresh))
+            return None
+        self.carry = None
+        if carry.is_idle(slot, offer):
+            self.notice = say("stays")
+        else:
+            self.planning.edit(offer.edit)
+        return None
+
+    def lay_down(self) -> None:
+        if self.carry:
+            self.carry = None
+            self.notice = say("stays")
+
+    def take_out(self, lecture: Optional[Lecture]) -> Optional[Question]:
+        """Takes a lecture that was seen out of the week."""
+        if self.carry or lecture is None:
+            self.notice = say("lecture first")
+        elif self.is_there(lecture):
+            self.planning.edit(f"drop {lecture.course} {lecture.day} {lecture.period}")
+        return None
+
+    def missing(self) -> Dict[str, int]:
+        """The courses of which lectures are missing, and how many; says so if none is."""
+        found = self.planning.missing()
+        if not found:
+            self.notice = say("nothing missing")
+        return found
+
+    # news
+
+    def tick(self) -> bool:
+        """Looks for news; answers whether there are any."""
+        if not self.planning.tick():
+            return self.planning.seat.day.closes_at() is not None
+        self.renew()
+        return True
