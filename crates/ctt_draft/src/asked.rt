@@ -99,6 +99,14 @@ impl AskedCalls {
         self.list.as_slice()
     }
 
+    /// Returns the list itself. Takes no memory.
+    pub fn into_vec(self) -> Vec<Asked>
+        ensures { result.items ≡ self.entry }
+    {
+        let AskedCalls { list } = self;
+        list
+    }
+
     /// Returns whether each call and each reply fits the instance.
     pub fn fits(&self, instance: &Instance) -> bool
         ensures { IsTrue result ↔ Each (AskedFits instance.now) self.now }

@@ -41,6 +41,14 @@ impl Lectures {
         self.list.as_slice()
     }
 
+    /// Returns the list itself. Takes no memory.
+    pub fn into_vec(self) -> Vec<Placed>
+        ensures { result.items ≡ self.entry }
+    {
+        let Lectures { list } = self;
+        list
+    }
+
     /// Returns equal lectures.
     pub(crate) fn copy(&self) -> Result<Self, NoMemory>
         ensures { IfOk result (λ lectures. lectures ≡ self.now) }

@@ -88,6 +88,14 @@ impl PricedEdits {
         self.list.as_slice()
     }
 
+    /// Returns the list itself. Takes no memory.
+    pub fn into_vec(self) -> Vec<PricedEdit>
+        ensures { result.items ≡ self.entry }
+    {
+        let PricedEdits { list } = self;
+        list
+    }
+
     /// Returns an equal list.
     pub(crate) fn copy(&self) -> Result<Self, NoMemory>
         ensures { IfOk result (λ edits. edits ≡ self.now) }

@@ -61,6 +61,14 @@ impl Shortfalls {
         self.list.as_slice()
     }
 
+    /// Returns the list itself. Takes no memory.
+    pub fn into_vec(self) -> Vec<Shortfall>
+        ensures { result.items ≡ self.entry }
+    {
+        let Shortfalls { list } = self;
+        list
+    }
+
     /// Returns an equal list.
     pub(crate) fn copy(&self) -> Result<Self, NoMemory>
         ensures { IfOk result (λ courses. courses ≡ self.now) }

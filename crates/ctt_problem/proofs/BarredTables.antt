@@ -27,6 +27,8 @@ barred_instance i table h size =
         courses = p.courses;
         capacities = p.capacities;
         curricula = p.curricula;
+        teachers_seen = p.teachers_seen;
+        pairs_few = p.pairs_few;
       };
       named = record { name = n.name; courses = n.courses; teachers = n.teachers; rooms = n.rooms; curricula = n.curricula };
       clashes = record { size = h.clashes.size; marks = h.clashes.marks };

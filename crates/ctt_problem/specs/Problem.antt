@@ -1,8 +1,8 @@
 -- An instance of the problem, as the rules see it.
-use Rattle.std.specs.Prelude.{ℕ, ◌*◌, ◌+◌, ◌≤◌, ◌<◌, ◌≡◌, Bool, false, List, [], length, get_or, ◌==◌, ◌&&◌, ◌||◌, not, ◌/◌, ◌%◌, nat_lt, Option, Some, None, if◌then◌else◌}
-use Rattle.std.specs.List.{list_any, position_or_len, AllByRecursion as Each}
+use Rattle.std.specs.Prelude.{ℕ, ◌*◌, ◌+◌, ◌≤◌, ◌<◌, ◌≡◌, Bool, false, List, [], length, map, filter, get_or, ◌==◌, ◌&&◌, ◌||◌, not, ◌/◌, ◌%◌, nat_lt, Option, Some, None, if◌then◌else◌}
+use Rattle.std.specs.List.{list_any, position_or_len, range_with_len, AllByRecursion as Each}
 use Rattle.std.specs.Str.{bytes_eq}
-use Rattle.ctt_problem.specs.Lists.{has, Pairwise}
+use Rattle.ctt_problem.specs.Lists.{has, each_once, Pairwise}
 use Rattle.ctt_problem.specs.declared.course_facts.CourseFacts.{CourseFacts}
 
 -- Courses, rooms, teachers and curricula are numbered by their indices in these lists. A name is a
@@ -99,6 +99,10 @@ IsCourseFacts teachers c = (c.teacher < teachers) × IsSmall c.lectures × IsSma
 abbrev pub AreMembers : ℕ → List ℕ → Type 0
 AreMembers courses q = Each (λ c. c < courses) q × Pairwise (λ c d. (c == d) ≡ false) q
 
+-- the teachers of the courses, each once, in the order in which they are first named
+abbrev pub teachers_named : Problem → List ℕ
+teachers_named i = each_once ◌==◌ (map (λ c. c.teacher) i.courses)
+
 -- the limits of the format, and the other invariants of an instance
 pub record IsProblem (i : Problem) : Type 0 where
   pub courses_few : length i.courses ≤ 2000
@@ -116,3 +120,7 @@ pub record IsProblem (i : Problem) : Type 0 where
   pub courses : Each (IsCourseFacts (length i.teacher_names)) i.courses
   pub capacities : Each IsSmall i.capacities
   pub curricula : Each (AreMembers (length i.courses)) i.curricula
+  -- each teacher has a course, and their numbers ascend as they are first named
+  pub teachers_seen : teachers_named i ≡ range_with_len 0 (length i.teacher_names)
+  -- the pairs of a course and a slot in which it is unavailable
+  pub pairs_few : length (filter (λ b. b) i.unavailable) ≤ 2000000

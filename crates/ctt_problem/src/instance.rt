@@ -86,7 +86,8 @@ impl Model for Instance {
 }
 
 impl Instance {
-    /// States that each instance is within the limits, with its references in range.
+    /// States that each instance is within the limits, with its references in range, each member of
+    /// a curriculum once, and the teachers numbered as the courses first name them.
     pub fn limits_hold(&self)
         ensures { IsProblem self.now }
     {
@@ -281,8 +282,8 @@ impl Instance {
             .is_marked(course.get() as usize, room.get() as usize)
     }
 
-    /// Replaces the table of barred rooms.
-    pub fn bar(&mut self, table: BitRows)
+    /// Bars the rooms that the table marks, each for the course of its row, and no others.
+    pub fn set_barred(&mut self, table: BitRows)
         requires { HasSize table (course_count self.old) (room_count self.old) }
         ensures { self.new ≡ record self.old { barred = marks_of table } }
     {

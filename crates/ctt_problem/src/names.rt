@@ -1,6 +1,6 @@
 //! Names, numbered in the order in which they were added.
 
-ghost use Rattle.std.specs.Prelude.{◌≡◌, ◌<◌, ◌≤◌, ◌++◌, ◌∷◌, [], false, OnOk, IfOk, length, IfSome};
+ghost use Rattle.std.specs.Prelude.{◌≡◌, ◌<◌, ◌≤◌, ◌++◌, ◌∷◌, [], false, OnOk, OnErr, IfOk, length, IfSome};
 ghost use Rattle.std.specs.Str.{bytes_eq};
 ghost use Rattle.std.specs.List.{slice_index_or};
 ghost use Rattle.ctt_problem.specs.Problem.{is_among, place_of, number_in};
@@ -77,16 +77,19 @@ impl Names {
         ensures number { IfOk result (λ n. n ≡ place_of self.old name.now) }
         ensures within { IfOk result (λ n. n ≤ length self.old) }
         ensures names { OnOk result (self.new ≡ with_new bytes_eq self.old name.now) }
+        ensures kept { OnErr result (self.new ≡ self.old) }
     {
         let (number, _) = self.names.insert_full(String::from_str(alloc, name)?)?;
         Ok(number)
     }
 
-    /// Returns the number of a name, and appends the name if it is new. Copies only a new name.
+    /// Returns the number of a name, and appends the name if it is new. Copies only a new name. If
+    /// memory runs out, the names are unchanged.
     pub fn number_or_add(&mut self, alloc: Global, name: &str) -> Result<usize, AllocError>
         ensures number { IfOk result (λ n. n ≡ place_of self.old name.now) }
         ensures within { IfOk result (λ n. n ≤ length self.old) }
         ensures names { OnOk result (self.new ≡ with_new bytes_eq self.old name.now) }
+        ensures kept { OnErr result (self.new ≡ self.old) }
     {
         if let Some(number) = self.number(name) {
             return Ok(number);
@@ -94,10 +97,11 @@ impl Names {
         self.insert(alloc, name)
     }
 
-    /// Appends a new name.
+    /// Appends a new name. If memory runs out, the names are unchanged.
     pub fn add(&mut self, alloc: Global, name: &str) -> Result<(), AllocError>
         requires { is_among self.old name.now ≡ false }
-        ensures { OnOk result (self.new ≡ self.old ++ name.now ∷ []) }
+        ensures added { OnOk result (self.new ≡ self.old ++ name.now ∷ []) }
+        ensures kept { OnErr result (self.new ≡ self.old) }
     {
         self.insert(alloc, name)?;
         Ok(())

@@ -1,15 +1,19 @@
 -- What is known of an instance that is spelled: its limits and its numbers.
-use Rattle.std.proofs.Common.{◌≡◌, ℕ, ◌*◌, ◌<◌, ◌≤◌, List, [], ◌∷◌, length, map, true, false, ◌&&◌, ◌==◌, sym, ap, subst, ◌∙◌}
-use Rattle.std.specs.Prelude.{nat_lt, nat_le}
+use Rattle.std.proofs.Common.{◌≡◌, ℕ, ◌*◌, ◌<◌, ◌≤◌, List, [], ◌∷◌, length, map, true, false, ◌&&◌, ◌==◌, sym, ap, subst, ◌∙◌, arith}
+use Rattle.std.specs.Prelude.{nat_lt, nat_le, filter}
 use Rattle.std.specs.List.{list_all, AllByRecursion as Each}
 use Rattle.std.specs.Str.{bytes_eq}
 use Rattle.std.proofs.lemmas.List.{length-map, length-replicate}
 use Rattle.std.proofs.lemmas.Bool.{and_parts, leb-true, eqb-true}
 use Rattle.ctt_text.specs.Numbers.{is_digit, value}
+use Rattle.ctt_problem.specs.Lists.{each_once}
+use Rattle.ctt_problem.specs.Named.{AreDistinct}
 use Rattle.ctt_problem.specs.Problem.{is_among, place_of, IsSmall, IsCourseFacts, AreMembers}
 use Rattle.ctt_text.specs.InstanceText.{CourseWords, CurriculumWords, Given, teacher_names, IsNumber, IsCourse, IsRoom, IsCurriculum, facts_of, members_of, Obey, SaysInstance}
 use Rattle.ctt_text.specs.InstanceLaws.{SpelledIsProblem}
 use Rattle.ctt_problem.proofs.TimetableLemmas.{Each-map}
+use Rattle.ctt_text.proofs.NamedLaws.{teachers_distinct}
+use Rattle.ctt_text.proofs.SeenLemmas.{numbered_as_seen, pairs_few}
 use Rattle.ctt_problem.proofs.ListLaws.{Each-mapped, once_each, once_apart, once_found, once_few, place_below, bytes_sound, each_among}
 
 -- a number in a text is small
@@ -27,10 +31,15 @@ members_are names q is =
     let below : Each (λ c. c < length names) numbers = Each-mapped (λ c. c < length names) (place_of names) q.members (Each-map (λ m. is_among names m ≡ true) (λ m. place_of names m < length names) (number_below names) q.members is.1) in
     (once_each ◌==◌ (λ x y. eqb-true x y) (λ c. c < length names) numbers below, once_apart ◌==◌ (λ x y. eqb-true x y) numbers)
 
+-- each teacher that is named is among the teachers
+named_known : (cs : List CourseWords) → Each (λ name. is_among (teacher_names cs) name ≡ true) (map (λ (c : CourseWords). c.teacher) cs)
+named_known cs =
+    let named : List (List ℕ) = map (λ (c : CourseWords). c.teacher) cs in
+    Each-map (λ name. is_among named name ≡ true) (λ name. is_among (teacher_names cs) name ≡ true) (λ name h. once_found bytes_eq bytes_sound named name ∙ h) named (each_among named)
+
 -- each course has a teacher among the teachers
 teachers_known : (cs : List CourseWords) → Each (λ (c : CourseWords). is_among (teacher_names cs) c.teacher ≡ true) cs
-teachers_known cs = Each-map (λ c. is_among (map (λ c. c.teacher) cs) c.teacher ≡ true) (λ c. is_among (teacher_names cs) c.teacher ≡ true)
-    (λ c h. once_found bytes_eq bytes_sound (map (λ c. c.teacher) cs) c.teacher ∙ h) cs (unmapped (λ name. is_among (map (λ c. c.teacher) cs) name ≡ true) cs (each_among (map (λ c. c.teacher) cs)))
+teachers_known cs = unmapped (λ name. is_among (teacher_names cs) name ≡ true) cs (named_known cs)
   where
     unmapped : (P : List ℕ → Type 0) (cs : List CourseWords) → Each P (map (λ c. c.teacher) cs) → Each (λ c. P c.teacher) cs
     unmapped P [] each = tt
@@ -76,4 +85,8 @@ spelled_is_problem words i s =
       curricula = subst (λ n. Each (AreMembers n) i.curricula) (names_many ∙ sym courses_many) (subst (λ qs. Each (AreMembers (length i.course_names)) qs) (sym says.curricula)
           (Each-mapped (AreMembers (length i.course_names)) (members_of i.course_names) g.curricula (Each-map (IsCurriculum i.course_names) (λ q. AreMembers (length i.course_names) (members_of i.course_names q)) (members_are i.course_names) g.curricula
           (subst (λ ns. Each (IsCurriculum ns) g.curricula) (sym says.course_names) o.curricula))));
+      teachers_seen = ap (λ cs. each_once ◌==◌ (map (λ f. f.teacher) cs)) says.courses ∙ numbered_as_seen g.courses i.teacher_names says.teacher_names
+          (subst AreDistinct (sym says.teacher_names) (teachers_distinct (map (λ c. c.teacher) g.courses)))
+          (subst (λ ts. Each (λ name. is_among ts name ≡ true) (map (λ (c : CourseWords). c.teacher) g.courses)) (sym says.teacher_names) (named_known g.courses));
+      pairs_few = omega (arith, pairs_few i i.course_names g.pairs says.marks says.unavailable, o.pairs_counted, o.header.constraints.1);
     }

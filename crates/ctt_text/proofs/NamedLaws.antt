@@ -68,7 +68,7 @@ pairs_distinct names pairs = new_names [] names (all_apart names) pairs
     all_apart (n ∷ ns) = (refl, all_apart ns)
 
 -- the names without repetitions are distinct
-teachers_distinct : (names : List (List ℕ)) → AreDistinct (each_once bytes_eq names)
+pub teachers_distinct : (names : List (List ℕ)) → AreDistinct (each_once bytes_eq names)
 teachers_distinct names = pairs_distinct (each_once bytes_eq names) (once_apart bytes_eq bytes_sound names)
 
 pub spelled_is_named : SpelledIsNamed

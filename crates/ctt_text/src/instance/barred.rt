@@ -150,7 +150,7 @@ pub fn read_barred(alloc: Global, instance: &mut Instance, text: &[u8]) -> Resul
     match str::from_utf8(text) {
         Ok(text) => {
             let table = read_text(alloc, instance, text)?;
-            instance.bar(table);
+            instance.set_barred(table);
             Ok(())
         }
         Err(error) => Err(BarredFault::NotText(error.valid_up_to() as u64)),

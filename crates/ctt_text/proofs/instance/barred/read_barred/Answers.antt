@@ -25,13 +25,13 @@ returns-in_err-table-in-Ok-clause-broken c =
 pub returns-in_ok-table-in-Ok-clause-spelled : goal.returns-in_ok-table-in-Ok-clause-spelled
 returns-in_ok-table-in-Ok-clause-spelled c =
     let i = c.args.instance.now in
-    subst (λ (v : Problem). BarSpells i (words c.args.text.now) v.barred) (sym c.bar.ensures)
+    subst (λ (v : Problem). BarSpells i (words c.args.text.now) v.barred) (sym c.set_barred.ensures)
     (ok_spelled i c.args.text.now c.limits_hold.ensures (marks_of c.in_ok-table-in-Ok.table) (rw c.in-Ok.ensures.cases.0 at c.in_ok-table-in-Ok.ensures.exact))
 
 pub returns-in_ok-table-in-Ok-clause-accepted : goal.returns-in_ok-table-in-Ok-clause-accepted
 returns-in_ok-table-in-Ok-clause-accepted c =
     let i = c.args.instance.now in
-    λ table utf8 s. c.bar.ensures ∙ ap (λ b. record i { barred = b }) (ok_accepted i c.args.text.now c.limits_hold.ensures (marks_of c.in_ok-table-in-Ok.table) table (rw c.in-Ok.ensures.cases.0 at c.in_ok-table-in-Ok.ensures.exact) s)
+    λ table utf8 s. c.set_barred.ensures ∙ ap (λ b. record i { barred = b }) (ok_accepted i c.args.text.now c.limits_hold.ensures (marks_of c.in_ok-table-in-Ok.table) table (rw c.in-Ok.ensures.cases.0 at c.in_ok-table-in-Ok.ensures.exact) s)
 
 pub returns-in_ok-table-in-Ok-clause-broken : goal.returns-in_ok-table-in-Ok-clause-broken
 returns-in_ok-table-in-Ok-clause-broken c =
