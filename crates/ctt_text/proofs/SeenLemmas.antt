@@ -47,8 +47,8 @@ tells : (ts : List (List ℕ)) (x y : List ℕ) → is_among ts x ≡ true → (
 tells ts x y among = bool_case _ (bytes_eq y x)
     (λ is. rw is (eq-eqb (place_of ts y) (place_of ts x) (ap (place_of ts) (bytes_sound y x is))))
     (λ isnt. rw isnt (bool_case _ (place_of ts y == place_of ts x)
-        (λ same. absurd (true≢false (sym (same_bytes x) ∙ ap (λ z. bytes_eq z x) (sym (same_place ts x y among (eqb-true (place_of ts y) (place_of ts x) same))) ∙ isnt)))
-        (λ other. other)))
+    (λ same. absurd (true≢false (sym (same_bytes x) ∙ ap (λ z. bytes_eq z x) (sym (same_place ts x y among (eqb-true (place_of ts y) (place_of ts x) same))) ∙ isnt)))
+    (λ other. other)))
 
 -- the numbers of names, each once, are the numbers of the names, each once
 once_placed : (ts xs : List (List ℕ)) → Each (λ x. is_among ts x ≡ true) xs → each_once ◌==◌ (map (place_of ts) xs) ≡ map (place_of ts) (each_once bytes_eq xs)
@@ -56,7 +56,7 @@ once_placed ts [] known = refl
 once_placed ts (x ∷ xs) known =
     ap (λ r. place_of ts x ∷ filter (λ n. not (n == place_of ts x)) r) (once_placed ts xs known.1)
     ∙ ap (λ r. place_of ts x ∷ r) (filter_mapped (place_of ts) (λ n. not (n == place_of ts x)) (λ y. not (bytes_eq y x)) (each_once bytes_eq xs)
-        (Each-map (λ y. is_among ts y ≡ true) (λ y. not (place_of ts y == place_of ts x) ≡ not (bytes_eq y x)) (λ y is. ap not (tells ts x y known.0)) (each_once bytes_eq xs) (once_each bytes_eq bytes_sound (λ y. is_among ts y ≡ true) xs known.1)))
+    (Each-map (λ y. is_among ts y ≡ true) (λ y. not (place_of ts y == place_of ts x) ≡ not (bytes_eq y x)) (λ y is. ap not (tells ts x y known.0)) (each_once bytes_eq xs) (once_each bytes_eq bytes_sound (λ y. is_among ts y ≡ true) xs known.1)))
 
 -- a name that is not among others is past them
 past : (x : List ℕ) (ts : List (List ℕ)) → is_among ts x ≡ false → place_of ts x ≡ length ts
@@ -73,8 +73,8 @@ in_order before [] new = refl
 in_order before (t ∷ ts) new =
     let here : place_of (before ++ t ∷ ts) t ≡ length before = place_new (bytes_eq t) before t ts new.0 (same_bytes t) ∙ past t before new.0 in
     let on : map (place_of (before ++ t ∷ ts)) ts ≡ range_with_len (length before + 1) (length ts) =
-        subst (λ ns. map (place_of ns) ts ≡ range_with_len (length before + 1) (length ts)) (append_assoc before (t ∷ []) ts)
-            (in_order (before ++ t ∷ []) ts new.1 ∙ ap (λ n. range_with_len n (length ts)) (length-append before (t ∷ []))) in
+    subst (λ ns. map (place_of ns) ts ≡ range_with_len (length before + 1) (length ts)) (append_assoc before (t ∷ []) ts)
+    (in_order (before ++ t ∷ []) ts new.1 ∙ ap (λ n. range_with_len n (length ts)) (length-append before (t ∷ []))) in
     rw (here, on) refl
 
 -- the numbers of the teachers ascend from 0 as the courses first name them
@@ -142,5 +142,5 @@ pairs_few i names pairs all listed = marks_few place pairs i.unavailable (λ k h
     found : (k : ℕ) → get_or i.unavailable k false ≡ true → Row (length i.courses) (i.days * i.periods) k → list_any (λ p. place p == k) pairs ≡ true
     found k h at = any_weaker (is_listed names i.periods at.row at.column) (λ p. place p == k) pairs
         (λ p is. let parts = and_parts (place_of names p.course == at.row) (value p.day * i.periods + value p.period == at.column) is in
-            eq-eqb (place p) k (rw (eqb-true (place_of names p.course) at.row parts.0, eqb-true (value p.day * i.periods + value p.period) at.column parts.1) at.place))
+        eq-eqb (place p) k (rw (eqb-true (place_of names p.course) at.row parts.0, eqb-true (value p.day * i.periods + value p.period) at.column parts.1) at.place))
         (sym (listed at.row at.column at.row_below at.column_below) ∙ rw (lt-ltb at.column (i.days * i.periods) at.column_below) (ap (λ m. get_or i.unavailable m false) at.place ∙ h))
