@@ -1,12 +1,13 @@
 -- Replaying changes up to the first that does not fit, and the changes of a draft.
-use Rattle.std.proofs.Common.{◌≡◌, ◌||◌, ◌==◌, leb, length, false, ℕ, true, List, [], ◌∷◌, Option, Some, None, is_some, is_none, refl, ◌∙◌, sym}
+use Rattle.std.proofs.Common.{◌≡◌, ◌||◌, ◌==◌, leb, length, false, ℕ, true, List, [], ◌∷◌, Option, Some, None, is_some, is_none, refl, ap, ◌∙◌, sym}
 use Rattle.std.specs.List.{AllByRecursion as Each}
-use Rattle.std.proofs.lemmas.Bool.{and_parts, or_parts}
+use Rattle.std.proofs.lemmas.Bool.{true≢false, and_parts, or_parts}
+use Rattle.ctt_problem.proofs.TableLemmas.{bool_case}
 use Rattle.ctt_problem.proofs.TimetableLemmas.{Each-append}
 use Rattle.ctt_problem.specs.Problem.{Problem}
 use Rattle.ctt_problem.specs.declared.placed.Placed.{Placed}
 use Rattle.ctt_problem.specs.Timetable.{without}
-use Rattle.ctt_board.specs.Changes.{apply, apply_at, cell, is_change, in_turn, room_at}
+use Rattle.ctt_board.specs.Changes.{ChangeFits, apply, apply_at, cell, is_change, in_turn, room_at}
 use Rattle.ctt_board.specs.Fitting.{fits}
 use Rattle.ctt_board.specs.declared.cell.Cell.{Cell}
 use Rattle.ctt_board.proofs.FitLemmas.{fits_as_tested}
@@ -21,7 +22,7 @@ use Rattle.ctt_edits.specs.declared.fault.EditFault.TheVariants.{NotPlaced, Same
 use Rattle.ctt_edits.proofs.EditLemmas.{is_there}
 use Rattle.ctt_edits.proofs.FaultLemmas.{fault_if_none, or_else_none}
 use Rattle.ctt_draft.specs.Drafts.{after_call, made, changes}
-use Rattle.ctt_draft.specs.Replays.{replayed, all_fit, ReplayIsSettling, DraftReplays}
+use Rattle.ctt_draft.specs.Replays.{replayed, all_fit, ReplayStops, ReplayIsSettling, DraftReplays}
 use Rattle.ctt_draft.proofs.CallRuns.{made_edit}
 use Rattle.ctt_draft.proofs.FrameLemmas.{draft_frame, settling_fits}
 
@@ -39,6 +40,15 @@ replay_is_settling i [] t h are fit = (refl, refl)
 replay_is_settling i (x ∷ xs) t h are fit =
     let yes : fits i x t ≡ true = (fits_as_tested i x t h (turn_of x are.0)).1 fit.0 in
     rw yes (replay_is_settling i xs (apply x t) fit.0.lawful are.1 fit.1)
+
+pub replay_stops : ReplayStops
+replay_stops i [] t h are = record { first = []; rest = []; parts = refl; fit = tt; leaves = refl; end = refl }
+replay_stops i (x ∷ xs) t h are = bool_case _ (fits i x t)
+    (λ yes.
+    let fit : ChangeFits i x t = (fits_as_tested i x t h (turn_of x are.0)).0 yes in
+    let on = replay_stops i xs (apply x t) fit.lawful are.1 in
+    rw yes (record { first = x ∷ on.first; rest = on.rest; parts = ap (λ r. x ∷ r) on.parts; fit = (fit, on.fit); leaves = on.leaves; end = on.end }))
+    (λ no. rw no (record { first = []; rest = x ∷ xs; parts = refl; fit = tt; leaves = refl; end = (refl, λ fit. true≢false (sym ((fits_as_tested i x t h (turn_of x are.0)).1 fit) ∙ no)) }))
 
 -- the cells of an edit form a change: at most four, removals before additions
 swapped : (c s d s2 : ℕ) (o p : Option ℕ) → is_some o ≡ true → is_some p ≡ true → is_change (cell c s None ∷ cell d s2 None ∷ cell c s2 o ∷ cell d s p ∷ []) ≡ true

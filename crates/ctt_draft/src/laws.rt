@@ -1,7 +1,7 @@
 //! Laws of drafts, for the layers above. None of these functions computes anything.
 
 ghost use Rattle.ctt_draft.specs.Laws.{DraftFrame, SettlingFits, UndoPutsBack};
-ghost use Rattle.ctt_draft.specs.Replays.{ReplayIsSettling, DraftReplays};
+ghost use Rattle.ctt_draft.specs.Replays.{ReplayStops, ReplayIsSettling, DraftReplays};
 
 /// States that a draft that is not stale gets the same replies and makes the same changes on the
 /// present timetable as on its snapshot.
@@ -18,6 +18,11 @@ pub fn settling_fits()
 /// leave gives its snapshot.
 pub fn undo_puts_back()
     ensures { UndoPutsBack }
+{}
+
+/// States that a replay makes the changes before the first one that does not fit, and no others.
+pub fn replay_stops()
+    ensures { ReplayStops }
 {}
 
 /// States that if each change fits after the earlier ones, a replay makes all of them and has the
