@@ -62,7 +62,7 @@ def read_at(day: Day, number: Optional[int] = None) -> At:
         raise Refused(f"{day.name} has {has}, and no draft {number}", CONTENT)
     count = len(entries) if number is None else number
     instance = instance_of(day)
-    played = play_all(day, instance, entries[:count])
+    played = play_all(day, instance, [entry.edits() for entry in entries[:count]])
     return At(day, count, len(entries), instance, *played)
 
 

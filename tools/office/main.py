@@ -116,6 +116,9 @@ def do(words: argparse.Namespace, top: argparse.ArgumentParser) -> int:
     """Does a command. Each takes in what it needs alone."""
     if words.unproved and words.command not in ("open", "import"):
         top.error("--unproved is for open and import alone: a day remembers its program")
+    if "do" in words:
+        done: int = words.do(words)
+        return done
     if words.command == "import":
         from office.importing import import_folder
 
@@ -135,12 +138,9 @@ def do(words: argparse.Namespace, top: argparse.ArgumentParser) -> int:
         from office.closing import close_day
 
         return close_day(day, words.wait)
-    if words.command == "export":
-        from office.exporting import export_day
+    from office.exporting import export_day
 
-        return export_day(day, words.at, words.into)
-    done: int = words.do(words)
-    return done
+    return export_day(day, words.at, words.into)
 
 
 def main(typed: Optional[list[str]] = None) -> int:

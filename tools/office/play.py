@@ -2,16 +2,19 @@
 the timetable after any of them, as the program answers."""
 from __future__ import annotations
 
-from typing import Dict, List, NamedTuple
+from typing import Dict, Iterable, List, NamedTuple
 
 from office.costs import Costs, read_costs
 from office.folder import Day
 from office.instance import Instance
-from office.minutes import Entry
 from office.program import Left
 from office.refused import CONTENT, Refused
 from office.timetable import Lecture, read_lectures
 from office.words import decoded, encoded, words_of
+
+
+# the edits of a draft
+Edits = List[str]
 
 
 def read_missing(answer: str) -> Dict[str, int]:
@@ -28,9 +31,9 @@ class Played(NamedTuple):
     missing: Dict[str, int]
 
 
-def draft_lines(entry: Entry) -> List[str]:
+def draft_lines(edits: Edits) -> List[str]:
     """The lines of a script that make an accepted draft again, by its edits alone."""
-    return ["0 open", *(f"0 {edit}" for edit in entry.edits()), "0 commit"]
+    return ["0 open", *(f"0 {edit}" for edit in edits), "0 commit"]
 
 
 def answers(day: Day, lines: List[str]) -> List[str]:
@@ -46,18 +49,18 @@ def answers(day: Day, lines: List[str]) -> List[str]:
     return found
 
 
-def play_costs(day: Day, entries: List[Entry]) -> List[Costs]:
+def play_costs(day: Day, drafts: Iterable[Edits]) -> List[Costs]:
     """What the timetable cost at the start, and after each of the first drafts of a day."""
     lines = ["show cost"]
-    for entry in entries:
-        lines += [*draft_lines(entry), "show cost"]
+    for edits in drafts:
+        lines += [*draft_lines(edits), "show cost"]
     found = answers(day, lines)
     return [read_costs(answer) for line, answer in zip(lines, found) if line == "show cost"]
 
 
-def play_all(day: Day, instance: Instance, entries: List[Entry]) -> Played:
+def play_all(day: Day, instance: Instance, drafts: Iterable[Edits]) -> Played:
     """The timetable after the first drafts of a day."""
-    made = [line for entry in entries for line in draft_lines(entry)]
+    made = [line for edits in drafts for line in draft_lines(edits)]
     shows = [f"show course {course}" for course in instance.courses]
     *_, costs, missing = found = answers(day, [*made, *shows, "show cost", "show missing"])
     shown = found[len(made) : len(made) + len(shows)]

@@ -6,7 +6,7 @@ from typing import List, Optional
 from office.at import At, read_at
 from office.costs import COSTS
 from office.folder import Day
-from office.places import slot_words
+from office.label_files import read_labels
 
 
 def cost_lines(at: At) -> List[str]:
@@ -20,12 +20,16 @@ def cost_lines(at: At) -> List[str]:
 
 def whole_lines(at: At) -> List[str]:
     """All lectures, slot by slot, each with its room and its teacher."""
-    courses, lines = at.instance.courses, []
+    courses, lines, labels = at.instance.courses, [], read_labels(at.day.path)
     for slot in at.instance.slots():
         lectures = at.timetable.of_slot(slot)
         if lectures:
-            lines += ["", slot_words(slot)]
-        lines += [f"    {one.course}  {one.room}  {courses[one.course].teacher}" for one in lectures]
+            lines += ["", labels.slot(slot)]
+        lines += [
+            f"    {labels.course(one.course)}  {labels.room(one.room)}  "
+            f"{labels.teacher(courses[one.course].teacher)}"
+            for one in lectures
+        ]
     return lines
 
 

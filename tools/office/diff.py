@@ -1,0 +1,65 @@
+"""`office diff`: in which lectures two timetables differ, of one day or of two."""
+from __future__ import annotations
+
+from typing import List, Optional, Tuple
+
+from office.at import At, parse_at, read_at
+from office.drafts import exchanged, row_shifts
+from office.label_files import read_labels
+from office.log import difference_words
+from office.refused import CONTENT, Refused
+from office.shifts import Shift
+from office.text import counted
+from office.what import What, names_of
+from office.wording import Wording
+
+
+def differences(one: At, other: At) -> List[Shift]:
+    """What stands elsewhere in the other timetable, in the order of courses."""
+    rows, others = one.timetable.by_course, other.timetable.by_course
+    courses = dict.fromkeys([*rows, *others])
+    return [
+        shift
+        for course in courses
+        for shift in row_shifts(course, rows.get(course, {}), others.get(course, {}))
+    ]
+
+
+def concerns(what: What, one: At, other: At, shift: Shift) -> bool:
+    """Whether it concerns something, in either instance, what has become of a lecture."""
+    return any(
+        what.is_touched(at.instance, shift)
+        for at in (one, other)
+        if shift.course in at.instance.courses
+    )
+
+
+def lines_of(one: At, other: At, what: Optional[What]) -> List[str]:
+    """The differences in words."""
+    wording = Wording({}, read_labels(other.day.path))
+    shifts = [
+        shift
+        for shift in differences(one, other)
+        if what is None or concerns(what, one, other, shift)
+    ]
+    of = f", of {wording.view(*what)}" if what else ""
+    count = f"{counted(len(shifts), 'lecture')} differ{'s' if len(shifts) == 1 else ''}"
+    lines = [f"{one.title()} -> {other.title()}: {count}{of}"]
+    lines += [f"    {wording.shifts(group)}" for group in exchanged(shifts)]
+    return [*lines, difference_words(one.costs, other.costs)]
+
+
+def whose(one: At, other: At, kind: str, name: str) -> What:
+    """Whose lectures are compared: something that one of the instances has."""
+    if all(name not in names_of(at.instance, ())[kind] for at in (one, other)):
+        raise Refused(f"there is no {kind} {name}", CONTENT)
+    return What(kind, name)
+
+
+def print_diff(first: str, second: str, chosen: Optional[Tuple[str, str]] = None) -> int:
+    """Prints in what two timetables differ, each of a day, or as in `monday:9` after a draft; if
+    something is chosen, in what of it."""
+    one, other = read_at(*parse_at(first)), read_at(*parse_at(second))
+    what = whose(one, other, *chosen) if chosen else None
+    print("\n".join(lines_of(one, other, what)))
+    return 0

@@ -1,0 +1,120 @@
+"""The accepted drafts of a day as values: by whom and when each was committed and why, and what it
+did to each lecture."""
+from __future__ import annotations
+
+from dataclasses import dataclass
+from typing import Dict, Iterable, List, Tuple
+
+from office.at import instance_of
+from office.commit_notes import read_commit_notes
+from office.folder import Day
+from office.history import commits_of, read_pasts
+from office.instance import read_solution
+from office.minutes import read_minutes
+from office.seat import read_sitter
+from office.shifts import Shift, shifts_of
+from office.timetable import Lecture, Slot, Timetable
+
+Row = Dict[Slot, str]
+
+
+@dataclass(frozen=True)
+class Draft:
+    """An accepted draft. A name or a time that is not known is empty; so is a reason that was not
+    given."""
+
+    number: int
+    planner: int
+    name: str
+    time: str
+    why: str
+    edits: List[str]
+    # what stands elsewhere after it than before; what its edits have taken back is left out
+    shifts: List[Shift]
+
+
+def row_shifts(course: str, was: Row, now: Row) -> List[Shift]:
+    """What has become of the lectures of a course, which are all alike: those that keep their slot
+    have another room, the others are paired in the order of their slots."""
+    rooms = [slot for slot in sorted(was) if slot in now and was[slot] != now[slot]]
+    gone = [slot for slot in sorted(was) if slot not in now]
+    new = [slot for slot in sorted(now) if slot not in was]
+    old = [Lecture(course, was[slot], *slot) for slot in [*rooms, *gone]]
+    made = [Lecture(course, now[slot], *slot) for slot in [*rooms, *new]]
+    both = [Shift(one, other) for one, other in zip(old, made)]
+    dropped = [Shift(one, None) for one in old[len(both) :]]
+    return [*both, *dropped, *(Shift(None, one) for one in made[len(both) :])]
+
+
+def net(shifts: Iterable[Shift]) -> List[Shift]:
+    """What shifts, one after another, have done in the end."""
+    was: Dict[str, Row] = {}
+    now: Dict[str, Row] = {}
+    for shift in shifts:
+        old, new = was.setdefault(shift.course, {}), now.setdefault(shift.course, {})
+        if shift.was is not None and new.pop(shift.was.slot, None) is None:
+            old[shift.was.slot] = shift.was.room
+        if shift.now is not None:
+            new[shift.now.slot] = shift.now.room
+    return [one for course in was for one in row_shifts(course, was[course], now[course])]
+
+
+def exchanged(shifts: Iterable[Shift]) -> List[List[Shift]]:
+    """Shifts, each alone, but two lectures that have changed places as one."""
+    found: List[List[Shift]] = []
+    for shift in shifts:
+        for group in found:
+            if len(group) == 1 and are_exchanged(group[0], shift):
+                group.append(shift)
+                break
+        else:
+            found.append([shift])
+    return found
+
+
+def are_exchanged(one: Shift, other: Shift) -> bool:
+    """Whether two lectures have changed slots and rooms."""
+    if one.was is None or one.now is None or other.was is None or other.now is None:
+        return False
+    is_crossed = one.was[1:] == other.now[1:] and one.now[1:] == other.was[1:]
+    return is_crossed and one.course != other.course
+
+
+def make_draft(timetable: Timetable, edits: Iterable[str]) -> List[Shift]:
+    """Makes the edits of an accepted draft, and answers what has become of the lectures."""
+    found: List[Shift] = []
+    for edit in edits:
+        found += shifts_of(edit, timetable)
+        timetable.try_edit(edit)
+    return net(found)
+
+
+def start_of(day: Day) -> Timetable:
+    """The timetable with which a day began."""
+    has_start = "--start" in day.start_words()
+    return Timetable(instance_of(day), read_solution(day.start) if has_start else ())
+
+
+def told_of(day: Day) -> Dict[int, Tuple[str, str, str]]:
+    """Of each draft by whom, when and why it was committed, by the notes of commits, or without a
+    reason by the logs that are open to the reader."""
+    found = {
+        number: (name, time, "") for number, (time, name) in commits_of(read_pasts(day)).items()
+    }
+    for note in read_commit_notes(day).values():
+        found[note.number] = note.name, note.time, note.why
+    return found
+
+
+def read_drafts(day: Day) -> List[Draft]:
+    """The accepted drafts of a day in their order. Of a seat of which no log can be read the name
+    of who sits there is known."""
+    day.facts()
+    told, timetable = told_of(day), start_of(day)
+    found = []
+    for entry in read_minutes(day.minutes):
+        name, time, why = told.get(entry.number, ("", "", ""))
+        name = name or read_sitter(day, entry.planner)[0]
+        shifts = make_draft(timetable, entry.edits())
+        found.append(Draft(entry.number, entry.planner, name, time, why, entry.edits(), shifts))
+    return found

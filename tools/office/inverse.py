@@ -1,0 +1,149 @@
+"""The inverse of what a draft did, as edits on a timetable that others may have changed since.
+
+Each lecture goes back to where it stood before the draft, if it stands where the draft left it.
+Two that have changed places are swapped. Where several stand in each other's way, one is taken out
+first and placed last.
+"""
+from __future__ import annotations
+
+from typing import Iterable, List, NamedTuple, Optional, Tuple
+
+from office.drafts import exchanged
+from office.instance import Instance
+from office.notice import Notice, say
+from office.reasons import reason
+from office.shifts import Shift
+from office.timetable import Lecture, Timetable
+
+Group = List[Shift]
+
+
+class Kept(NamedTuple):
+    """A lecture that does not go back, and why."""
+
+    shift: Shift
+    why: Notice
+
+
+class Inverse(NamedTuple):
+    """The edits that can be made, in this order, and what stays as it is."""
+
+    edits: List[str]
+    kept: List[Kept]
+
+
+def edit_of(shift: Shift) -> str:
+    """The edit that does this to a lecture."""
+    was, now = shift
+    if was is None:
+        assert now is not None
+        return f"place {now.words()}"
+    if now is None:
+        return f"drop {was.course} {was.day} {was.period}"
+    if was.slot == now.slot:
+        return f"reroom {now.words()}"
+    return f"move {was.course} {was.day} {was.period} {now.room} {now.day} {now.period}"
+
+
+def edit_of_group(group: Group) -> str:
+    if len(group) == 1:
+        return edit_of(group[0])
+    one, other = group[0].was, group[1].was
+    assert one is not None and other is not None
+    return f"swap {one.course} {one.day} {one.period} {other.course} {other.day} {other.period}"
+
+
+def stands(timetable: Timetable, lecture: Lecture) -> bool:
+    return timetable.room_at(lecture.course, lecture.slot) == lecture.room
+
+
+def unknown_part(instance: Instance, shift: Shift) -> Optional[Notice]:
+    """Why an instance has no place for a lecture by its names and its slot alone."""
+    if shift.course not in instance.courses:
+        return say("no such course", course=shift.course)
+    now = shift.now
+    if now is not None and now.room not in instance.rooms:
+        return say("no such room", room=now.room)
+    if now is not None and now.slot not in instance.slots():
+        return say("no such slot", slot=now.slot)
+    return None
+
+
+def changed_since(timetable: Timetable, shift: Shift) -> Optional[Notice]:
+    """Why a lecture does not stand where it would have to go back from; None if it does."""
+    was, now = shift
+    if now is not None and stands(timetable, now):
+        return say("back already")
+    if was is None or stands(timetable, was):
+        return None
+    return say("changed since")
+
+
+class Way:
+    """Edits by which lectures go back, as far as they can, on a copy of a timetable."""
+
+    def __init__(self, timetable: Timetable, shifts: Iterable[Shift]) -> None:
+        self.timetable = timetable.copy()
+        self.edits: List[str] = []
+        self.groups = exchanged(shifts)
+        while self.groups and (self.make_some() or self.part_some() or self.lift_one()):
+            pass
+
+    def make_some(self) -> bool:
+        """Makes what can be made now, and answers whether something could."""
+        left = []
+        for group in self.groups:
+            edit = edit_of_group(group)
+            if self.timetable.try_edit(edit):
+                self.edits.append(edit)
+            else:
+                left.append(group)
+        is_made = len(left) < len(self.groups)
+        self.groups = left
+        return is_made
+
+    def part_some(self) -> bool:
+        """Lets lectures that cannot be swapped go back one by one."""
+        parted = [[shift] for group in self.groups for shift in group]
+        is_parted = len(parted) > len(self.groups)
+        self.groups = parted
+        return is_parted
+
+    def lift_one(self) -> bool:
+        """Takes a lecture out that stands in the way, to be placed later."""
+        for place, (shift,) in enumerate(self.groups):
+            if shift.was is not None:
+                self.edits.append(edit_of(Shift(shift.was, None)))
+                self.timetable.take(shift.course, shift.was.slot)
+                self.groups[place] = [Shift(None, shift.now)]
+                return True
+        return False
+
+    def failed(self) -> List[Tuple[Optional[Lecture], Notice]]:
+        """Where lectures cannot go, and why."""
+        found = []
+        for (shift,) in self.groups:
+            edit = edit_of(shift)
+            fault = self.timetable.fault(edit) or ""
+            found.append((shift.now, reason(self.timetable.instance, edit, fault)))
+        return found
+
+
+def invert(timetable: Timetable, shifts: Iterable[Shift]) -> Inverse:
+    """The inverse of what a draft did to lectures, on a timetable."""
+    back, kept = [], []
+    for shift in (Shift(one.now, one.was) for one in shifts):
+        why = unknown_part(timetable.instance, shift) or changed_since(timetable, shift)
+        if why is None:
+            back.append(shift)
+        else:
+            kept.append(Kept(shift, why))
+    while True:
+        way = Way(timetable, back)
+        if not way.groups:
+            return Inverse(way.edits, kept)
+        # what stays may be in the way of others: they are tried anew without it
+        for now, why in way.failed():
+            shift = next(one for one in back if one.now == now)
+            back.remove(shift)
+            kept.append(Kept(shift, why))

@@ -1,0 +1,97 @@
+"""`office revert`: makes what a draft did undone, as edits of a draft at a seat; nothing is committed
+by it."""
+from __future__ import annotations
+
+import os
+from typing import List, Optional, Tuple
+
+from office.at import parse_at
+from office.drafts import Draft, read_drafts
+from office.folder import Day, is_locked
+from office.history import read_pasts
+from office.label_files import read_labels
+from office.log import head_words
+from office.planning import Planning
+from office.refused import CONTENT, WORDS, Refused
+from office.seat import Seat
+from office.taking_back import TakenBack, kept_words, take_back
+from office.text import counted
+from office.wording import Wording
+
+
+def free_seat(day: Day) -> int:
+    """The first seat at which nobody sits and nothing is left to be decided."""
+    for planner, past in enumerate(read_pasts(day)):
+        if past is None or past.story.has_left or past.unfinished() or past.story.is_open:
+            continue
+        if not is_locked(day.sitter(planner)):
+            return planner
+    raise Refused(f"no seat of {day.path} is free: --seat names one, whose draft gets the edits")
+
+
+def find_draft(day: Day, number: int) -> Draft:
+    drafts = read_drafts(day)
+    if not 1 <= number <= len(drafts):
+        has = counted(len(drafts), "accepted draft") if drafts else "no accepted draft"
+        raise Refused(f"{day.name} has {has}, and no draft {number}", CONTENT)
+    return drafts[number - 1]
+
+
+def later_drafts(day: Day, of: Day, number: int) -> List[Draft]:
+    """The drafts of a day that were accepted after another one of it, or of an earlier day."""
+    is_same = os.path.realpath(day.path) == os.path.realpath(of.path)
+    return [draft for draft in read_drafts(day) if not is_same or draft.number > number]
+
+
+def parse_draft(day: Day, words: str) -> Tuple[Day, int]:
+    """Which draft is meant: a number of this day, or as in `monday:9` one of another day."""
+    if words.isascii() and words.isdigit():
+        return day, int(words)
+    of, number = parse_at(words)
+    if number is None:
+        raise Refused(f"no draft: {words}; it is a number, or as in monday:9", WORDS)
+    return of, number
+
+
+def sit_at(day: Day, planner: Optional[int], name: Optional[str]) -> Planning:
+    """A planner at a seat, by default at one that is free."""
+    seat = Seat(day, free_seat(day) if planner is None else planner, name)
+    planning = Planning(seat)
+    planning.begin()
+    if planning.ended() and not planning.is_open:
+        seat.go()
+        raise Refused(
+            f"seat {seat.planner} has a draft that is stale: first say there what becomes of it"
+        )
+    return planning
+
+
+def report(planning: Planning, draft: Draft, of: Day, taken: TakenBack) -> List[str]:
+    """What was made, and what not."""
+    seat = planning.seat
+    wording = Wording({}, read_labels(seat.day.path))
+    lines = [f"{of.name}, {head_words(draft)}"]
+    if taken.made:
+        lines.append(f"made in the draft of seat {seat.planner}, and not committed:")
+        lines += [f"    {wording.shifts(shifts)}" for shifts in taken.made]
+    if taken.kept:
+        lines.append("left as it is:")
+        lines += [f"    {kept_words(wording, kept)}" for kept in taken.kept]
+    if taken.made:
+        lines.append(f"office sit {seat.day.path} {seat.planner} shows it; c commits it there")
+    elif not taken.kept:
+        lines.append("it has changed nothing")
+    return lines
+
+
+def print_revert(day: Day, words: str, planner: Optional[int], name: Optional[str]) -> int:
+    """Makes the inverse of a draft at a seat, and prints what could be made."""
+    of, number = parse_draft(day, words)
+    draft = find_draft(of, number)
+    planning = sit_at(day, planner, name)
+    try:
+        taken = take_back(planning, draft, later_drafts(day, of, number))
+        print("\n".join(report(planning, draft, of, taken)))
+    finally:
+        planning.seat.go()
+    return 0 if taken.made or not taken.kept else CONTENT
