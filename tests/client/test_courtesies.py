@@ -89,7 +89,8 @@ class Pins(OfficeTest):
     def test_damaged(self):
         day = Day(self.room)
         with open(pins_path(day), "w") as file:
-            file.write("time\tpin\talg\tx\t1\tanna\twhy\nnonsense\ntime\tpin\talg\t0\t1\tanna\twhy\n")
+            for at_day in "x", "0":
+                file.write(f"time\tpin\talg\t{at_day}\t1\tanna\twhy\nnonsense\n")
         self.assertEqual(list(read_pins(day)), [("alg", (0, 1))])
 
 

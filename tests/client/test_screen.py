@@ -61,8 +61,8 @@ class Screens(OfficeTest):
         self.assertEqual((status, line), (0, "day: 2 drafts accepted, the audit agrees"))
         self.assertRegex(
             self.office("log", self.path("day"))[1],
-            r"1 planner 1 ben, [-0-9 :]+\n    swap c0014.*\n"
-            rf"2 planner 0 anna, [-0-9 :]+\n    {BEST}\n",
+            r"draft 1, ben at seat 1, [-0-9 :]+\n    c0014 .* <-> .*\n    cost .*\n"
+            rf"draft 2, anna at seat 0, [-0-9 :]+\n    {SAID}\n    cost .*\n",
         )
 
     def take_out_and_back(self, anna):

@@ -25,16 +25,18 @@ class Seats(OfficeTest):
         self.assertEqual(status, 0)
         self.assertRegex(
             printed,
-            r"^1 planner 1 Ben Ö, 20\d\d-\d\d-\d\d \d\d:\d\d:\d\d\n    place geo A 0 1\n"
-            r"2 planner 0 carla, 20\d\d-\d\d-\d\d \d\d:\d\d:\d\d\n    place top B 0 2\n$",
+            r"^draft 1, Ben Ö at seat 1, 20\d\d-\d\d-\d\d \d\d:\d\d:\d\d\n"
+            r"    geo: placed on day 1, period 2, A\n    cost 20 -> 17: .*\n"
+            r"draft 2, carla at seat 0, 20\d\d-\d\d-\d\d \d\d:\d\d:\d\d\n"
+            r"    top: placed on day 1, period 3, B\n    cost 17 -> 22: .*\n$",
         )
         self.assertTrue(
-            self.office("log", self.path("day"), "top")[1].startswith("2 planner 0 carla")
+            self.office("log", self.path("day"), "top")[1].startswith("draft 2, carla at seat 0")
         )
         self.assertEqual(self.office("log", self.path("day"), "alg"), (0, "", ""))
         self.assertEqual(
             self.office("log", self.path("day"), "x"),
-            (1, "", "office: the instance has no course x\n"),
+            (1, "", "office: there is no course, teacher, room, curriculum, planner or draft x\n"),
         )
 
     def test_answers_under_way(self):

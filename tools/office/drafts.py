@@ -3,12 +3,11 @@ did to each lecture."""
 from __future__ import annotations
 
 from dataclasses import dataclass
-from typing import Dict, Iterable, List, Tuple
+from typing import Dict, Iterable, List
 
 from office.at import instance_of
-from office.commit_notes import read_commit_notes
 from office.folder import Day
-from office.history import commits_of, read_pasts
+from office.history import NOT_TOLD, read_told
 from office.instance import read_solution
 from office.minutes import read_minutes
 from office.seat import read_sitter
@@ -95,25 +94,14 @@ def start_of(day: Day) -> Timetable:
     return Timetable(instance_of(day), read_solution(day.start) if has_start else ())
 
 
-def told_of(day: Day) -> Dict[int, Tuple[str, str, str]]:
-    """Of each draft by whom, when and why it was committed, by the notes of commits, or without a
-    reason by the logs that are open to the reader."""
-    found = {
-        number: (name, time, "") for number, (time, name) in commits_of(read_pasts(day)).items()
-    }
-    for note in read_commit_notes(day).values():
-        found[note.number] = note.name, note.time, note.why
-    return found
-
-
 def read_drafts(day: Day) -> List[Draft]:
     """The accepted drafts of a day in their order. Of a seat of which no log can be read the name
     of who sits there is known."""
     day.facts()
-    told, timetable = told_of(day), start_of(day)
+    told, timetable = read_told(day), start_of(day)
     found = []
     for entry in read_minutes(day.minutes):
-        name, time, why = told.get(entry.number, ("", "", ""))
+        name, time, why = told.get(entry.number, NOT_TOLD)
         name = name or read_sitter(day, entry.planner)[0]
         shifts = make_draft(timetable, entry.edits())
         found.append(Draft(entry.number, entry.planner, name, time, why, entry.edits(), shifts))

@@ -63,6 +63,14 @@ def read_text(path: str) -> str:
         return ""
 
 
+def file_size(path: str) -> int:
+    """How long a file is, 0 if it cannot be seen."""
+    try:
+        return os.stat(path).st_size
+    except OSError:
+        return 0
+
+
 class Day:
     """The folder of a day."""
 

@@ -1,10 +1,23 @@
-"""Who committed the accepted drafts of a day and when, by the logs of its seats."""
+"""By whom, when and why the drafts of a day were committed, by the logs of its seats and the notes
+of commits."""
 from __future__ import annotations
 
-from typing import Optional
+from typing import NamedTuple, Optional
 
+from office.commit_notes import read_commit_notes
 from office.folder import Day
 from office.seatlog import SeatPast, read_past
+
+
+class Told(NamedTuple):
+    """By whom, when and why a draft was committed, as far as it is known."""
+
+    name: str
+    time: str
+    why: str
+
+
+NOT_TOLD = Told("", "", "")
 
 
 def read_pasts(day: Day) -> list[Optional[SeatPast]]:
@@ -23,4 +36,14 @@ def commits_of(pasts: list[Optional[SeatPast]]) -> dict[int, tuple[str, str]]:
     found: dict[int, tuple[str, str]] = {}
     for past in pasts:
         found.update(past.commits if past else {})
+    return found
+
+
+def read_told(day: Day) -> dict[int, Told]:
+    """What is known of each draft: by the notes of commits, or without a reason by the logs that
+    are open to the reader."""
+    commits = commits_of(read_pasts(day))
+    found = {number: Told(name, time, "") for number, (time, name) in commits.items()}
+    for note in read_commit_notes(day).values():
+        found[note.number] = Told(note.name, note.time, note.why)
     return found

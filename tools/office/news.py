@@ -3,11 +3,11 @@ from __future__ import annotations
 
 from collections import Counter
 from dataclasses import dataclass
-from typing import Dict, List, Tuple
+from typing import Dict, List
 
-from office.commit_notes import read_commit_notes
-from office.folder import Day
-from office.history import commits_of, read_pasts
+from office.commit_notes import notes_path, read_commit_notes
+from office.folder import Day, file_size
+from office.history import Told, commits_of, read_pasts
 from office.minutes import Entry
 from office.notice import Notice, say
 from office.seat import read_sitter
@@ -52,26 +52,36 @@ class News:
     def __init__(self, day: Day) -> None:
         self.day = day
         self.accepted: List[Accepted] = []
-        self._told: Dict[int, Tuple[str, str]] = {}
+        self._told: Dict[int, Told] = {}
+        # how long the notes of commits were when they were read
+        self._size = -1
 
     def hear(self, entry: Entry, shifts: List[List[Shift]], heard: str) -> None:
         """Takes up an accepted draft."""
         self.accepted.append(Accepted(entry, shifts, heard))
 
-    def told(self, accepted: Accepted) -> Tuple[str, str]:
-        """The name of who committed a draft, and the time: by the notes of commits, by the logs, as
-        far as they are open to this planner, else who sits there now, and when it was heard of."""
-        number = accepted.entry.number
-        if number not in self._told:
-            found = dict(commits_of(read_pasts(self.day)))
+    def told(self, accepted: Accepted) -> Told:
+        """By whom, when and why a draft was committed: by the notes of commits, else by the logs,
+        as far as they are open to this planner, else who sits there now, and when it was heard
+        of."""
+        size = file_size(notes_path(self.day))
+        if size != self._size:
+            self._size = size
             for note in read_commit_notes(self.day).values():
-                found[note.number] = (note.time, note.name)
-            time, name = found.get(number, ("", ""))
-            name = name or read_sitter(self.day, accepted.entry.planner)[0]
-            self._told[number] = (name, time or accepted.heard)
-        return self._told[number]
+                self._told[note.number] = Told(note.name, note.time, note.why)
+        if accepted.entry.number not in self._told:
+            self._read_logs()
+        return self._told[accepted.entry.number]
+
+    def _read_logs(self) -> None:
+        """What is known of the drafts of which there are no notes."""
+        commits = commits_of(read_pasts(self.day))
+        for one in self.accepted:
+            time, name = commits.get(one.entry.number, ("", ""))
+            name = name or read_sitter(self.day, one.entry.planner)[0]
+            self._told.setdefault(one.entry.number, Told(name, time or one.heard, ""))
 
     def who(self, accepted: Accepted) -> Notice:
         """Who committed a draft: the name, or the seat of somebody without one."""
-        name, planner = self.told(accepted)[0], accepted.entry.planner
+        name, planner = self.told(accepted).name, accepted.entry.planner
         return say("named", name=name) if name else say("seat", planner=planner)

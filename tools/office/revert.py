@@ -1,4 +1,4 @@
-"""`office revert`: makes what a draft did undone, as edits of a draft at a seat; nothing is committed
+"""`office revert`: takes back what a draft did, by edits of a draft at a seat; nothing is committed
 by it."""
 from __future__ import annotations
 

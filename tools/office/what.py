@@ -57,7 +57,7 @@ def find_what(words: List[str], instance: Instance, drafts: List[Draft]) -> What
             raise Refused(f"there is no {kind} {name}", CONTENT)
         return What(kind, name)
     if len(words) != 1:
-        raise Refused(f"no name, nor one of {', '.join(KINDS)} with a name: {' '.join(words)}", WORDS)
+        raise Refused(f"a name, or {', '.join(KINDS)} and a name: {' '.join(words)}", WORDS)
     found = [kind for kind in KINDS if words[0] in names[kind]]
     if not found:
         *most, last = KINDS
