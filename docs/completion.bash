@@ -132,7 +132,7 @@ _office() {
             option=
         elif [[ $word == --* || $word == -o ]]; then
             given+="$word "
-            [[ $word =~ ^--(help|plain|unproved)$ ]] || option=$word
+            [[ $word =~ ^--(help|json|plain|unproved)$ ]] || option=$word
         elif [[ -z $command ]]; then
             command=$word
         else
@@ -147,6 +147,9 @@ _office() {
     sit) options='--name --plain' ;;
     close) options='--wait' ;;
     show) options='--at' ;;
+    log) options='--json' ;;
+    diff) options='--course --curriculum --room --teacher' ;;
+    revert) options='--name --seat' ;;
     import) options='--output' ;;
     export) options='--at --output' ;;
     esac
@@ -162,10 +165,17 @@ _office() {
     *:--start) _timedesk_files "$typed" .sol ;;
     *:--instance | open:1) _timedesk_files "$typed" .ctt ;;
     *:--barred) _timedesk_files "$typed" '' ;;
+    diff:--course | diff:--curriculum | diff:--room | diff:--teacher)
+        _timedesk_names "$typed" "$option" "${day%:*}/instance.ctt"
+        ;;
     *:--*) ;;
-    :0) _timedesk_words "$typed" close export import log open show sit status ;;
-    *:0) _office_days "$typed" ;;
-    log:1) _timedesk_names "$typed" --course "$day/instance.ctt" ;;
+    :0) _timedesk_words "$typed" close diff export import log open revert show sit status ;;
+    *:0 | diff:1) _office_days "$typed" ;;
+    log:1)
+        for option in --course --curriculum --room --teacher; do
+            _timedesk_names "$typed" "$option" "$day/instance.ctt"
+        done
+        ;;
     esac
 }
 

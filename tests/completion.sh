@@ -127,13 +127,17 @@ offers '' timedesk week cut.ctt monday.sol --curriculum ''
 mkdir monday tuesday
 touch monday/day.json
 cp small.ctt monday/instance.ctt
-offers $'close\nexport\nimport\nlog\nopen\nshow\nsit\nstatus' office ''
+offers $'close\ndiff\nexport\nimport\nlog\nopen\nrevert\nshow\nsit\nstatus' office ''
 offers $'show\nsit\nstatus' ./office s
 offers $'open' office --unproved o
 offers $'--help\n--unproved' office -
 offers $'monday' office sit ''
 offers '' office sit monday ''
-offers $'alg\ngeo\ntop' office log monday ''
+# shellcheck disable=SC2016
+offers $'$(touch,hit)\nA\nalg\ngeo\nq1\nq2\nt1\nt2\ntop' office log monday ''
+offers $'monday' office diff monday mon
+offers $'t1\nt2' office diff monday:1 monday --teacher ''
+offers $'monday' office revert ''
 offers $'small.ctt' office open wednesday s
 offers $'monday' office open wednesday --after ''
 offers $'small.ctt' office open wednesday --after monday --instance s

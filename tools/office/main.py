@@ -17,6 +17,10 @@ EXAMPLES = """a day, and the next one:
   office status monday
   office close monday
   office open tuesday --after monday
+what was done, and taken back:
+  office log monday c0109
+  office diff monday tuesday --teacher t005
+  office revert tuesday monday:9
 
 A day is a folder, with all that belongs to it. Close it also after a crash:
 what was committed is on the disk. `office COMMAND --help` explains a command,
