@@ -10,7 +10,7 @@ use Rattle.ctt_files.specs.Texts.{Held}
 use Rattle.ctt_files.specs.declared.fault.Fault.{Fault}
 use Rattle.ctt_files.proofs.Plain.{IsPlain, file_text_plain, files_plain, start_plain, unwritten_more}
 use Rattle.ctt_commands.specs.Faults.{IsOpeningFault, fault_of_journal, KeptUnless}
-use Rattle.ctt_commands.specs.Refusals.{IsOfAudited, IsOfJournal, IsOfOpening, IsOfScript, IsOfScripts, IsOfCrewWork, IsOfWork}
+use Rattle.ctt_commands.specs.Refusals.{IsOfAudited, IsOfJournal, IsOfOpening, IsOfScript, IsOfScripts, IsOfWork}
 
 pub journal_plain : (met : JournalFault) → IsPlain (fault_of_journal met)
 journal_plain (journal.NotText byte) = tt
@@ -39,11 +39,8 @@ audited_plain journal start held problem fault is = ⊎_elim (λ none. journal_f
 pub work_plain : (fault : Fault) → IsOfWork fault → IsPlain fault
 work_plain fault is = ⊎_elim (λ same. subst IsPlain (sym same) tt) (λ other. ⊎_elim (λ same. subst IsPlain (sym same) tt) (λ same. subst IsPlain (sym same) tt) other) is
 
-crew_work_plain : (fault : Fault) → IsOfCrewWork fault → IsPlain fault
-crew_work_plain fault is = ⊎_elim (λ work. work_plain fault work) (λ same. subst IsPlain (sym same) tt) is
-
 pub scripts_plain : (names : List (String Global)) (held : Held) (problem : Problem) (fault : Fault) → IsOfScripts names held problem fault → IsPlain fault
-scripts_plain names held problem fault is = ⊎_elim (λ files. files_plain names held fault files) (λ work. crew_work_plain fault work) is
+scripts_plain names held problem fault is = ⊎_elim (λ files. files_plain names held fault files) (λ work. work_plain fault work) is
 
 -- weaker claims of unchanged files, and of the cause of a change
 pub kept_weaker : (fault : Fault) (S R K L : Type 0) → (S → R) → (K → L) → KeptUnless fault S K → KeptUnless fault R L

@@ -16,7 +16,7 @@ use Rattle.ctt_script.specs.declared.journal_fault.JournalFault.TheVariants as j
 use Rattle.ctt_script.specs.declared.script_fault.ScriptFault.{ScriptFault}
 use Rattle.ctt_script.specs.declared.script_fault.ScriptFault.TheVariants as script
 use Rattle.ctt_files.specs.declared.fault.Fault.{Fault}
-use Rattle.ctt_files.specs.declared.fault.Fault.TheVariants.{CannotRead, CannotWrite, Journal, NoMemory, NoPlace, NoThread, NotYours, Opening, TooLong}
+use Rattle.ctt_files.specs.declared.fault.Fault.TheVariants.{CannotRead, CannotWrite, Journal, NoMemory, NoPlace, NoThread, Opening, TooLong}
 use Rattle.ctt_files.specs.Faults.{IfUnwritten}
 
 -- the fault of a refused journal
@@ -30,7 +30,6 @@ fault_of_journal journal.NoMemory = NoMemory
 abbrev pub fault_of_crew : CrewFault → Fault
 fault_of_crew crew.NoPlace = NoPlace
 fault_of_crew (crew.NoThread planner) = NoThread
-fault_of_crew crew.NotYours = NotYours
 fault_of_crew crew.NoMemory = NoMemory
 
 -- the line that reports the lecture, counted from 1, that cannot be placed in an opening

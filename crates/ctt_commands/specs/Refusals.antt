@@ -11,7 +11,7 @@ use Rattle.ctt_script.specs.JournalText.{IsJournalCauseOf}
 use Rattle.ctt_files.specs.Refusals.{IsNoText, IsOfFiles, IsOfInstanceOr, IsOfSolution, IsOfStart, IsOfText, IsTooLong}
 use Rattle.ctt_files.specs.Texts.{Held, Holds, IsStart}
 use Rattle.ctt_files.specs.declared.fault.Fault.{Fault}
-use Rattle.ctt_files.specs.declared.fault.Fault.TheVariants.{CannotRead, NoMemory, NoPlace, NoThread, NotYours, TooLong, TooManyScripts}
+use Rattle.ctt_files.specs.declared.fault.Fault.TheVariants.{CannotRead, NoMemory, NoPlace, NoThread, TooLong, TooManyScripts}
 use Rattle.ctt_commands.specs.Faults.{IsOpeningFault, fault_of_journal}
 use Rattle.ctt_commands.specs.Texts.{IsJournalText, IsNoJournal, IsUnlawfulStart}
 
@@ -51,13 +51,9 @@ IsOfAudited journal start held problem fault = IsOfJournal journal held problem 
 abbrev pub IsOfWork : Fault → Type 0
 IsOfWork fault = (fault ≡ NoPlace) ⊎ ((fault ≡ NoThread) ⊎ (fault ≡ NoMemory))
 
--- the same, or a planner of a crew had seen more drafts than its desk has
-abbrev pub IsOfCrewWork : Fault → Type 0
-IsOfCrewWork fault = IsOfWork fault ⊎ (fault ≡ NotYours)
-
 -- a fault of a script's file, or of the crew's work
 abbrev pub IsOfScripts : List (String Global) → Held → Problem → Fault → Type 0
-IsOfScripts names held problem fault = IsOfFiles names held fault ⊎ IsOfCrewWork fault
+IsOfScripts names held problem fault = IsOfFiles names held fault ⊎ IsOfWork fault
 
 -- why the command `run` is refused
 abbrev pub IsOfRun : Held → String Global → Option (String Global) → String Global → Option (String Global) → Fault → Type 0

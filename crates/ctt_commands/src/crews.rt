@@ -7,7 +7,7 @@ ghost use Rattle.ctt_files.specs.Texts.{HoldInTurn};
 ghost use Rattle.ctt_files.specs.declared.fault.Fault.TheVariants.{TooManyScripts};
 ghost use Rattle.ctt_commands.specs.Crews.{IsOfCrewOn, WritesCrew};
 ghost use Rattle.ctt_commands.specs.Faults.{fault_of_crew};
-ghost use Rattle.ctt_commands.specs.Refusals.{IsOfCrew, IsOfCrewWork, IsOfScripts};
+ghost use Rattle.ctt_commands.specs.Refusals.{IsOfCrew, IsOfWork, IsOfScripts};
 
 use ctt_crew::{CrewFault, NoGate};
 use ctt_files::{Fault, Files, Outcome, Printed, fetch_instance, read_files};
@@ -25,7 +25,6 @@ fn refused_crew(fault: CrewFault) -> Fault
     match fault {
         CrewFault::NoPlace => Fault::NoPlace,
         CrewFault::NoThread(_) => Fault::NoThread,
-        CrewFault::NotYours => Fault::NotYours,
         CrewFault::NoMemory => Fault::NoMemory,
     }
 }
@@ -41,7 +40,7 @@ fn answers<R: Threads + Wait + Sync>(
     requires few { length texts.now ≤ 64 }
     ensures crew { IfOk result (λ bytes.
         IsCrewText instance.now [] (map (λ t. t.items) texts.now) bytes.items) }
-    ensures cause { IfErr result IsOfCrewWork }
+    ensures cause { IfErr result IsOfWork }
 {
     let mut scripts: Vec<&[u8]> = Vec::with_capacity(alloc, texts.len())?;
     for text in texts {

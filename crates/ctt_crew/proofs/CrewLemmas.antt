@@ -1,5 +1,5 @@
 -- The planners of a crew.
-use Rattle.std.proofs.Common.{◌≡◌, ◌∙◌, ◌+◌, ◌<◌, ◌++◌, ◌∷◌, List, [], ℕ, inl, inr, length, map, zip, refl, ap, sym, subst, Result, Ok, Err}
+use Rattle.std.proofs.Common.{◌≡◌, ◌∙◌, ◌+◌, ◌<◌, ◌++◌, ◌∷◌, List, [], ℕ, length, map, zip, refl, ap, sym, subst, Result, Ok, Err}
 use Rattle.std.specs.Prelude.{IfErr, IfOk, IsOkAnd}
 use Rattle.std.proofs.lemmas.List.{map-append}
 use Rattle.ctt_problem.specs.Problem.{Problem}
@@ -26,8 +26,7 @@ added_fits (Err refused) planner n fault within is = subst (IsCrewFault n) (sym 
 
 -- a fault of the run, or of the desk's end, is a fault of the crew
 pub report_fits : {A : Type 0} (done : Result A CrewFault) (n : ℕ) (fault : CrewFault) → IfErr done (IsCrewFault n) → IsReportFault done fault → IsCrewFault n fault
-report_fits (Ok a) n fault fits (inl is) = subst (IsCrewFault n) (sym is) tt
-report_fits (Ok a) n fault fits (inr is) = subst (IsCrewFault n) (sym is) tt
+report_fits (Ok a) n fault fits is = subst (IsCrewFault n) (sym is) tt
 report_fits (Err why) n fault fits is = subst (IsCrewFault n) (sym is) fits
 
 -- the report of the answers to some scripts

@@ -1,5 +1,5 @@
 -- The faults of a crew, and their causes.
-use Rattle.std.specs.Prelude.{ℕ, ◌<◌, ◌≡◌, ◌⊎◌, Result, Ok, Err}
+use Rattle.std.specs.Prelude.{ℕ, ◌<◌, ◌≡◌, Result, Ok, Err}
 use Rattle.ctt_desk.specs.declared.shared_fault.SharedFault.{SharedFault}
 use Rattle.ctt_desk.specs.declared.shared_fault.SharedFault.TheVariants.{Unlawful, NoPlace as Unplaced, NoMemory}
 use Rattle.ctt_crew.specs.declared.crew_fault.CrewFault.{CrewFault}
@@ -15,7 +15,6 @@ of_shared NoMemory = crew_fault.NoMemory
 abbrev pub IsCrewFault : ℕ → CrewFault → Type 0
 IsCrewFault planners (crew_fault.NoThread p) = p < planners
 IsCrewFault planners crew_fault.NoPlace = Unit {0}
-IsCrewFault planners crew_fault.NotYours = Unit {0}
 IsCrewFault planners crew_fault.NoMemory = Unit {0}
 
 -- why a planner's thread was not added: memory ran out after it was started, or it was not started
@@ -23,12 +22,7 @@ abbrev pub added_fault : {T E : Type 0} → ℕ → Result T E → CrewFault
 added_fault planner (Ok thread) = crew_fault.NoMemory
 added_fault planner (Err refused) = crew_fault.NoThread planner
 
--- why a desk that its planners have left gives no report: one of them had seen more than it has, or
--- memory ran out
-abbrev pub IsEndFault : CrewFault → Type 0
-IsEndFault fault = (fault ≡ crew_fault.NotYours) ⊎ (fault ≡ crew_fault.NoMemory)
-
--- why there is no report: a fault of the end if the run succeeded, or else the fault of the run
+-- why there is no report: memory ran out for it if the run succeeded, or else the fault of the run
 abbrev pub IsReportFault : {A : Type 0} → Result A CrewFault → CrewFault → Type 0
-IsReportFault (Ok done) fault = IsEndFault fault
+IsReportFault (Ok done) fault = fault ≡ crew_fault.NoMemory
 IsReportFault (Err why) fault = fault ≡ why

@@ -1,9 +1,8 @@
-//! The end of a crew's desk, whose planners must not have seen more than it has.
+//! The end of a crew's desk.
 
-ghost use Rattle.std.specs.Prelude.{◌≡◌, All, IfErr, IfOk, IsOkAnd, map, string_bytes};
-ghost use mathlib.Core.List.{IsPrefix};
-ghost use Rattle.ctt_seat.specs.Attended.{IsClosing};
-ghost use Rattle.ctt_crew.specs.CrewFaults.{IsEndFault, IsReportFault};
+ghost use Rattle.std.specs.Prelude.{◌≡◌, IfErr, IfOk, IsOkAnd, map, string_bytes};
+ghost use Rattle.ctt_seat.specs.Attended.{HoldsSeen, IsClosing};
+ghost use Rattle.ctt_crew.specs.CrewFaults.{IsReportFault};
 ghost use Rattle.ctt_crew.specs.declared.crew_fault.CrewFault.TheVariants as crew_fault;
 
 use crate::crew_fault::CrewFault;
@@ -14,21 +13,16 @@ use ctt_seat::{closing_report, end_desk};
 use std::alloc::Global;
 use std::sync::Wait;
 
-/// Ends a desk that these planners have left. Fails if one of them has seen more than the desk has.
+/// Ends a desk that these planners have left. It returns the journal in any case.
 fn closed_after<S: Timetable, J: Naming, R: Wait>(
     rt: &R,
     desk: SharedDesk<S, J>,
     planners: &mut [Planner<S, J>],
-) -> Result<Closed<S, J>, CrewFault>
-    ensures begins { IfOk result (λ closed. All (λ p. IsPrefix p.front closed) planners.old) }
-    ensures fault { IfErr result (λ fault. fault ≡ crew_fault.NotYours) }
+) -> Closed<S, J>
+    ensures { HoldsSeen planners.old result }
 {
     match desk.close(rt, planners) {
-        Ok(closed) => Ok(closed),
-        Err(closed) => {
-            let_go(closed);
-            Err(CrewFault::NotYours)
-        }
+        Ok(closed) | Err(closed) => closed,
     }
 }
 
@@ -42,10 +36,10 @@ fn report_after<S: Timetable, J: Naming, R: Wait>(
 ) -> Result<Vec<u8>, CrewFault>
     ensures closes { IfOk result (λ text. IsClosing J.problem J.opening planners.items
         (map string_bytes answers.items) text.items) }
-    ensures fault { IfErr result IsEndFault }
+    ensures fault { IfErr result (λ fault. fault ≡ crew_fault.NoMemory) }
 {
     let mut planners = planners;
-    let closed = closed_after(rt, desk, planners.as_mut_slice())?;
+    let closed = closed_after(rt, desk, planners.as_mut_slice());
     let report = closing_report(alloc, &closed, answers);
     let_go(closed);
     match report {

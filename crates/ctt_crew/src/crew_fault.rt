@@ -19,9 +19,6 @@ pub enum CrewFault {
     /// The thread of this planner could not be started.
     #[error("no thread")]
     NoThread(PlannerNo),
-    /// A planner had seen more drafts than the desk has.
-    #[error("not yours")]
-    NotYours,
     /// There is not enough memory.
     #[error("no memory")]
     NoMemory,

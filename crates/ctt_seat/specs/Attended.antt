@@ -1,5 +1,5 @@
 -- How a planner follows his script, and the report of a crew.
-use Rattle.std.specs.Prelude.{◌≡◌, ◌∷◌, ℕ, All, List, [], filter, length, map, zip, Option}
+use Rattle.std.specs.Prelude.{◌≡◌, ◌≤◌, ◌⊎◌, ◌∷◌, ℕ, All, List, [], filter, length, map, zip, Option}
 use mathlib.Core.List.{IsPrefix}
 use Rattle.ctt_problem.specs.Problem.{Problem}
 use Rattle.ctt_problem.specs.declared.placed.Placed.{Placed}
@@ -41,16 +41,21 @@ AreAttended i t0 [] [] [] = Unit {0}
 AreAttended i t0 (who ∷ more) (q ∷ others) (text ∷ texts) = IsAttended i t0 who q text × AreAttended i t0 more others texts
 AreAttended i t0 _ _ _ = ⊥
 
+-- the history begins with all that each planner has seen, or one of them has seen more drafts than
+-- it has
+abbrev pub HoldsSeen : List PlannerValue → List JournalEntry → Type 0
+HoldsSeen planners history = All (λ (p : PlannerValue). IsPrefix p.front history) planners ⊎ ¬ All (λ (p : PlannerValue). length p.front ≤ length history) planners
+
 -- the report has these answers, the length of a legal history on the opening, and the costs of the
--- opening after it; the history begins with all that each planner has seen
+-- opening after it; the history holds what the planners have seen
 pub record IsClosing (problem : Problem) (opening : List Placed) (planners : List PlannerValue) (answers : List (List ℕ)) (text : List ℕ) : Type 0 where
   pub history : List JournalEntry
   pub legal : Legal problem opening history
-  pub begins : All (λ (p : PlannerValue). IsPrefix p.front history) planners
+  pub holds : HoldsSeen planners history
   pub is : text ≡ closing_text problem opening answers history
 
 -- the report of a crew: the answers to these scripts, each followed by the planner of the same
--- number, and last lines for a history that begins with all that each planner had seen when he left
+-- number, and last lines for a history that holds what each planner had seen when he left
 pub record IsCrewText (problem : Problem) (opening : List Placed) (scripts : List (List ℕ)) (text : List ℕ) : Type 0 where
   pub planners : List PlannerValue
   pub answers : List (List ℕ)

@@ -1,4 +1,4 @@
-use Rattle.std.proofs.Common.{◌≡◌, ◌∙◌, [], ap, map, string_bytes, List, ℕ}
+use Rattle.std.proofs.Common.{◌≡◌, ◌∙◌, [], ap, inl, map, string_bytes, List, ℕ}
 use Rattle.std.proofs.lemmas.List.Elements.{All-nil}
 use mathlib.Core.List.{IsPrefix}
 use Rattle.ctt_problem.specs.Problem.{Problem}
@@ -16,7 +16,7 @@ is_closing_text problem opening history text legal is = record {
   planners = [];
   answers = [];
   attended = tt;
-  closes = record { history = history; legal = legal; begins = All-nil (λ (p : PlannerValue). IsPrefix p.front history); is = is };
+  closes = record { history = history; legal = legal; holds = inl (All-nil (λ (p : PlannerValue). IsPrefix p.front history)); is = is };
 }
 
 pub returns-clause-text : goal.returns-clause-text
