@@ -3,7 +3,7 @@ use Rattle.std.proofs.Common.{◌≡◌, ◌<◌, ◌⊎◌, ⊎_elim, length, a
 use Rattle.std.specs.Global.{Global}
 use Rattle.std.specs.Io.KnownBytes.{Appends}
 use Rattle.std.specs.declared.string.String.{String}
-use Rattle.ctt_words.specs.Jobs.{AreRefused, IsFaultOf, IsJobOf, IsRequest, faults_of}
+use Rattle.ctt_words.specs.Jobs.{AreRefused, IsFaultOf, IsJobOf}
 use Rattle.ctt_words.specs.declared.job.Job.{Job}
 use Rattle.ctt_words.specs.declared.job.Task.{Task}
 use Rattle.ctt_words.specs.declared.job.Task.TheVariants.{Audit, Compare, Crew, Desk, Journal as Journals, Listing, Mending, Run, Show, Where}
@@ -23,7 +23,7 @@ use Rattle.ctt_program.specs.Reporting.{SaysFault}
 use Rattle.ctt_program.specs.Jobs.{HasBadSeats, Storing, scripts_of}
 use Rattle.ctt_commands.specs.Refusals.{IsOfAudited, IsOfScript, IsOfScripts}
 use Rattle.ctt_program.specs.Refusals.{IsOfMinutes, IsOfSeats}
-use Rattle.ctt_program.specs.Work.{AsksForBadSeats, AsksForRefusedText, AsksForTooMany, GivesHelp, HasCause, IsOfHelp, IsOfJob, IsOfTask}
+use Rattle.ctt_program.specs.Work.{AsksForBadSeats, AsksForRefusedText, AsksForTooMany, HasCause, IsOfHelp, IsOfJob, IsOfTask}
 use Rattle.ctt_commands.proofs.Plain.{audited_plain, script_plain, scripts_plain}
 use Rattle.ctt_program.proofs.Plain.{minutes_plain, seats_plain}
 
@@ -176,11 +176,6 @@ asked_one words held failed (NoRoom name) has one = ((NoRoom name), one, has)
 asked_one words held failed (NoWord word file) has one = ((NoWord word file), one, has)
 
 -- ---- the answer to words that ask for no job
-
-pub help_asked : (words : List (List ℕ)) (fault : WordsFault) → IsFaultOf words fault → GivesHelp fault → IsRequest (faults_of words)
-help_asked words (Help text) is helps = is
-help_asked words (Refused text) is helps = absurd helps
-help_asked words no.NoMemory is helps = absurd helps
 
 pub help_caused : (words : List (List ℕ)) (held : Held) (failed : Bool) (fault : WordsFault) (told : Fault) → IsFaultOf words fault → IsOfHelp fault failed told → HasCause words held failed told
 help_caused words held failed (Help text) told is of = subst (HasCause words held failed) (sym of.0) (inl of.1)

@@ -5,7 +5,7 @@ use Rattle.std.specs.Global.{Global}
 use Rattle.std.specs.Io.KnownBytes.{Appends}
 use Rattle.std.specs.String.{string_bytes}
 use Rattle.std.specs.declared.string.String.{String}
-use Rattle.ctt_words.specs.Jobs.{AreRefused, IsFaultOf, IsJobOf, IsRequest, faults_of}
+use Rattle.ctt_words.specs.Jobs.{AreRefused, IsFaultOf, IsJobOf, faults_of}
 use Rattle.ctt_words.specs.declared.job.WordsFault.{WordsFault}
 use Rattle.ctt_words.specs.declared.job.WordsFault.TheVariants as no
 use Rattle.ctt_words.specs.declared.job.WordsFault.TheVariants.{Help, Refused}
@@ -90,9 +90,18 @@ DiffersOfTask told broken instance barred task held old new err new_err = new_er
 abbrev pub texts : List (Bor (List ℕ)) → List (List ℕ)
 texts words = map (λ word. word.now) words
 
+-- the text of the help is printed
+abbrev pub PrintsHelp : WordsFault → Option (List ℕ) → Option (List ℕ) → Type 0
+PrintsHelp (Help text) old new = Appends old new (string_bytes text)
+PrintsHelp _ old new = ⊥
+
+-- the words ask for help or the version, and its text is printed
+abbrev pub HelpsAsAsked : List (List ℕ) → Option (List ℕ) → Option (List ℕ) → Type 0
+HelpsAsAsked words old new = (fault : WordsFault) × IsFaultOf words fault × PrintsHelp fault old new
+
 -- the words ask for help or the version, or they have no fault and ask for a job that is done
 abbrev pub DoesAsAsked : List (List ℕ) → Outcome → Held → Held → Option (List ℕ) → Option (List ℕ) → Type 0
-DoesAsAsked words outcome before after old new = (IsRequest (faults_of words) × (outcome ≡ Done) × (after ≡ before))
+DoesAsAsked words outcome before after old new = (HelpsAsAsked words old new × (outcome ≡ Done) × (after ≡ before))
     ⊎ ((faults_of words ≡ []) × ((job : Job) × IsJobOf words job × DoesJob job outcome before after old new))
 
 -- the words ask for a job that ends with `Differs`, and this is written to standard error
@@ -170,16 +179,6 @@ WarnsOfTask task old new = new ≡ old
 -- nothing is written so, or what the job writes that the words ask for
 abbrev pub WarnsAsAsked : List (List ℕ) → Option (List ℕ) → Option (List ℕ) → Type 0
 WarnsAsAsked words old new = (new ≡ old) ⊎ ((job : Job) × IsJobOf words job × WarnsOfTask job.task old new)
-
--- the words ask for help or the version
-abbrev pub GivesHelp : WordsFault → Type 0
-GivesHelp (Help text) = Unit {0}
-GivesHelp _ = ⊥
-
--- the text of the help is printed
-abbrev pub PrintsHelp : WordsFault → Option (List ℕ) → Option (List ℕ) → Type 0
-PrintsHelp (Help text) old new = Appends old new (string_bytes text)
-PrintsHelp _ old new = ⊥
 
 -- the fault if help is not given: the words are refused, memory ran out, or standard output failed
 abbrev pub IsOfHelp : WordsFault → Bool → Fault → Type 0

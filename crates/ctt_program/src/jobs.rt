@@ -10,7 +10,7 @@ ghost use Rattle.ctt_program.specs.Reporting.{SaysFault};
 ghost use Rattle.ctt_files.specs.Storing.{KeepOthers};
 ghost use Rattle.ctt_program.specs.Jobs.{Saying, Storing, Warning, stored_by, streams};
 ghost use Rattle.ctt_program.specs.Served.{IsServed};
-ghost use Rattle.ctt_program.specs.Work.{AsksToSay, AsksToStore, AsksToWarn, DiffersAsAsked, DiffersOfTask, DoesAsAsked, DoesJob, DoesTask, GivesHelp, HasCause, IsAnswer, IsOfHelp, IsOfJob, IsOfTask, KeepAsAsked, PrintsHelp, SaysAsAsked, SaysOfTask, WarnsAsAsked, WarnsOfTask, texts};
+ghost use Rattle.ctt_program.specs.Work.{AsksToSay, AsksToStore, AsksToWarn, DiffersAsAsked, DiffersOfTask, DoesAsAsked, DoesJob, DoesTask, HasCause, IsAnswer, IsOfHelp, IsOfJob, IsOfTask, KeepAsAsked, PrintsHelp, SaysAsAsked, SaysOfTask, WarnsAsAsked, WarnsOfTask, texts};
 
 use crate::desk::desk;
 use crate::journal::journal;
@@ -175,7 +175,6 @@ fn do_job<R: Threads + Wait + Sync, F: Files, O: Office, W: Sink, V: Sink>(
 /// Prints the help that the words ask for, or returns why they are refused.
 fn answer_words<W: Sink>(out: &mut W, fault: WordsFault) -> Result<Outcome, Fault>
     ensures done { IfOk result (λ outcome. outcome ≡ Done) }
-    ensures helps { OnOk result (GivesHelp fault) }
     ensures prints { OnOk result (PrintsHelp fault (W.taken out.old) (W.taken out.new)) }
     ensures unmarked { OnOk result (W.has_failed out.new ≡ W.has_failed out.old) }
     ensures marked { IfErr result (λ told. (status_of told ≡ 3)

@@ -8,6 +8,7 @@ mod office;
 mod printed;
 mod words;
 
+pub use ctt_words::{Job, Showing, Task, WordsFault, read_words};
 pub use jobs::program;
 pub use office::{Office, SystemOffice};
 pub use words::serve;

@@ -4,7 +4,7 @@ use Rattle.ctt_words.specs.Jobs.{HasScripts}
 use Rattle.ctt_words.proofs.Given.{job_has_scripts}
 use Rattle.ctt_files.proofs.Plain.{on_ok_weaker}
 use Rattle.ctt_program.proofs.Ends.{done_differs, done_so, on_err_too, on_err_weaker, on_ok_too, warned_as_asked}
-use Rattle.ctt_program.proofs.Known.{help_asked, help_caused, help_kept, help_not_one, job_caused}
+use Rattle.ctt_program.proofs.Known.{help_caused, help_kept, help_not_one, job_caused}
 use Rattle.ctt_commands.proofs.Plain.{kept_weaker}
 use Rattle.ctt_program.proofs.jobs.do_as_asked.Goals as goal
 
@@ -26,7 +26,7 @@ pub returns-in-Ok-clause-cause : goal.returns-in-Ok-clause-cause
 returns-in-Ok-clause-cause g c = IfErr-weaker c.do_job.result _ _ (λ fault is. job_caused _ (g.F.Files.held c.args.files.now) _ c.in-Ok.job _ fault c.in-Ok.ensures.job is) c.do_job.ensures.cause
 
 pub returns-in-Err-clause-done : goal.returns-in-Err-clause-done
-returns-in-Err-clause-done g c = done_so c.answer_words.result _ _ c.answer_words.ensures.done c.answer_words.ensures.helps (λ outcome done helps. inl (help_asked _ c.in-Err.fault c.in-Err.ensures.fault helps, done, refl))
+returns-in-Err-clause-done g c = done_so c.answer_words.result _ _ c.answer_words.ensures.done c.answer_words.ensures.prints (λ outcome done prints. inl ((c.in-Err.fault, c.in-Err.ensures.fault, prints), done, refl))
 
 pub returns-in-Err-clause-unstored : goal.returns-in-Err-clause-unstored
 returns-in-Err-clause-unstored g c = IfErr-weaker c.answer_words.result _ _ (λ told of. help_kept c.in-Err.fault _ told _ _ of refl) c.answer_words.ensures.cause
