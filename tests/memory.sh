@@ -18,7 +18,8 @@
 #   is refused, the list stays as it is. In the trials no other request may be done without but
 #   those of the solutions that they read.
 #
-# Each line of a crew's planner stands twice in his script. One of them may be answered 'no memory': if it is the first of the two, the
+# Of a crew of one planner each of his three lines has to be answered 'no memory' once; he then goes on with what he has. Of another crew
+# each line stands twice. One of them may be answered 'no memory': if it is the first of the two, the
 # second has its answer, and all others are as with memory. The crew may also end with status 3 and 'timedesk: no thread', where the
 # system wanted the memory for it.
 #
@@ -51,6 +52,11 @@ echo 'Barred: 2 alg A top A END.' >barred
 printf '%s\n' 'entry 0 1' 'place top B 0 2' done 'entry 1 1' 'slot 0 2' 'lectures 1 top B 0 2' 'entry 0 1' 'drop top 0' >torn
 # each line of a crew's planner, twice
 printf '%s\n' open open 'place geo A 0 1' 'place geo A 0 1' 'slot 0 1' 'slot 0 1' refresh refresh commit commit >twice
+# a crew of one planner, and what it prints if one of his lines, the first, the second or the third, wants memory
+printf '%s\n' open 'place geo A 0 1' commit >one
+printf '%s\n' 'planner 0' 'no memory' 'no draft' 'no draft' 'journal 0' 'costs 0 20 0 0' >one.1
+printf '%s\n' 'planner 0' opened 'no memory' 'committed 1' 'journal 1' 'costs 0 20 0 0' >one.2
+printf '%s\n' 'planner 0' opened done 'no memory' 'journal 0' 'costs 0 20 0 0' >one.3
 # a solution of which some lectures are set aside
 printf '%s\n' 'alg A 0 0' 'alg B 1 0' 'geo B 0 0' 'geo A 1 2' 'top A 1 2' >mixed
 # a draft that is brought up to date, and one that turns out to be stale
@@ -148,6 +154,16 @@ try_trials() {
 $(noted again) calls were made again, $(noted cut) lists of calls were not cut, $(noted collected) were made in another way"
 }
 
+# Which line of the crew of one wanted memory, by what was printed.
+lines_of_one=()
+line_of_one() {
+    local line
+    for line in 1 2 3; do
+        cmp -s "one.$line" out.now && echo "$line" && return
+    done
+    return 1
+}
+
 try_trials 'the trials' "$trials" 23
 try_trials 'the trials of the program' "$program_trials" 26
 of_trials=$((passed + failed))
@@ -158,7 +174,7 @@ for words in 'check small.ctt s.sol --json --barred barred' 'check small.ctt sma
     'check small.ctt s.sol --explain' 'check small.ctt s.sol --explain --json' 'compare small.ctt s.sol small.ctt' 'week small.ctt s.sol' 'week small.ctt s.sol --course geo' \
     'page small.ctt s.sol' \
     'run small.ctt refreshed --barred barred --journal journal' 'audit small.ctt told --start s0.sol' \
-    'journal small.ctt torn' 'list small.ctt told --start s0.sol' 'mend small.ctt mixed --barred barred' 'crew small.ctt twice' 'where small.ctt 14' frobnicate; do
+    'journal small.ctt torn' 'list small.ctt told --start s0.sol' 'mend small.ctt mixed --barred barred' 'crew small.ctt twice' 'crew small.ctt one' 'where small.ctt 14' frobnicate; do
     rm -f journal
     "$program" $words >out 2>err
     wanted=$?
@@ -182,7 +198,10 @@ for words in 'check small.ctt s.sol --json --barred barred' 'check small.ctt sma
             if [[ $words == crew* ]]; then
                 sed -i 's/^timedesk: no thread$/timedesk: no memory/' err.now
             fi
-            if [[ $words == crew* ]] && [ "$status" = 0 ] && [ ! -s err.now ] && again=$(grep -nx 'no memory' out.now) \
+            if [[ $words == 'crew small.ctt one' ]] && [ "$status" = 0 ] && [ ! -s err.now ] && line=$(line_of_one); then
+                lines_of_one[$line]=met
+                passed=$((passed + 1))
+            elif [[ $words == crew*twice ]] && [ "$status" = 0 ] && [ ! -s err.now ] && again=$(grep -nx 'no memory' out.now) \
                 && awk -v n="${again%%:*}" '{ line[NR] = $0 } END { for (i = 1; i <= NR; i++)
                     print i == n ? "no memory" : i == n + 1 && n % 2 == 0 ? line[n] : line[i] }' out | cmp -s - out.now; then
                 made_again=$((made_again + 1))
@@ -205,6 +224,12 @@ for words in 'check small.ctt s.sol --json --barred barred' 'check small.ctt sma
         echo "FAILED: $words: it was not done without these requests: ${without[*]}"
     fi
 done
+if [ "${#lines_of_one[@]}" = 3 ]; then
+    passed=$((passed + 1))
+else
+    failed=$((failed + 1))
+    echo "FAILED: of the three lines of a crew of one only these were answered 'no memory': ${!lines_of_one[*]}"
+fi
 echo "the program met $((passed + failed - of_trials)) more: $done_without could be done without, \
 $made_again lines of a crew were made again"
 

@@ -421,6 +421,9 @@ changes 4 4 'I4 34'
 changes 6 1001 'I5 6'
 changes 8 2000 'I5 10'
 changes 10 2001 'I5 10'
+sed 's/Days: 2/Days: 2000/; s/Periods_per_day: 3/Periods_per_day: 2/' small.ctt >told.ctt
+run 'two thousand days of two periods' 1 '' 'timedesk: instance I5 10
+' check told.ctt s.sol
 changes 12 20001 'I5 12'
 changes 14 2000001 'I5 14'
 changes 14 2000000 'I7 45'
