@@ -56,6 +56,7 @@ class Board:
             "take out": lambda: self.work.take_out(self.seen()),
             "view": self.choose_view,
             "weeks": lambda: self.work.show_next_week(self.seen()),
+            "history": lambda: self.work.drafts_of(self.seen()),
             "undo": lambda: self.free(drafting.undo),
             "edits": drafting.edits,
             "commit": lambda: self.free(drafting.commit),
@@ -79,7 +80,11 @@ class Board:
 
     def ask(self, question: Optional[Question]) -> None:
         """Shows what is to be read or answered."""
-        if question is not None:
+        if question is not None and question.choices:
+            choices = [(self.wording.notice(told), act) for told, act in question.choices]
+            title = self.wording.notice(question.title)
+            self.overlay = Chooser(title, choices, lambda act: self.ask(act()))
+        elif question is not None:
             self.overlay = Asked(question, self.wording, self.ask)
 
     # what is seen

@@ -58,8 +58,15 @@ ACTIONS = (
     Action(
         "weeks",
         "w",
-        "its weeks",
+        "weeks",
         "shows the week of the course at the cursor, then of its teacher, its room, its curricula.",
+    ),
+    Action(
+        "history",
+        "h",
+        "history",
+        "lists the drafts that have changed the course at the cursor, or the week if nothing stands "
+        "there: Enter shows one, and t takes it back by edits of your draft.",
     ),
     Action("undo", "u", "undo", "takes the last edit of the draft back."),
     Action(
@@ -103,6 +110,7 @@ ACTIONS = (
     Action("decline", "n", "never asks again", ""),
     Action("give up", "y", "gives them up", ""),
     Action("make again", "r", "makes them again", ""),
+    Action("take back", "t", "takes it back in your draft", ""),
 )
 BY_NAME: Dict[str, Action] = {action.name: action for action in ACTIONS}
 # the keys of the week, by the key
@@ -112,7 +120,7 @@ WEEK_KEYS: Dict[str, str] = {
 NAMED = {"enter": "Enter", "tab": "Tab", "backtab": "Shift-Tab", "escape": "Escape"}
 # the two rows of keys, free and with a lecture picked up
 FREE: Tuple[Tuple[str, ...], ...] = (
-    ("pick up", "swap", "missing", "take out", "view", "weeks"),
+    ("pick up", "swap", "missing", "take out", "view", "weeks", "history"),
     ("undo", "edits", "commit", "refresh", "redo", "abandon", "line", "help", "leave"),
 )
 

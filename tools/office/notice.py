@@ -2,7 +2,7 @@
 from __future__ import annotations
 
 from dataclasses import dataclass, field
-from typing import Any, Callable, Dict, List, NamedTuple, Optional
+from typing import Any, Callable, Dict, List, NamedTuple, Optional, Tuple
 
 # what was not done, or is lost if nothing is done about it
 BAD = {"refused", "stale", "not written", "not in the minutes", "not these edits", "other price"}
@@ -32,8 +32,10 @@ def say(code: str, **data: Any) -> Notice:
 
 class Question(NamedTuple):
     """What is to be read, or to be answered. The answers are named as actions are; one without any
-    is read alone. An answer may lead to the next question."""
+    is read alone. An answer may lead to the next question. Choices are a list that narrows as one
+    types; the one that is chosen leads on, too."""
 
     title: Notice
     lines: List[Notice] = []
     answers: Dict[str, Callable[[], Optional["Question"]]] = {}
+    choices: List[Tuple[Notice, Callable[[], Optional["Question"]]]] = []

@@ -9,12 +9,13 @@ from office.at import parse_at
 from office.drafts import Draft, read_drafts
 from office.folder import Day, is_locked
 from office.history import read_pasts
+from office.keys import KeyNames
 from office.label_files import read_labels
 from office.log import head_words
 from office.planning import Planning
 from office.refused import CONTENT, WORDS, Refused
 from office.seat import Seat
-from office.taking_back import TakenBack, kept_words, take_back
+from office.taking_back import TakenBack, take_back
 from office.text import counted
 from office.wording import Wording
 
@@ -66,17 +67,20 @@ def sit_at(day: Day, planner: Optional[int], name: Optional[str]) -> Planning:
     return planning
 
 
+def wording_of(planning: Planning) -> Wording:
+    return Wording(KeyNames(), read_labels(planning.seat.day.path))
+
+
 def report(planning: Planning, draft: Draft, of: Day, taken: TakenBack) -> List[str]:
     """What was made, and what not."""
-    seat = planning.seat
-    wording = Wording({}, read_labels(seat.day.path))
+    seat, wording = planning.seat, wording_of(planning)
     lines = [f"{of.name}, {head_words(draft)}"]
     if taken.made:
         lines.append(f"made in the draft of seat {seat.planner}, and not committed:")
         lines += [f"    {wording.shifts(shifts)}" for shifts in taken.made]
     if taken.kept:
         lines.append("left as it is:")
-        lines += [f"    {kept_words(wording, kept)}" for kept in taken.kept]
+        lines += [f"    {line}" for line in wording.lines(taken.kept_lines())]
     if taken.made:
         lines.append(f"office sit {seat.day.path} {seat.planner} shows it; c commits it there")
     elif not taken.kept:
@@ -91,6 +95,8 @@ def print_revert(day: Day, words: str, planner: Optional[int], name: Optional[st
     planning = sit_at(day, planner, name)
     try:
         taken = take_back(planning, draft, later_drafts(day, of, number))
+        if taken is None:
+            raise Refused(wording_of(planning).notice(planning.notice))
         print("\n".join(report(planning, draft, of, taken)))
     finally:
         planning.seat.go()

@@ -3,6 +3,8 @@ from __future__ import annotations
 
 from typing import Dict
 
+from office.sentences_past import PAST
+
 # why an edit is refused
 REASONS = {
     "teacher busy": "its teacher {teacher} teaches {other} then",
@@ -126,4 +128,4 @@ LINES = {
     "log fault": "The log cannot be written ({fault}): edits are lost if the desk dies.",
     "closing": "The office closes in {seconds} s: commit now, or your edits are offered again.",
 }
-SENTENCES: Dict[str, str] = {**REASONS, **DESK, **DRAFT, **LECTURES, **OTHERS, **LINES}
+SENTENCES: Dict[str, str] = {**REASONS, **DESK, **DRAFT, **LECTURES, **OTHERS, **LINES, **PAST}

@@ -1,14 +1,13 @@
 """A draft is taken back: its inverse is made in the draft of a planner."""
 from __future__ import annotations
 
-from typing import Iterable, List, NamedTuple
+from typing import Iterable, List, NamedTuple, Optional
 
 from office.drafts import Draft
 from office.inverse import Kept, invert
 from office.notice import Notice, say
 from office.planning import Planning
 from office.shifts import Shift, all_shifts
-from office.wording import Wording
 
 
 class TakenBack(NamedTuple):
@@ -17,21 +16,26 @@ class TakenBack(NamedTuple):
     made: List[List[Shift]]
     kept: List[Kept]
 
+    def kept_lines(self) -> List[Notice]:
+        return [say("kept line", shifts=[one.shift], reason=one.why) for one in self.kept]
 
-def take_back(planning: Planning, draft: Draft, later: Iterable[Draft]) -> TakenBack:
+
+def take_back(planning: Planning, draft: Draft, later: Iterable[Draft]) -> Optional[TakenBack]:
     """Makes the inverse of a draft, as edits of the planner's own; nothing is committed by it.
-    Later drafts say who has changed what cannot go back."""
+    Later drafts say who has changed what cannot go back. If no draft can be opened, nothing is
+    done, and the planner is told why."""
     now = planning.known.present()
     inverse = invert(now, draft.shifts)
+    if inverse.edits and not planning.open():
+        return None
     made: List[List[Shift]] = []
-    refused: List[Kept] = []
+    kept = [Kept(shift, by_whom(shift, why, later)) for shift, why in inverse.kept]
     for edit, shifts in zip(inverse.edits, all_shifts(inverse.edits, now)):
         if planning.edit(edit):
             made.append(shifts)
         else:
-            refused += [Kept(shift, planning.refused) for shift in shifts]
-    kept = [Kept(shift, by_whom(shift, why, later)) for shift, why in inverse.kept]
-    return TakenBack(made, kept + refused)
+            kept += [Kept(shift, planning.refused) for shift in shifts]
+    return TakenBack(made, kept)
 
 
 def by_whom(shift: Shift, why: Notice, later: Iterable[Draft]) -> Notice:
@@ -40,10 +44,6 @@ def by_whom(shift: Shift, why: Notice, later: Iterable[Draft]) -> Notice:
         return why
     for draft in later:
         if any(shift.was == one.was for one in draft.shifts):
-            return say("changed by", number=draft.number, who=draft.name or f"seat {draft.planner}")
+            who = draft.name or f"seat {draft.planner}"
+            return say("changed by", number=draft.number, who=who)
     return why
-
-
-def kept_words(wording: Wording, kept: Kept) -> str:
-    """What stays as it is, and why."""
-    return f"{wording.shifts([kept.shift])}: {wording.notice(kept.why)}"

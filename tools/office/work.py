@@ -10,10 +10,12 @@ from typing import Dict, List, Optional
 
 from office.carry import MOVE, PLACE, SWAP, Carry, Offer
 from office.drafting import Drafting
+from office.histories import History
 from office.notice import Notice, Question, say
 from office.planning import Planning
 from office.timetable import Lecture, Slot
 from office.week import Cell, View, all_views, cells_of, told_of_view, weeks_of
+from office.what import What
 
 
 class Work:
@@ -25,6 +27,7 @@ class Work:
         self.view = self.views[0] if self.views else View("course", "")
         self.carry: Optional[Carry] = None
         self.drafting = Drafting(planning)
+        self.history = History(planning)
 
     @property
     def notice(self) -> Notice:
@@ -53,6 +56,11 @@ class Work:
 
     def show(self, view: View) -> None:
         self.view = view
+
+    def drafts_of(self, lecture: Optional[Lecture]) -> Optional[Question]:
+        """The drafts that have changed the course of a lecture, or without one the week."""
+        what = What("course", lecture.course) if lecture else What(*self.view)
+        return self.history.of(what)
 
     def show_next_week(self, lecture: Optional[Lecture]) -> None:
         """The week of a lecture's course, of its teacher, its room, and its curricula, in turn."""

@@ -1,0 +1,109 @@
+"""Which drafts have changed what a planner looks at, and how one is taken back."""
+from __future__ import annotations
+
+from typing import List, Optional
+
+from office.costs import COSTS
+from office.drafts import Draft, exchanged, net
+from office.notice import NOTHING, Notice, Question, say
+from office.planning import Planning
+from office.play import play_costs
+from office.refused import Refused
+from office.shifts import Shift
+from office.taking_back import take_back
+from office.what import What
+
+# so many lectures of a draft are said in a list of drafts
+FEW = 2
+
+
+class History:
+    """The accepted drafts of a day, as a planner's client knows them."""
+
+    def __init__(self, planning: Planning) -> None:
+        self.planning = planning
+        self._shifts: List[List[Shift]] = []
+
+    def drafts(self) -> List[Draft]:
+        """All in their order."""
+        news, found = self.planning.news, []
+        for one in news.accepted[len(self._shifts) :]:
+            self._shifts.append(net(one.all()))
+        for one, shifts in zip(news.accepted, self._shifts):
+            entry = one.entry
+            edits = entry.edits()
+            found.append(Draft(entry.number, entry.planner, *news.told(one), edits, shifts))
+        return found
+
+    def who(self, draft: Draft) -> Notice:
+        return say("named", name=draft.name) if draft.name else say("seat", planner=draft.planner)
+
+    def of(self, what: What) -> Optional[Question]:
+        """The drafts that have changed something, newest first, to be chosen from."""
+        instance, row = self.planning.instance, f"{what.kind} {what.name}"
+        choices = []
+        for draft in reversed(self.drafts()):
+            touched = what.touched(instance, draft)
+            if touched:
+                choices.append(
+                    (self.line(draft, touched), lambda draft=draft: self.shown(draft))
+                )
+        if not choices:
+            self.planning.notice = say("never changed", row=row)
+            return None
+        return Question(say("drafts of", row=row), choices=choices)
+
+    def line(self, draft: Draft, touched: List[Shift]) -> Notice:
+        """A draft in a list, with what it did that is asked about, and why."""
+        groups = exchanged(touched)
+        told = [say("edit words", shifts=group) for group in groups[:FEW]]
+        more = len(groups) - FEW
+        return say(
+            "draft choice",
+            number=draft.number,
+            who=self.who(draft),
+            time=draft.time,
+            reasons=told + ([say("and more", count=more)] if more > 0 else []),
+            why=say("because", why=draft.why) if draft.why else NOTHING,
+        )
+
+    def shown(self, draft: Draft) -> Question:
+        """A draft, to be read or taken back."""
+        lines = [say("edit line", shifts=group) for group in exchanged(draft.shifts)]
+        return Question(
+            say("draft title", number=draft.number, who=self.who(draft), time=draft.time),
+            [
+                say("why", why=draft.why) if draft.why else say("no why"),
+                *(lines or [say("no change")]),
+                self.cost(draft),
+            ],
+            {"take back": lambda: self.take_back(draft)},
+        )
+
+    def cost(self, draft: Draft) -> Notice:
+        """What the timetable cost before and after a draft."""
+        entries = self.planning.minutes.entries[: draft.number]
+        try:
+            found = play_costs(self.planning.seat.day, [entry.edits() for entry in entries])
+        except Refused:
+            return say("cost not known")
+        before, after = found[-2:]
+        parts = [
+            say("cost part", part=part, price=after[part] - before[part])
+            for part in COSTS
+            if after[part] != before[part]
+        ]
+        sums = {"before": sum(before.values()), "after": sum(after.values())}
+        return say("cost change", **sums, parts=say("cost parts", reasons=parts))
+
+    def take_back(self, draft: Draft) -> Optional[Question]:
+        """Makes the inverse of a draft in the planner's own; says what stays as it is."""
+        planning = self.planning
+        taken = take_back(planning, draft, self.drafts()[draft.number :])
+        if taken is None:
+            return None
+        code = "draft taken back" if taken.made else "nothing taken back"
+        planning.notice = say(code, number=draft.number, count=len(taken.made))
+        if not taken.kept:
+            return None
+        return Question(planning.notice, [say("left as it is"), *taken.kept_lines()])
