@@ -7,16 +7,15 @@
 # Of the program each request of some runs is refused, alone and with all after it: it has to end
 # with status 3 and 'timedesk: no memory' and store nothing.
 #
-# Two calls alone can do without what they ask for. Of the program their requests are listed, in
-# order and by size: each of these, and no other, has to end as with memory if it is refused alone.
-# - `collect` asks for room for all elements that may come, and, if that is refused, for one: so the
-#   first of the two may be refused. `owned_words` collects the words of the command line, `serve`
-#   slices of them, `Lectures::into_list` the lectures of a solution, and `clap` the letters of a
-#   word that it does not know and of the name of each command, to find one that is like it
-#   (`chars_of` of `strsim`).
-# - A desk that accepts a draft cuts the list of its calls to its length (`shrink_to_fit`): if that
-#   is refused, the list stays as it is. In the trials no other request may be done without but
-#   those of the solutions that they read.
+# One call alone can do without what it asks for. Of the program its requests are listed, in order
+# and by size: each of these, and no other, has to end as with memory if it is refused alone.
+# `collect` asks for room for all elements that may come, and, if that is refused, for one: so the
+# first of the two may be refused. `owned_words` collects the words of the command line, `serve`
+# slices of them, `Lectures::into_list` the lectures of a solution, and `clap` the letters of a word
+# that it does not know and of the name of each command, to find one that is like it (`chars_of` of
+# `strsim`). In the trials no other request may be done without but those of the solutions that they
+# read. So nothing of a commit takes memory once it is accepted: refused, it would end as with
+# memory.
 #
 # Of a crew of one planner each of his three lines has to be answered 'no memory' once; he then goes on with what he has. Of another crew
 # each line stands twice. One of them may be answered 'no memory': if it is the first of the two, the
@@ -45,7 +44,6 @@ word_size=24
 slice_size=16
 letter_size=4
 lecture_size=6
-call_size=64
 head -n 4 s.sol >s0.sol
 printf '%s\n' 'journal 1' 'entry 0 2' 'place top A 0 1' 'refused roomtaken geo' 'slot 0 0' 'lectures 1 alg A 0 0' END. >told
 echo 'Barred: 2 alg A top A END.' >barred
@@ -76,8 +74,6 @@ lane() {
             echo "FAILED: the trials, request $number"
         elif [[ $told != 0* ]]; then
             echo again
-        elif [[ $met =~ ^less\ ([0-9]+)$ ]] && ((BASH_REMATCH[1] % call_size == 0)); then
-            echo cut
         elif [[ $met =~ ^more\ ([0-9]+)$ ]] && ((BASH_REMATCH[1] % lecture_size == 0)); then
             echo collected
         else
@@ -117,9 +113,6 @@ dispensable() {
             letters "$name"
         done
     fi
-    if [ -e journal ]; then
-        awk -v size="$call_size" '$1 == "entry" { print "less", size * $3 }' journal
-    fi
 }
 
 # How many runs were noted as this.
@@ -151,7 +144,7 @@ try_trials() {
         echo "FAILED: $name read $solutions solutions, and $(noted collected) lists of lectures were made in another way"
     fi
     echo "$name met $now refusals: \
-$(noted again) calls were made again, $(noted cut) lists of calls were not cut, $(noted collected) were made in another way"
+$(noted again) calls were made again, $(noted collected) lists were made in another way"
 }
 
 # Which line of the crew of one wanted memory, by what was printed.

@@ -12,12 +12,11 @@ or 'no place', is typed again. The answers and the minutes have to be those with
 'timedesk: no memory', or 'timedesk: no thread' where the system wanted the memory for it, or says which seat it could not
 open: then what was answered, and the minutes, are a front of that, and what was told as committed is in the minutes.
 
-Two calls alone can do without what they ask for, and each request is known by its size. `collect`
+One call alone can do without what it asks for, and each request is known by its size. `collect`
 asks for room for all elements, and, if that is refused, for one: `owned_words` and `serve` call it
 for the words of the command line, and `Lectures::into_list` for the lectures of the opening. The
-first of the two requests of each, and no other, has to end as with memory.
-A desk that accepts a draft cuts the list of its calls to its length (`shrink_to_fit`): if that is
-refused, the list stays as it is.
+first of the two requests of each, and no other, has to end as with memory: so nothing of a commit
+takes memory once it is accepted.
 
 It needs a C compiler. PROGRAM names another program. The last line is 'N passed, M failed'.
 """
@@ -199,9 +198,9 @@ WANTS = (b"no memory\n", b"no place\n")
 # what a seat answers to `help`
 HELP = b"words abandon cheapest commit cost course coursecost curriculum drop help leave missing move open \
 peek place price redo refresh reroom show slot status swap teacher undo\n"
-# the sizes in bytes of a word of the command line as `owned_words` and as `serve` collect it, of a
-# lecture of a solution, and of a draft's call; a list has room for 4 at least
-WORD_SIZES, LECTURE_SIZE, CALL_SIZE, LEAST = (24, 16), 6, 64, 4
+# the sizes in bytes of a word of the command line as `owned_words` and as `serve` collect it, and of
+# a lecture of a solution; a list has room for 4 at least
+WORD_SIZES, LECTURE_SIZE, LEAST = (24, 16), 6, 4
 # what a desk says that ends for want of memory; a seat whose file could not be opened for it says that
 SAID = rb"timedesk: no (memory|thread)\n"
 SAID_BEFORE = SAID + rb"|timedesk: cannot (read .*/[0-9]\.in|write)\n"
@@ -330,11 +329,6 @@ class Played:
         """The requests of `collect` for room for all words of the command line, and for all lectures of the opening."""
         return [f"more {size * max(LEAST, count)}\n" for size, count in self.lists]
 
-    def cut(self):
-        """The requests that cut the list of an accepted draft."""
-        counts = re.findall(rb"^entry \d+ (\d+)$", self.left[-1], re.M)
-        return {f"less {CALL_SIZE * int(count)}\n" for count in counts}
-
     @staticmethod
     def all_sit(seats, desk):
         """Waits until the desk has opened each seat, and answers whether it did. Each seat has a thread, beside the first one:
@@ -461,8 +455,6 @@ def how_ended(desk, played):
     if desk.is_right(played) and played.again == 1:
         return "again"
     if desk.is_right(played) and played.again == 0:
-        if played.met in played.cut():
-            return "uncut"
         if played.met in played.collected():
             return "collected"
     if desk.is_front(played):
@@ -473,7 +465,7 @@ def how_ended(desk, played):
 with tempfile.TemporaryDirectory() as room:
     shim = build(room, "refuse")
     lanes = os.cpu_count() or 1
-    noted = {"again": 0, "uncut": 0, "stopped": 0, "collected": 0, "wrong": 0}
+    noted = {"again": 0, "stopped": 0, "collected": 0, "wrong": 0}
     for number, (name, make) in enumerate(desks()):
         own = os.path.join(room, f"desk{number}")
         os.mkdir(own)

@@ -233,8 +233,7 @@ impl<'i, S: Sheet<'i>, J: Naming> Locked<S, J> {
         let work = draft.finish();
         work.settle(&mut self.sheet);
         self.sheet.lawful();
-        let Work { mut asked, changes } = work;
-        asked.shrink_to_fit();
+        let Work { asked, changes } = work;
         let asked = AskedCalls::new(asked);
         let entry = JournalEntry {
             planner: number,
