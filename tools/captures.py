@@ -21,6 +21,8 @@ from terminal import Terminals  # noqa: E402
 OFFICE = os.path.join(HERE, "office")
 PAGES = ("docs/OFFICE.md", "README.md")
 BLOCK = re.compile(r"(<!-- picture: ([a-z ]+) -->\n```\n)(.*?)(```\n)", re.S)
+# letters one by one, as they are typed
+WHY = [*"r04 is too small"]
 TO_LECTURE = ["v", *"c0109", "Enter", "Right", "Right", "Right", "Right", "Up", "Up"]
 
 
@@ -81,15 +83,17 @@ class Play:
         anna.press("Enter", "v", *"q022", "Enter", "Enter", "b", "Enter")
         self.take("draft", anna, "2 edits")
         ben.wait("no draft open")
-        ben.press(*TO_LECTURE, "s", "b", "Enter", "c")
+        ben.press(*TO_LECTURE, "s", "b", "Enter", "c", *WHY, "Enter")
         ben.wait("Committed as draft 1")
         anna.wait("stale by now")
         anna.press("c")
+        self.take("box", anna, "Why?")
+        anna.press("Enter")
         self.take("stale", anna, "Your draft is stale")
         anna.press("r")
         self.take("redone", anna, "edits made again")
         self.keep("status", self.office("status", "monday"))
-        anna.press("q", "c", "q")
+        anna.press("q", "c", "Enter", "q")
         ben.press("q")
         anna.wait("ended 0")
         ben.wait("ended 0")

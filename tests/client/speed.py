@@ -21,7 +21,7 @@ from office.board import Board  # noqa: E402
 ROUND = (
     ["tab", "enter", "b", "tab", "backtab", "enter", "w", "w", "enter", "right", "down", "escape"]
     + ["tab", "s", "b", "enter", "u", "v", "c", "0", "enter", "tab", "enter", "left", "up", "escape"]
-    + ["tab", "x", "m", "enter", "b", "enter", "e", "q", "?", "q", "c"]
+    + ["tab", "x", "m", "enter", "b", "enter", "e", "q", "?", "q", "c", "w", "enter"]
 )
 
 

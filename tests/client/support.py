@@ -150,6 +150,12 @@ class OfficeTest(unittest.TestCase):
         planning.begin()
         return planning
 
+    @staticmethod
+    def commit(board, why=""):
+        """Commits at a screen: the box, a reason, Enter."""
+        for key in ["c", *why, "enter"]:
+            board.press(key)
+
     def listed(self, day):
         """The lectures that the program prints for what a day has left."""
         self.assertEqual(self.office("close", self.path(day), "--wait", "0")[0], 0)

@@ -209,7 +209,7 @@ class Shown(OfficeTest):
         self.assertIn("Enter pick up", text_of(board))
         board.press("enter")
         self.assertIn("b goes there", text_of(board))
-        for key in ("b", "enter", "c"):
+        for key in ("b", "enter", "c", "enter"):
             board.press(key)
         self.assertIn("Committed as draft 1: 1 edit, on the disk.", text_of(board))
 

@@ -57,7 +57,7 @@ class Faults(OfficeTest):
         """Nothing is said to be on the disk that the minutes do not have."""
         board = self.board("no minutes")
         board.planning.edit(EDIT)
-        board.press("c")
+        self.commit(board)
         text = self.text(board)
         self.assertIn("Not written: committed 1, says the desk; the minutes do not have it.", text)
         self.assertNotIn("on the disk", text)
@@ -73,7 +73,7 @@ class Faults(OfficeTest):
         while planning.edits() != [EDIT]:
             planning.edit(EDIT)
         while not planning.minutes.entries:
-            board.press("c")
+            self.commit(board)
         self.assertEqual(planning.minutes.entries[0].edits()[-1], EDIT)
         self.assertEqual(len(planning.known.newest.of_course("geo")), 1)
 
@@ -83,7 +83,7 @@ class Faults(OfficeTest):
         for line in ("open", EDIT, "undo", "redo", "help", "commit"):
             text = self.type_line(board, line)
             self.assertNotIn("\x1b", text)
-        for key in ("enter", "b", "enter", "u", "c", "f", "r", "a", "y"):
+        for key in ("enter", "b", "enter", "u", "c", "enter", "f", "r", "a", "y"):
             board.press(key)
             self.text(board)
 
@@ -93,7 +93,7 @@ class Faults(OfficeTest):
         patience, office.seat.PATIENCE = office.seat.PATIENCE, 0.5
         try:
             with self.assertRaises(NoAnswer):
-                board.press("c")
+                self.commit(board)
         finally:
             office.seat.PATIENCE = patience
         board.desk_ended("The desk does not answer")
@@ -118,7 +118,7 @@ class Faults(OfficeTest):
         anna.edit("reroom geo B 0 1")
         commit("drop top 0 2")
         self.assertTrue(wait_until(anna.tick))
-        board.press("c")
+        self.commit(board)
         commit("move geo 0 1 A 1 1")
         board.press("r")
         text = self.text(board)
@@ -132,7 +132,7 @@ class Faults(OfficeTest):
         board = self.board(fault)
         board.planning.edit(EDIT)
         with self.assertRaises(office.seat.DeskEnded):
-            board.press("c")
+            self.commit(board)
         board.desk_ended("The desk has ended")
         shown = self.text(board)
         board.planning.seat.go()
@@ -204,7 +204,7 @@ class FullDisk(OfficeTest):
             resource.setrlimit(resource.RLIMIT_FSIZE, (hard, hard))
         self.assertIn("The log cannot be written (", text)
         self.assertIn("draft open: 1 edit, ", text)
-        board.press("c")
+        self.commit(board)
         self.assertIn("Committed as draft 1: 1 edit, on the disk.", Faults.text(board))
         self.assertNotIn("The log", Faults.text(board))
         board.planning.seat.go()

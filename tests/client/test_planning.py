@@ -66,7 +66,7 @@ class Planners(OfficeTest):
         anna.tick()
         self.assertEqual(anna.foretold, "course c0109")
         board = Board(anna)
-        board.press("c")
+        self.commit(board)
         text = "\n".join(row[0][0] for row in board.rows(24, 80))
         self.assertIn("Your draft is stale: nothing is lost", text)
         self.assertIn("draft 1, ben, ", text)
@@ -87,7 +87,7 @@ class Planners(OfficeTest):
         self.assertIn("2. c0001: taken out of day 2, period 3, r14", text)
         self.assertIn(f"1. {TOLD}: no lecture of c0109 stands", text)
         board.press("escape")
-        board.press("c")
+        self.commit(board)
         self.assertIn("Committed as draft 2: 2 edits", said(anna))
         self.assertEqual(said(anna.alarm), "")
 
@@ -256,7 +256,7 @@ class Planners(OfficeTest):
         self.assertEqual(anna.missing(), {})
         board.press("m")
         self.assertEqual(said(anna), "No lecture is missing.")
-        board.press("c")
+        self.commit(board)
         self.assertIn("Committed as draft 1: 5 edits", said(anna))
         self.assertEqual(self.listed("day").count("\n"), 5)
 

@@ -47,11 +47,11 @@ class Screens(OfficeTest):
         self.sees(anna, f"Done: {SAID}.", "draft open: 1 edit, saves 257, 0 accepted since", "*r04")
         ben.press("v", *"c0014", "Enter", "s")
         self.sees(ben, "c0014 is picked up to swap")
-        ben.press("b", "Enter", "c")
-        self.sees(ben, "Committed as draft 1: 1 edit, on the disk.")
+        ben.press("b", "Enter", "c", *"swap", "Enter")
+        self.sees(ben, "Committed as draft 1: 1 edit, on the disk. The reason is kept.")
         self.sees(anna, "1 accepted since")
         self.take_out_and_back(anna)
-        anna.press("c")
+        anna.press("c", "Enter")
         self.sees(anna, "Committed as draft 2: 1 edit, on the disk.")
         for terminal in (anna, ben):
             terminal.press("q")
@@ -85,7 +85,7 @@ class Screens(OfficeTest):
         self.sees(anna, "reroom c0049 r04 0 0: done")
         self.sit("day", 1, "open\nmove c0109 4 1 r09 4 2\ncommit\n", "--name", "ben")
         self.sees(anna, "stale by now: course c0109 has changed")
-        anna.press("c")
+        anna.press("c", "Enter")
         self.sees(
             anna,
             "Your draft is stale: nothing is lost",
@@ -100,7 +100,7 @@ class Screens(OfficeTest):
             f"1. {TOLD}: no lecture of c0109 stands",
         )
         self.assertEqual(self.sit("day", 1, "show course c0049\n")[0].count("r04"), 0)
-        anna.press("q", "c")
+        anna.press("q", "c", "Enter")
         self.sees(anna, "Committed as draft 2: 1 edit, on the disk.")
 
     def test_goes_away(self):
@@ -124,14 +124,14 @@ class Screens(OfficeTest):
             self.assertRegex(file.read(), r"^(office: .*\n)*$")
         anna = self.sit_down("day", 0)
         self.sees(anna, "draft open: 1 edit, saves 257")
-        anna.press("c")
+        anna.press("c", "Enter")
         self.sees(anna, "Committed as draft 1")
 
     def test_desk_is_killed(self):
         office = self.open("day", COMP07, "2", "--start", COMP07_SOL)
         anna = self.sit_down("day", 0)
         self.sees(anna, "no draft open")
-        anna.press(*TO_BEST, "b", "Enter", "c")
+        anna.press(*TO_BEST, "b", "Enter", "c", "Enter")
         self.sees(anna, "Committed as draft 1")
         anna.press("x")
         self.sees(anna, "draft open: 1 edit")
@@ -216,7 +216,7 @@ class Screens(OfficeTest):
         self.sees(anna, "no draft open")
         for line in ("drop geo 1 2", "place geo A 1 2") * 9:
             anna.press(":", "open", "Enter", ":", line, "Enter")
-            anna.press("c")
+            anna.press("c", "Enter")
             if "Not written" in anna.wait_settled():
                 break
         self.sees(anna, "Not written: the disk is full, or fails.")

@@ -1,7 +1,6 @@
 """The screen without a terminal: keys go in, rows of text come out."""
 from __future__ import annotations
 
-import time
 from typing import Callable, Dict, List, Optional, Tuple
 
 from office.carry import SWAP, Offer
@@ -11,7 +10,7 @@ from office.help import help_lines
 from office.keys import WEEK_KEYS, KeyNames
 from office.label_files import read_labels
 from office.notice import NOTHING, Question, say
-from office.overlays import Asked, Chooser, Overlay, Page, Typed
+from office.overlays import Asked, Chooser, CommitBox, Overlay, Page, Typed
 from office.planning import Planning
 from office.text import fit, wrap
 from office.timetable import Lecture, Slot
@@ -43,7 +42,6 @@ class Board:
         self.cursor: Slot = (0, 0)
         self.overlay: Optional[Overlay] = None
         self.drawn = Drawn()
-        self.is_done = False
         # the desk has ended: nothing more can be done
         self.is_dead = False
         # the window is too small to see what a key does
@@ -59,18 +57,22 @@ class Board:
             "history": lambda: self.work.drafts_of(self.seen()),
             "undo": lambda: self.free(drafting.undo),
             "edits": drafting.edits,
-            "commit": lambda: self.free(drafting.commit),
+            "commit": lambda: self.free(self.show_box),
             "refresh": lambda: self.free(drafting.refresh),
             "redo": lambda: self.free(drafting.redo),
             "abandon": drafting.ask_abandon,
             "line": self.type_line,
             "help": self.show_help,
-            "leave": self.leave,
+            "leave": self.work.leave,
             "next": self.next_lecture,
             "lay down": self.work.lay_down,
             "cheapest": self.go_to_best,
             "last": self.last_choice,
         }
+
+    @property
+    def is_done(self) -> bool:
+        return self.work.is_done
 
     def begin(self) -> None:
         """Shows the week with which one begins, and what is to be asked first."""
@@ -138,20 +140,10 @@ class Board:
         lines = wrap(self.wording.notice(notice), width - 2)[:2]
         style = "bad" if notice.is_bad else "said"
         rows: List[Row] = [[(fit(f" {line}", width), style)] for line in lines]
-        urgent = self.wording.notice(self.planning.alarm) or self.log_text() or self.closing_text()
+        urgent = next(iter(self.work.urgent()), NOTHING)
         if urgent:
-            rows = rows[:1] + [[(fit(f" {urgent}", width), "bad")]]
+            rows = rows[:1] + [[(fit(f" {self.wording.notice(urgent)}", width), "bad")]]
         return rows + [[("", "")]] * (2 - len(rows))
-
-    def log_text(self) -> str:
-        fault = self.planning.seat.log.fault
-        return self.wording.notice(say("log fault", fault=fault)) if fault else ""
-
-    def closing_text(self) -> str:
-        at = self.planning.seat.day.closes_at()
-        if at is None:
-            return ""
-        return self.wording.notice(say("closing", seconds=max(0, round(at - time.time()))))
 
     # keys
 
@@ -278,18 +270,29 @@ class Board:
     def send_line(self, line: str) -> None:
         words = line.split()
         if words == ["leave"]:
-            self.leave()
+            self.work.leave()
         elif words:
             self.ask(self.free(lambda: self.work.drafting.type_line(" ".join(words))))
 
+    def show_box(self) -> None:
+        """Shows what a commit would publish, if there is anything to commit."""
+        drafting = self.work.drafting
+
+        def commit(edits: List[str], why: str) -> None:
+            self.overlay = None
+            self.ask(drafting.commit(edits, why))
+
+        box = drafting.box()
+        if box is not None:
+            self.overlay = CommitBox(
+                box, lambda: self.planning.foretold, self.wording, commit
+            )
+
     def show_help(self) -> None:
         self.overlay = Page("Keys", help_lines())
-
-    def leave(self) -> None:
-        self.is_done = True
 
     def desk_ended(self, why: str) -> None:
         """What is left to say when the desk has ended, or does not answer."""
         self.is_dead = True
         lines = self.wording.lines(self.work.drafting.left())
-        self.overlay = Page(why, lines, {"q": self.leave}, "q leaves")
+        self.overlay = Page(why, lines, {"q": self.work.leave}, "q leaves")

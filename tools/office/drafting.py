@@ -1,16 +1,51 @@
 """What is done with the draft. Each act answers what is to be read or asked then, if anything is."""
 from __future__ import annotations
 
-from typing import List, Optional
+from typing import Dict, List, NamedTuple, Optional
 
+from office.costs import Costs
 from office.earlier import Earlier
 from office.edits import is_edit
 from office.notice import Notice, Question, say
 from office.planning import Planning
 from office.seatlog import settle
-from office.shifts import shifts_of
+from office.shifts import Shift, shifts_of
 
 BLANK = say("blank")
+
+
+class Box(NamedTuple):
+    """What is to be seen before a commit: the edits and what they do, the costs before and after,
+    the lectures that they leave missing, by courses, and the row for which the draft is stale by
+    now, if it is."""
+
+    edits: List[str]
+    shifts: List[List[Shift]]
+    before: Costs
+    after: Costs
+    missing: Dict[str, int]
+    stale: str
+
+    def lines(self) -> List[Notice]:
+        told = [
+            say("numbered", number=number, shifts=shifts)
+            for number, shifts in enumerate(self.shifts, 1)
+        ]
+        told += [BLANK, self.price()]
+        if self.missing:
+            told.append(say("leaves missing", courses=self.missing))
+        if self.stale:
+            told.append(say("box stale", row=self.stale))
+        else:
+            told.append(say("box fresh"))
+        return told
+
+    def price(self) -> Notice:
+        """What the cost changes in each part."""
+        changes = {kind: self.after.get(kind, 0) - self.before.get(kind, 0) for kind in self.after}
+        if not self.before:
+            return say("box cost", count=sum(self.after.values()))
+        return say("box change", price=sum(changes.values()), parts=changes)
 
 
 def told_edits(edits: List[str]) -> List[Notice]:
@@ -61,8 +96,36 @@ class Drafting:
             lines += [BLANK, say("left out before"), *left_out]
         return Question(title, lines)
 
-    def commit(self) -> Optional[Question]:
-        self.planning.commit()
+    def box(self) -> Optional[Box]:
+        """What a commit would publish; None if there is nothing to commit, which is said."""
+        planning = self.planning
+        if not planning.is_open or not planning.edits():
+            planning.commit()
+            return None
+        planning.read_status()
+        base, draft = planning.known.base, planning.known.draft
+        assert base is not None and draft is not None
+        missing = {
+            course: draft.missing(course)
+            for course in planning.instance.courses
+            if draft.missing(course) > base.missing(course)
+        }
+        return Box(
+            planning.edits(),
+            planning.shifts(),
+            planning.base_costs,
+            planning.costs(),
+            missing,
+            planning.foretold,
+        )
+
+    def commit(self, edits: List[str], why: str) -> Optional[Question]:
+        """Commits the edits that were confirmed, with the reason that was given, which may be
+        empty. A draft that has other edits by then is not committed."""
+        if edits != self.planning.edits():
+            self.planning.notice = say("not these edits")
+            return None
+        self.planning.commit(why)
         return self.explain_stale()
 
     def refresh(self) -> Optional[Question]:
@@ -90,7 +153,7 @@ class Drafting:
         """Who changed a row since the draft was opened, and how."""
         planning, lines = self.planning, []
         for accepted in planning.changes_of(row):
-            who, time = planning.news.who(accepted), planning.news.told(accepted)[1]
+            who, time = planning.news.who(accepted), planning.news.told(accepted).time
             lines.append(say("by draft", number=accepted.entry.number, who=who, time=time))
             lines += [say("edit line", shifts=shifts) for shifts in accepted.shifts]
         return lines
@@ -125,5 +188,7 @@ class Drafting:
         lines = [say("on the disk", numbers=", ".join(map(str, story.accepted)) or "none")]
         edits = story.unfinished() + [line for line in seat.waiting if is_edit(line)]
         if edits:
-            lines += [say("not accepted"), *told_edits(edits)]
+            fault = seat.log.fault
+            told = say("not accepted nor kept", fault=fault) if fault else say("not accepted")
+            lines += [told, *told_edits(edits)]
         return lines

@@ -90,6 +90,8 @@ class Day:
         # with a changed instance, what was set aside
         self.aside = self.file("aside")
         self.minutes = self.file("minutes")
+        # is there when minutes cannot be written any more
+        self.failing = self.file("failing")
         self.journal = self.file("journal")
         self.audit = self.file("audit")
         self.end = self.file("end.sol")

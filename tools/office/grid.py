@@ -78,14 +78,29 @@ class Grid:
         """The grid in so many rows and columns."""
         wording = self.wording
         window = window_of(self.work, wording, self.cursor, height, width)
-        days = "".join(fit(f"  {wording.day(day)}", window.column) for day in window.days)
-        rows: List[Row] = [[(" " * window.label + days, "head")]]
+        rows: List[Row] = [[(self.days_text(window), "head")]]
         for period in window.periods:
             both = [self.cell_lines((day, period), window.column) for day in window.days]
             label = f"{wording.period(period):>{window.label - 1}} "
             rows.append([(label, "head"), *(lines[0] for lines in both)])
-            rows.append([(" " * window.label, ""), *(lines[1] for lines in both)])
+            more = self.more_periods(window, period)
+            rows.append([(f"{more:>{window.label - 1}} ", "head"), *(lines[1] for lines in both)])
         return rows
+
+    def days_text(self, window: Window) -> str:
+        """The days above their columns; `<` and `>` are for days beyond the window."""
+        texts = [f"  {self.wording.day(day)}" for day in window.days]
+        if window.days.stop < self.work.planning.instance.days:
+            texts[-1] += " >"
+        before = "<" if window.days.start > 0 else ""
+        return fit(before, window.label) + "".join(fit(text, window.column) for text in texts)
+
+    def more_periods(self, window: Window, period: int) -> str:
+        """The sign for periods beyond the window, at its first and its last one."""
+        above = period == window.periods.start > 0
+        last = self.work.planning.instance.periods - 1
+        below = period == window.periods.stop - 1 < last
+        return ("^" if above else "") + ("v" if below else "")
 
     def cell_lines(self, slot: Slot, column: int) -> List[Tuple[str, str]]:
         """The two lines of a cell, each with its style. Each colour has a sign, too."""

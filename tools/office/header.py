@@ -31,6 +31,8 @@ def draft_text(planning: Planning) -> str:
 def cost_text(planning: Planning) -> str:
     """What the timetable costs, with its parts by name, and what is missing."""
     costs, missing = planning.costs(), planning.missing()
+    if not costs:
+        return f"cost not known; missing {sum(missing.values())}"
     parts = ", ".join(f"{kind} {costs.get(kind, 0)}" for kind in COSTS)
     return f"cost {sum(costs.values())}: {parts}; missing {sum(missing.values())}"
 
@@ -60,7 +62,10 @@ class Header:
         last: Row = [(fit(title, width), "title")]
         if planning.is_open and planning.foretold:
             row = self.wording.row(planning.foretold)
-            told = cut(f"stale by now: {row} has changed; {key_of('commit')} says who ", width)
+            what = f"stale by now: {row} has changed; {key_of('commit')} says who "
+            if not planning.edits():
+                what = f"{row} has changed; no edits here: {key_of('commit')} goes on "
+            told = cut(what, width)
             last = [(fit(title, width - columns(told)), "title"), (told, "bad")]
         cost = fit(f" {cost_text(planning)}", width)
         return [[(fit(who, width), "head")], [(cost, "head")], last]
@@ -86,7 +91,8 @@ class Header:
             for one in self.planning.instance.curricula_of[name]
         )
         told_curricula = f"curricula {curricula}" if curricula else "in no curriculum"
-        return f"costs {told or 'nothing'}; {told_curricula}"
+        told = told or ("nothing" if costs else "not known")
+        return f"costs {told}; {told_curricula}"
 
     def room_text(self, lecture: Lecture) -> str:
         instance = self.planning.instance

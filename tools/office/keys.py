@@ -79,7 +79,8 @@ ACTIONS = (
         "commit",
         "c",
         "commit",
-        "commits the draft: it is accepted if nothing that it stands on has changed.",
+        "shows what a commit would publish, and asks why: Enter commits, Escape goes back. The draft "
+        "is accepted if nothing that it stands on has changed.",
     ),
     Action(
         "refresh",
@@ -111,6 +112,8 @@ ACTIONS = (
     Action("give up", "y", "gives them up", ""),
     Action("make again", "r", "makes them again", ""),
     Action("take back", "t", "takes it back in your draft", ""),
+    Action("take over", "y", "goes on with them", ""),
+    Action("leave to them", "q", "leaves them", ""),
 )
 BY_NAME: Dict[str, Action] = {action.name: action for action in ACTIONS}
 # the keys of the week, by the key

@@ -33,9 +33,11 @@ def say(code: str, **data: Any) -> Notice:
 class Question(NamedTuple):
     """What is to be read, or to be answered. The answers are named as actions are; one without any
     is read alone. An answer may lead to the next question. Choices are a list that narrows as one
-    types; the one that is chosen leads on, too."""
+    types; the one that is chosen leads on, too. A question that cannot wait has to be answered before
+    anything else is done."""
 
     title: Notice
     lines: List[Notice] = []
     answers: Dict[str, Callable[[], Optional["Question"]]] = {}
     choices: List[Tuple[Notice, Callable[[], Optional["Question"]]]] = []
+    can_wait: bool = True

@@ -4,10 +4,11 @@ from __future__ import annotations
 
 from typing import Callable, Dict, Generic, List, Optional, Sequence, Tuple, TypeVar
 
+from office.drafting import Box
 from office.grid import Row
 from office.keys import BY_NAME, key_of
 from office.notice import Question
-from office.text import fit, shown, wrap
+from office.text import counted, cut_front, fit, shown, wrap
 from office.wording import Wording
 
 Choice = TypeVar("Choice")
@@ -125,7 +126,9 @@ class Asked(Page):
         wording: Wording,
         ask: Callable[[Optional[Question]], None],
     ) -> None:
+        self.can_wait = question.can_wait
         keys = [f"{key_of(name)} {BY_NAME[name].short}" for name in question.answers]
+        keys += ["Escape goes back"] if keys and question.can_wait else []
         super().__init__(
             wording.notice(question.title),
             wording.lines(question.lines),
@@ -133,8 +136,11 @@ class Asked(Page):
                 BY_NAME[name].key: lambda answer=answer: ask(answer())  # type: ignore[misc]
                 for name, answer in question.answers.items()
             },
-            ", ".join([*keys, "Escape goes back"]) if keys else "any key goes back",
+            ", ".join(keys) or "any key goes back",
         )
+
+    def press(self, key: str) -> bool:
+        return False if key == "escape" and not self.can_wait else super().press(key)
 
 
 class Typed(Overlay):
@@ -155,3 +161,44 @@ class Typed(Overlay):
 
     def rows(self, height: int, width: int) -> List[Row]:
         return [[(fit(f"{self.prompt}{shown(self.typed)}_", width), "cursor")]]
+
+
+class CommitBox(Overlay):
+    """What a commit would publish, and a line for the reason."""
+
+    def __init__(
+        self,
+        box: Box,
+        stale: Callable[[], str],
+        wording: Wording,
+        commit: Callable[[List[str], str], None],
+    ) -> None:
+        self.box, self.stale, self.wording, self.commit = box, stale, wording, commit
+        self.why = ""
+
+    def press(self, key: str) -> bool:
+        if key == "enter":
+            self.commit(self.box.edits, self.why)
+        elif key == "backspace":
+            self.why = self.why[:-1]
+        elif len(key) == 1:
+            self.why += key
+        return key in ("enter", "escape")
+
+    def rows(self, height: int, width: int) -> List[Row]:
+        box = self.box._replace(stale=self.stale())
+        lines = self.wording.lines(box.lines())
+        lines = [row for line in lines for row in wrap(shown(line), max(10, width - 2))]
+        room = max(1, height - 5)
+        if len(lines) > room:
+            lines = [*lines[: room // 2], "..", *lines[len(lines) - room + room // 2 + 1 :]]
+        why = cut_front(shown(self.why), max(1, width - 8))
+        title = f"Commit {counted(len(box.edits), 'edit')}?"
+        rows: List[Row] = [[(fit(f" {title}", width), "head")], [("", "")]]
+        rows += [[(fit(f" {line}", width), "")] for line in lines]
+        rows += [[("", "")]] * (height - len(rows) - 2)
+        rows.append([(fit(f" Why? {why}_", width), "cursor")])
+        keys = (
+            "letters say why, for the others (it may stay empty)   Enter commits, Escape goes back"
+        )
+        return rows + [[(fit(f" {keys}", width), "head")]]

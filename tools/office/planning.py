@@ -3,11 +3,15 @@ from __future__ import annotations
 
 from typing import List
 
+from office.commit_notes import CommitNote, keep_commit_note, read_commit_notes
 from office.costs import read_costs
-from office.edits import Redone
+from office.edits import Redone, is_edit
+from office.lines import one_line
 from office.notice import NOTHING, Notice, say
+from office.processes import now
 from office.reading import Reading
 from office.reasons import reason
+from office.seatlog import read_past
 from office.shifts import shifts_of
 from office.words import words_of
 
@@ -39,6 +43,9 @@ class Planning(Reading):
             return True
         if self.ended():
             self.notice = say("decide first", count=len(self.ended()))
+            return False
+        if self.is_failing:
+            self.notice = say("minutes fail")
             return False
         return self._open_new()
 
@@ -86,24 +93,60 @@ class Planning(Reading):
         else:
             self.notice = answer_told(answer)
 
-    def commit(self) -> None:
-        """Wants the draft accepted."""
+    def commit(self, why: str = "") -> None:
+        """Wants the draft accepted, for a reason that others can read."""
         if not self.is_open:
             self.notice = say("nothing to commit")
             return
         count = len(self.edits())
         if not count:
-            self.notice = say("no edits")
+            self._close_empty()
             return
+        why = one_line(why)
+        if why:
+            # should the client die before it has written the reason, it is here
+            self.seat.log.noted(f"why {why}")
         answer = self.turn("commit")
         if answer.startswith("committed "):
             number = int(answer[10:])
             if self.has_entry(number):
-                self.notice = say("committed", number=number, count=count)
+                kept = self._keep_note(number, now(), self.seat.name, why)
+                self.notice = say("committed", number=number, count=count, kept=kept)
             else:
                 self.notice = say("not in the minutes", answer=answer)
         else:
             self._turned_down(answer)
+
+    def _keep_note(self, number: int, time: str, name: str, why: str) -> Notice:
+        """Writes who committed a draft, and why, for the others; the commit does not wait for
+        it."""
+        note = CommitNote(number, time, self.seat.planner, name, why)
+        fault = keep_commit_note(self.seat.day, note)
+        if not why:
+            return NOTHING
+        return say("reason not kept", fault=fault) if fault else say("reason kept")
+
+    def keep_notes(self) -> None:
+        """Writes what a client that died has not written of its commits."""
+        past = read_past(self.seat.day.log(self.seat.planner))
+        notes = read_commit_notes(self.seat.day)
+        for number, (time, name) in past.commits.items():
+            if number not in notes and past.whys.get(number):
+                self._keep_note(number, time, name, past.whys[number])
+
+    def begin(self) -> None:
+        super().begin()
+        self.keep_notes()
+
+    def _close_empty(self) -> None:
+        """A draft without edits is not committed. If others have overtaken it, it is closed."""
+        self.read_status()
+        row = self.foretold
+        if not row:
+            self.notice = say("no edits")
+            return
+        self.turn("abandon")
+        self.notice = say("empty draft", row=row)
 
     def refresh(self) -> None:
         """Brings the draft up to date."""
@@ -119,14 +162,22 @@ class Planning(Reading):
 
     def _turned_down(self, answer: str) -> None:
         """A commit or a refresh that did not succeed."""
-        if answer.startswith("stale "):
+        if answer.startswith("stale ") and not self.ended():
+            self.notice = say("empty draft", row=answer[6:])
+        elif answer.startswith("stale "):
             self.stale_row = answer[6:]
             self.notice = say("stale", row=self.stale_row)
         elif answer == "not written":
+            self.fail()
             self.read_again()
-            self.notice = say("not written")
+            self.notice = say("not written", kept=self.where_kept())
         else:
             self.notice = answer_told(answer)
+
+    def where_kept(self) -> Notice:
+        """Where the edits of the draft are: in the log, if that can be written."""
+        fault = self.seat.log.fault
+        return say("kept nowhere", fault=fault) if fault else say("kept in the log")
 
     def abandon(self) -> None:
         count = len(self.edits() or self.ended())
@@ -189,11 +240,14 @@ class Planning(Reading):
         return refused
 
     def type_line(self, line: str) -> str:
-        """Sends a line that was typed by hand, and answers what the desk says."""
+        """Sends a line that was typed by hand, and answers what the desk says. An edit opens a
+        draft, as it does by a key."""
+        if is_edit(line) and not self.open():
+            return ""
         answer = self.turn(line)
         if self.is_open and words_of(line)[0] in ("open", "redo", "refresh"):
             self._stand_anew()
-        if answer.startswith("stale "):
+        if answer.startswith("stale ") and self.ended():
             self.stale_row = answer[6:]
         self.notice = say("typed", line=line, answer=answer)
         return answer

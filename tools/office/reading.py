@@ -1,10 +1,12 @@
 """What a planner knows at a seat: by the desk's answers, by looks, and by the minutes."""
 from __future__ import annotations
 
+import contextlib
+import os
 import time
 from typing import Dict, List, Optional, Tuple
 
-from office.at import instance_of
+from office.at import instance_of, read_at
 from office.costs import read_costs
 from office.edits import WANTS
 from office.instance import Instance, read_solution
@@ -13,9 +15,10 @@ from office.minutes import Entry, Minutes
 from office.news import Accepted, News
 from office.notice import NOTHING, Notice, say
 from office.processes import now
+from office.refused import Refused
 from office.seat import Seat
 from office.seatlog import read_past
-from office.shifts import Shift, all_shifts, shifts_of
+from office.shifts import Shift, all_shifts, shifts_of, take_back
 from office.timetable import Lecture, Timetable, read_lectures
 from office.words import words_of
 
@@ -49,6 +52,10 @@ class Reading:
         # how many were accepted when the planner sat down, or when his last draft ended
         self.met_at = 0
         self.has_begun = False
+        # whether the minutes have led to the timetable that is known, and whether they can still be
+        # written
+        self.is_sound = True
+        self.is_failing = False
         # the row for which a commit was or, by the last status, would be told that the draft is
         # stale
         self.stale_row = ""
@@ -90,8 +97,27 @@ class Reading:
         the newest timetable."""
         line = f"{'peek' if self.is_open else 'show'} {words}"
         if line not in self._cache:
-            self._cache[line] = self.ask(line)
+            answer = "" if self.is_failing and not self.is_open else self.ask(line)
+            # an answer may be by what it is known that the minutes fail
+            is_of_disk = self.is_failing and not self.is_open
+            self._cache[line] = self._look_on_disk(words) if is_of_disk else answer
         return self._cache[line]
+
+    def _look_on_disk(self, words: str) -> str:
+        """What a look would be told of the timetable on the disk; the desk has another one when the
+        minutes fail. Prices are not known then."""
+        if words == "cost":
+            with contextlib.suppress(Refused):
+                return " ".join(["costs", *map(str, read_at(self.seat.day).costs.values())])
+        newest = self.known.newest
+        if words == "missing":
+            short = [(name, newest.missing(name)) for name in newest.by_course]
+            found = [f"{name} {count}" for name, count in short if count > 0]
+            return " ".join(["missing", str(len(found)), *found])
+        lectures = newest.look(words)
+        if lectures is None:
+            return "not known"
+        return " ".join(["lectures", str(len(lectures)), *(one.words() for one in lectures)])
 
     def lectures(self, words: str) -> List[Lecture]:
         """The lectures that a look is told."""
@@ -109,6 +135,7 @@ class Reading:
         """Hears what was under way, and takes up a draft that is open."""
         self.seat.catch_up()
         answer = self.ask_again("status")
+        self.is_failing = os.path.exists(self.seat.day.failing)
         self.read_minutes()
         self.read_newest()
         self.has_begun = True
@@ -154,11 +181,11 @@ class Reading:
         return False
 
     def _after(self, count: int) -> Timetable:
-        """The timetable after so many accepted drafts."""
-        found = Timetable(self.instance, self._start())
-        for entry in self.minutes.entries[:count]:
-            for edit in entry.edits():
-                found.try_edit(edit)
+        """The timetable after so many accepted drafts: the newest one, without those behind."""
+        found = self.known.newest.copy()
+        for accepted in reversed(self.news.accepted[count:]):
+            for shifts in reversed(accepted.shifts):
+                take_back(found, shifts)
         return found
 
     def _resume(self) -> None:
@@ -183,7 +210,7 @@ class Reading:
         if line in ("redo", "refresh") and not expected and self.wait_for_minutes(until):
             self.take_up_draft()
             expected = True
-        if not expected:
+        if not expected and not (is_show and self.is_failing):
             self.read_anew()
         return answer
 
@@ -223,17 +250,36 @@ class Reading:
         return Timetable(self.instance, found)
 
     def read_newest(self) -> None:
-        """Reads the newest timetable, again if somebody is accepted meanwhile."""
-        for _ in range(5):
+        """Compares the newest timetable of the desk with that of the minutes, which are on the
+        disk. They differ for a moment when somebody is accepted. If they go on to differ, the
+        minutes fail, and what is on the disk is shown."""
+        until = time.monotonic() + LATE
+        while not self.is_failing:
             self.read_minutes()
-            self.known.newest = self.read_all("show")
-            if not self.minutes.has_grown():
+            told = self.read_all("show")
+            if told.same_as(self.known.newest):
                 return
+            if not self.is_sound:
+                self.known.newest = told
+                return
+            if time.monotonic() > until:
+                self.fail()
+            time.sleep(0.02)
+
+    def fail(self) -> None:
+        """Notes that the minutes fail: nothing that is committed from now on is on the disk. The
+        other seats hear of it by a file of the day, if that can be made."""
+        self.is_failing = True
+        self._cache.clear()
+        with contextlib.suppress(OSError):
+            os.close(os.open(self.seat.day.failing, os.O_WRONLY | os.O_CREAT, 0o660))
 
     def read_anew(self) -> None:
-        """Reads everything anew, as the desk has it, and says so."""
+        """Reads everything anew, as the desk has it, and says so; if the minutes fail, that is said
+        all the time."""
         self.read_again()
-        self.alarm = say("differs")
+        if not self.is_failing:
+            self.alarm = say("differs")
 
     def read_again(self) -> None:
         self._cache.clear()
@@ -247,6 +293,9 @@ class Reading:
     def tick(self) -> bool:
         """Looks whether others were accepted, and what a commit would be told by now; answers
         whether there is news."""
+        if not self.is_failing and os.path.exists(self.seat.day.failing):
+            self.fail()
+            return True
         if not self.minutes.has_grown() or not self.read_minutes():
             return False
         if self.is_open:
@@ -259,6 +308,7 @@ class Reading:
         if entries:
             self._cache.clear()
         if not all([self._accept(entry) for entry in entries]):
+            self.is_sound = False
             self.known.newest = self.read_all("show")
         return entries
 

@@ -8,16 +8,18 @@ import os
 import signal
 import sys
 import time
-from typing import Any, Dict, Optional
+from typing import Any, Dict, List, Optional
 
 from office.board import Board
 from office.folder import Day
 from office.grid import Row
+from office.keys import BY_NAME
+from office.notice import say
 from office.planning import Planning
 from office.processes import Alarm
 from office.refused import MACHINE
 from office.seat import DEAD, DeskEnded, Gone, NoAnswer, Seat
-from office.text import width
+from office.text import counted, fit, width
 
 # how many milliseconds a key is waited for, before news are looked for
 TICK = 500
@@ -95,6 +97,7 @@ class Screen:
             curses.curs_set(0)
         window.keypad(True)
         window.timeout(TICK)
+        board.planning.seat.waits = self.wait
 
     def paint(self) -> None:
         height, columns = self.window.getmaxyx()
@@ -120,7 +123,33 @@ class Screen:
         except curses.error:
             return None
         name = NAMES.get(found, found)
+        if name == "escape" and self.is_followed():
+            return ""
         return name if isinstance(name, str) else ""
+
+    def is_followed(self) -> bool:
+        """Whether a key has come together with Escape, as one that is pressed with Alt does: it is
+        taken away then."""
+        self.window.timeout(0)
+        try:
+            self.window.get_wch()
+            return True
+        except curses.error:
+            return False
+        finally:
+            self.window.timeout(TICK)
+
+    def wait(self, seconds: float) -> None:
+        """Says how long the desk has not answered; who wants to leave can leave."""
+        height, columns = self.window.getmaxyx()
+        told = self.board.wording.notice(say("no answer yet", seconds=round(seconds)))
+        self.paint_row(height - 1, [(fit(f" {told}", columns - 1), "bad")], columns)
+        self.window.refresh()
+        self.window.timeout(0)
+        key = self.key()
+        self.window.timeout(TICK)
+        if key == BY_NAME["leave"].key:
+            raise Gone
 
     def step(self) -> None:
         """Takes a key, or looks for news."""
@@ -163,7 +192,8 @@ def sit_at_screen(day: Day, planner: int, name: Optional[str]) -> int:
     locale.setlocale(locale.LC_ALL, "")
     os.environ.setdefault("ESCDELAY", "25")
     seat = Seat(day, planner, name)
-    said, is_dead = "", False
+    seat.waits = say_waiting
+    said, is_dead, is_closed = "", False, False
     alarm = Alarm(Gone, signal.SIGINT, signal.SIGTERM, signal.SIGHUP)
     try:
         board = Board(Planning(seat))
@@ -178,20 +208,39 @@ def sit_at_screen(day: Day, planner: int, name: Optional[str]) -> int:
             raise
     except Closed:
         said = "the office has closed"
+        is_closed = True
     except (DeskEnded, NoAnswer):
         is_dead = True
     finally:
         alarm.stop()
-        say_goodbye(seat, said, is_dead)
+        say_goodbye(seat, [said] if said else [], is_dead, is_closed)
     return MACHINE if is_dead else 0
 
 
-def say_goodbye(seat: Seat, said: str, is_dead: bool) -> None:
+def say_waiting(seconds: float) -> None:
+    """Says, before there is a screen, that the desk does not answer."""
+    with contextlib.suppress(OSError):
+        print(
+            f"\roffice: the desk has not answered for {round(seconds)} s; Ctrl-C leaves",
+            end="",
+            file=sys.stderr,
+            flush=True,
+        )
+
+
+def say_goodbye(seat: Seat, lines: List[str], is_dead: bool, is_closed: bool) -> None:
     """Goes away from a seat, and says what becomes of the draft; the terminal may be gone."""
-    lines = [said] if said else []
+    edits, fault = seat.story.unfinished(), seat.log.fault
     if is_dead:
         lines = [DEAD]
-    elif seat.story.is_open:
+    if fault and edits:
+        lines.append(f"the log cannot be written ({fault}): your edits are on no disk")
+    elif is_closed and edits:
+        lines.append(
+            f"{counted(len(edits), 'edit')} not committed: the next day offers them, at seat "
+            f"{seat.planner} of office open NEXT --after {seat.day.path}"
+        )
+    elif seat.story.is_open and not is_dead:
         lines.append(f"your draft stays as it is: office sit {seat.day.path} {seat.planner}")
     with contextlib.suppress(OSError):
         seat.go()

@@ -8,7 +8,7 @@ import getpass
 import os
 import select
 import time
-from typing import Optional
+from typing import Callable, Optional
 
 from office.folder import Day, lock, read_text
 from office.processes import now
@@ -33,8 +33,10 @@ DEAD = (
     "the desk has ended; committed drafts are on the disk, and open edits are offered again after "
     "the next opening"
 )
-# a desk that says nothing for so many seconds is not waited for
+# a desk that says nothing for so many seconds is not waited for; after the first ones it is said
+# how long it has been
 PATIENCE = 30.0
+SAID_AFTER = 1.0
 
 
 def read_sitter(day: Day, planner: int) -> tuple[str, str]:
@@ -75,7 +77,11 @@ class Seat:
         self.log = SeatLog(day.log(planner))
         past = read_past(day.log(planner))
         self.story, self.waiting, self.offer = past.story, past.waiting, past.offer
+        # whose draft is here, if it is somebody else's
+        self.owner = past.owner() if past.owner() != self.name else ""
         self._heard = b""
+        # is told how many seconds an answer has been waited for, and may raise `Gone`
+        self.waits: Callable[[float], None] = lambda seconds: None
         self.log.noted(f"sits {self.name}")
 
     def _take_lock(self) -> int:
@@ -111,6 +117,11 @@ class Seat:
             os.close(end)
         self.log.close()
 
+    def take_over(self) -> None:
+        """Notes that who sits here now goes on with somebody else's draft."""
+        self.log.noted(f"takes over from {self.owner}")
+        self.owner = ""
+
     def forget_ended(self) -> None:
         """Notes that the edits of the last draft are given up."""
         self.log.noted("forgets")
@@ -126,12 +137,25 @@ class Seat:
     def _write(self, rest: bytes) -> None:
         try:
             while rest:
-                if not is_ready(self._lines, select.POLLOUT, PATIENCE):
+                if not self._wait(self._lines, select.POLLOUT, PATIENCE):
                     raise NoAnswer
                 with contextlib.suppress(BlockingIOError):
                     rest = rest[os.write(self._lines, rest) :]
         except BrokenPipeError:
             raise DeskEnded from None
+
+    def _wait(self, end: int, sign: int, seconds: float) -> bool:
+        """Waits for a pipe, and tells `waits` how long it has been."""
+        begun = time.monotonic()
+        while True:
+            waited = time.monotonic() - begun
+            if is_ready(end, sign, min(SAID_AFTER / 4, seconds - waited)):
+                return True
+            waited = time.monotonic() - begun
+            if waited >= seconds:
+                return False
+            if waited >= SAID_AFTER:
+                self.waits(waited)
 
     def has_more(self) -> bool:
         """Whether the desk has said something that was not read; its end counts, too."""
@@ -141,7 +165,7 @@ class Seat:
         """The next line of the desk, as it came; None if none has come in so many seconds."""
         until = time.monotonic() + seconds
         while b"\n" not in self._heard:
-            if not is_ready(self.answers, select.POLLIN, until - time.monotonic()):
+            if not self._wait(self.answers, select.POLLIN, until - time.monotonic()):
                 return None
             with contextlib.suppress(BlockingIOError):
                 more = os.read(self.answers, 65536)

@@ -90,6 +90,11 @@ class SeatPast:
     offer: str = ""
     # what the timetable cost at the base of the open draft
     base: Optional[int] = None
+    # who has worked on the last draft: who opened it, and who has taken it over
+    drafters: list[str] = field(default_factory=list)
+    # the reason that was given for the commit that is under way, and those of accepted drafts
+    why: str = ""
+    whys: dict[int, str] = field(default_factory=dict)
 
     def take(self, line: str) -> None:
         """Takes up a line of the log."""
@@ -102,17 +107,30 @@ class SeatPast:
             if has_words(encoded(text)):
                 self.waiting.append(text)
         elif sign == HEARD and self.waiting:
-            asked = self.waiting.pop(0)
-            self.story.hear(asked, text)
-            if asked.strip() == "commit" and text.startswith("committed "):
-                self.commits[int(text.split(" ")[1])] = (time, self.name)
+            self._take_answer(time, self.waiting.pop(0), text)
         elif sign == NOTED:
             self._take_note(text)
+
+    def _take_answer(self, time: str, asked: str, answer: str) -> None:
+        was_open = self.story.is_open
+        self.story.hear(asked, answer)
+        if self.story.is_open and not was_open:
+            self.drafters = [self.name]
+        if asked.strip() == "commit" and answer.startswith("committed "):
+            number = int(answer.split(" ")[1])
+            self.commits[number] = (time, self.name)
+            self.whys[number] = self.why
+        if asked.strip() == "commit":
+            self.why = ""
 
     def _take_note(self, text: str) -> None:
         word, _, rest = text.partition(" ")
         if word == "sits":
             self.name = rest
+        elif word == "takes":
+            self.drafters.append(self.name)
+        elif word == "why":
+            self.why = rest
         elif word == "offer":
             self.offer = rest
         elif word == "base":
@@ -127,6 +145,11 @@ class SeatPast:
         """A commit that was sent, and of which the answer was not heard when the desk died, was
         accepted if the minutes have it."""
         settle(self.story, self.waiting, entries, planner)
+
+    def owner(self) -> str:
+        """Whose draft it is that is open, or that has ended and was neither accepted nor given
+        up."""
+        return self.drafters[-1] if self.drafters and self.story.unfinished() else ""
 
     def unfinished(self) -> list[str]:
         """The edits of this seat that were neither accepted nor given up. An edit that was sent and

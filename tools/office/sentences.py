@@ -48,6 +48,7 @@ DESK = {
     "no draft": "No draft is open.",
     "no memory": "The desk has no memory for it now; try again.",
     "no place": "The desk has no place for it now; try again.",
+    "no answer yet": "The desk has not answered for {seconds} s; {key[leave]} leaves.",
     "desk says": "The desk says: {answer}",
     "typed": "{line}: {answer}",
     "differs": "The desk answered otherwise than expected: everything was read anew.",
@@ -61,10 +62,18 @@ DRAFT = {
     "taken back": "Taken back: {shifts}.",
     "nothing to commit": "No draft is open: nothing to commit.",
     "no edits": "Your draft has no edits: nothing to commit.",
-    "committed": "Committed as draft {number}: {count:edit}, on the disk.",
+    "committed": "Committed as draft {number}: {count:edit}, on the disk.{kept}",
+    "reason kept": " The reason is kept.",
+    "reason not kept": " The reason could not be written ({fault}).",
+    "not these edits": "Your draft has other edits by now: look at them again.",
     "not in the minutes": "Not written: {answer}, says the desk; the minutes do not have it.",
-    "not written": "Not written: the disk is full, or fails. Your edits are in the log; tell the "
-    "office.",
+    "not written": "Not written: the disk is full, or fails. {kept} Tell the office.",
+    "kept in the log": "Your edits are in the log.",
+    "kept nowhere": "Your edits are on no disk ({fault}): write them down.",
+    "minutes fail": "Nothing can be committed any more: the disk is full, or fails. You see what is "
+    "on the disk. Tell the office.",
+    "empty draft": "{row} has changed, and your draft had no edits left: it is closed, and you see "
+    "the newest timetable.",
     "newest": "No draft is open: you see the newest timetable.",
     "up to date": "Your draft is up to date.",
     "stale": "Stale: {row} has changed. Your edits are kept: {key[redo]} makes them again.",
@@ -101,9 +110,10 @@ LECTURES = {
 OTHERS = {
     "named": "{name}",
     "seat": "seat {planner}",
-    "moved here": "{who} moved {course} here, {time}.",
-    "moved away": "{who} took {course} away from here, {time}.",
-    "new room here": "{who} gave {course} this room, {time}.",
+    "moved here": "{who} moved {course} here, {time}{because}.",
+    "moved away": "{who} took {course} away from here, {time}{because}.",
+    "new room here": "{who} gave {course} this room, {time}{because}.",
+    "because": " ({why})",
     "not as seen": "Somebody has just changed {course}: look again.",
     "by draft": "draft {number}, {who}, {time}:",
 }
@@ -113,6 +123,9 @@ LINES = {
     "edit line": "  {shifts}",
     "numbered": "{number}. {shifts}",
     "earlier edits": "{count:edit} of {day} not accepted: make them again?",
+    "draft of another": "{owner} has left a draft here: go on with {count:edit}?",
+    "stale of another": "{owner} has left {count:edit} of a stale draft here: go on with them?",
+    "take over why": "A commit is logged for who makes it. If you leave, they stay as they are.",
     "these refused": "These were refused:",
     "edits of draft": "The edits of your draft: {count}",
     "left out before": "Not made again, of the draft before:",
@@ -120,11 +133,18 @@ LINES = {
     "your edits": "Your edits:",
     "redo commits nothing": "{key[redo]} makes them again on the newest timetable. Nothing is "
     "committed by it.",
+    "box change": "Cost {price}: {parts}.",
+    "box cost": "It costs {count} then.",
+    "leaves missing": "It leaves lectures missing: {courses}.",
+    "box fresh": "Nothing that it stands on has changed.",
+    "box stale": "Stale by now: {row} has changed. Nothing is lost; it cannot be committed as it is.",
     "stale title": "Your draft is stale: nothing is lost",
     "give up": "Give up these edits?",
     "on the disk": "Your accepted drafts are on the disk: {numbers}.",
     "not accepted": "These edits were not accepted. They are in the log of the seat, and offered "
     "again after the next opening:",
+    "not accepted nor kept": "These edits were not accepted, and the log cannot be written "
+    "({fault}): write them down.",
     "log fault": "The log cannot be written ({fault}): edits are lost if the desk dies.",
     "closing": "The office closes in {seconds} s: commit now, or your edits are offered again.",
 }

@@ -61,3 +61,13 @@ def all_shifts(edits: Iterable[str], timetable: Timetable) -> List[List[Shift]]:
         found.append(shifts_of(edit, now))
         now.try_edit(edit)
     return found
+
+
+def take_back(timetable: Timetable, shifts: List[Shift]) -> None:
+    """Takes an edit back by what it did."""
+    for shift in shifts:
+        if shift.now is not None and timetable.room_at(shift.course, shift.now.slot) is not None:
+            timetable.take(shift.course, shift.now.slot)
+    for shift in shifts:
+        if shift.was is not None:
+            timetable.put(shift.course, shift.was.slot, shift.was.room)

@@ -32,10 +32,16 @@ def state_of(day: Day) -> str:
 def draft_of(past: SeatPast, is_open: bool) -> str:
     """The draft of a seat in words, at a desk that is open or has ended."""
     if past.story.is_open and is_open:
-        return counted(len(past.story.edits), "edit")
+        return counted(len(past.story.edits), "edit") + of_whom(past)
     if past.unfinished():
         return counted(len(past.unfinished()), "edit") + ", not accepted"
     return "none"
+
+
+def of_whom(past: SeatPast) -> str:
+    """Whose draft it is, if it is not that of who sat there last alone."""
+    drafters = list(dict.fromkeys(past.drafters))
+    return "" if drafters in ([], [past.name]) else f" of {' and '.join(drafters)}"
 
 
 def seat_line(day: Day, planner: int, past: Optional[SeatPast], accepted: int) -> list[str]:
@@ -78,7 +84,8 @@ def cost_lines(day: Day) -> list[str]:
 
 def minutes_line(day: Day, pasts: list[Optional[SeatPast]]) -> str:
     """Whether minutes can be written, by what seats were told and by the room on the disk."""
-    if any(past is not None and past.story.is_full for past in pasts):
+    is_full = any(past is not None and past.story.is_full for past in pasts)
+    if is_full or os.path.exists(day.failing):
         return "minutes cannot be written: close the office, make room, and open a day after it"
     room = os.statvfs(day.path)
     if room.f_bavail == 0:

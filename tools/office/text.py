@@ -35,6 +35,13 @@ def cut(text: str, columns: int) -> str:
     return "".join(kept) + "~" if columns > 0 else ""
 
 
+def cut_front(text: str, columns: int) -> str:
+    """As much of the end of a text as fits."""
+    while width(text) > columns:
+        text = text[1:]
+    return text
+
+
 def fit(text: str, columns: int) -> str:
     """A text in so many columns exactly."""
     text = cut(text, columns)

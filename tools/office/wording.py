@@ -30,6 +30,12 @@ class Count(int):
         return counted(self, noun) if noun else str(int(self))
 
 
+def parts_text(changes: Mapping[str, int]) -> str:
+    """What each part of the cost changes by, those that do not change left out."""
+    found = ", ".join(f"{kind} {signed(change)}" for kind, change in changes.items() if change)
+    return found or "nothing changes"
+
+
 class Wording:
     """Words for one face. `actions` are its names for what a person can do, as keys or buttons;
     `safe` makes of a name what the face can show."""
@@ -117,6 +123,13 @@ class Wording:
             f"{counted(course.students, 'student')}, {self.name('teacher', course.teacher)}"
         )
 
+    def courses(self, counts: Mapping[str, int]) -> str:
+        """Courses, each with a number if it is more than one."""
+        return ", ".join(
+            self.course(name) + (f" ({count})" if count > 1 else "")
+            for name, count in counts.items()
+        )
+
     # what is said
 
     def notice(self, notice: Notice) -> str:
@@ -142,6 +155,8 @@ class Wording:
             "made": Count,
             "students": Count,
             "time": lambda time: time[11:16] or "time not known",
+            "courses": self.courses,
+            "parts": parts_text,
             "reasons": lambda reasons: "; ".join(self.lines(reasons)),
         }
         if name in NAMES:

@@ -6,12 +6,13 @@ answers what is to be read or asked then, if anything is.
 """
 from __future__ import annotations
 
+import time
 from typing import Dict, List, Optional
 
 from office.carry import MOVE, PLACE, SWAP, Carry, Offer
-from office.drafting import Drafting
+from office.drafting import BLANK, Drafting, told_edits
 from office.histories import History
-from office.notice import Notice, Question, say
+from office.notice import NOTHING, Notice, Question, say
 from office.planning import Planning
 from office.timetable import Lecture, Slot
 from office.week import Cell, View, all_views, cells_of, told_of_view, weeks_of
@@ -28,6 +29,8 @@ class Work:
         self.carry: Optional[Carry] = None
         self.drafting = Drafting(planning)
         self.history = History(planning)
+        # the planner leaves
+        self.is_done = False
 
     @property
     def notice(self) -> Notice:
@@ -38,9 +41,28 @@ class Work:
         self.planning.notice = notice
 
     def begin(self) -> Optional[Question]:
-        """Hears what was under way, and offers edits of an earlier day."""
+        """Hears what was under way. A draft that somebody else has left is asked about; edits of an
+        earlier day are offered."""
         self.planning.begin()
+        seat, planning = self.planning.seat, self.planning
+        edits = planning.edits() or planning.ended()
+        if not seat.owner or not edits:
+            return self.drafting.offer_earlier()
+        code = "draft of another" if planning.is_open else "stale of another"
+        lines = [say("edit line", shifts=shifts) for shifts in planning.shifts()]
+        return Question(
+            say(code, owner=seat.owner, count=len(edits)),
+            [*(lines or told_edits(edits)), BLANK, say("take over why")],
+            {"take over": self._take_over, "leave to them": self.leave},
+            can_wait=False,
+        )
+
+    def _take_over(self) -> Optional[Question]:
+        self.planning.seat.take_over()
         return self.drafting.offer_earlier()
+
+    def leave(self) -> None:
+        self.is_done = True
 
     # what is seen
 
@@ -83,8 +105,15 @@ class Work:
                 code = "moved here" if is_here else "moved away"
                 if is_here and shift.was is not None and shift.was.slot == slot:
                     code = "new room here"
-                who, time = news.who(accepted), news.told(accepted)[1]
-                return say(code, who=who, course=shift.course, time=time)
+                told = news.told(accepted)
+                because = say("because", why=told.why) if told.why else NOTHING
+                return say(
+                    code,
+                    who=news.who(accepted),
+                    course=shift.course,
+                    time=told.time,
+                    because=because,
+                )
         return None
 
     def _is_of_week(self, was: Optional[Lecture], now: Optional[Lecture], slot: Slot) -> bool:
@@ -127,6 +156,9 @@ class Work:
             self._carry(SWAP, self.carry.course, self.carry.lecture)
 
     def _carry(self, kind: str, course: str, lecture: Optional[Lecture]) -> None:
+        if self.planning.is_failing and not self.planning.is_open:
+            self.notice = say("minutes fail")
+            return
         self.carry = Carry(self.planning, kind, course, lecture)
         self.notice = self.carry.best_told()
 
@@ -189,6 +221,20 @@ class Work:
         return found
 
     # news
+
+    def urgent(self) -> List[Notice]:
+        """What is to be known beside the last notice, the most urgent first."""
+        planning, found = self.planning, []
+        if planning.alarm:
+            found.append(planning.alarm)
+        if planning.is_failing:
+            found.append(say("minutes fail"))
+        if planning.seat.log.fault:
+            found.append(say("log fault", fault=planning.seat.log.fault))
+        at = planning.seat.day.closes_at()
+        if at is not None:
+            found.append(say("closing", seconds=max(0, round(at - time.time()))))
+        return found
 
     def tick(self) -> bool:
         """Looks for news; answers whether there are any."""

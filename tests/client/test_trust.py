@@ -1,0 +1,394 @@
+"""What a planner can trust: what the screen says is so, and what is committed was meant."""
+import os
+import random
+import re
+
+from support import COMP07, COMP07_SOL, PROGRAM, SMALL, SMALL_SOL, OfficeTest, said
+from test_day import LIMITED
+
+from office.board import Board
+from office.carry import MOVE, SWAP, Carry
+from office.commit_notes import read_commit_notes
+from office.folder import Day
+from office.week import View
+
+BEST = "move c0109 4 1 r04 4 3"
+
+
+def text_of(board, height=24, columns=80):
+    return "\n".join("".join(text for text, _ in row) for row in board.rows(height, columns))
+
+
+class Two(OfficeTest):
+    """Two planners at comp07, each at a screen."""
+
+    def boards(self):
+        self.office_process = self.open("day", COMP07, "2", "--start", COMP07_SOL)
+        found = [Board(self.planning("day", 0, "anna")), Board(self.planning("day", 1, "ben"))]
+        for board in found:
+            board.begin()
+        return found
+
+    @staticmethod
+    def go_to(board, view, slot):
+        board.show_view(View(*view.split()))
+        board.set_cursor(slot)
+        return text_of(board)
+
+    @staticmethod
+    def type_keys(board, *keys):
+        for key in keys:
+            board.press(key)
+            text = text_of(board)
+        return text
+
+
+class Cheapest(Two):
+    def test_of_all_that_is_offered(self):
+        """The cheapest is the cheapest of the grid, its own slot too, for moves and swaps."""
+        anna, _ = self.boards()
+        for course in ("c0049", "c0110", "c0109", "c0025"):
+            for lecture in anna.planning.known.present().of_course(course):
+                for kind in (MOVE, SWAP):
+                    carry = Carry(anna.planning, kind, course, lecture)
+                    slots = anna.planning.instance.slots()
+                    offers = [one for slot in slots for one in carry.at(slot)]
+                    wanted = min(
+                        one.price
+                        for one in offers
+                        if not one.edit.startswith(
+                            f"reroom {course} {lecture.room} {lecture.day} {lecture.period}"
+                        )
+                    )
+                    self.assertEqual(carry.best()[1].price, wanted, (lecture, kind))
+        text = self.go_to(anna, "course c0049", (0, 0))
+        text = self.type_keys(anna, "enter")
+        self.assertIn("-231 r04", text)
+        self.assertIn("Cheapest: -231 in r04, day 1, period 1", text)
+        self.type_keys(anna, "b", "enter")
+        self.assertEqual(anna.planning.edits(), ["reroom c0049 r04 0 0"])
+
+    def test_is_said_anew(self):
+        """A move that becomes a swap has another cheapest."""
+        anna, _ = self.boards()
+        self.go_to(anna, "room r04", (2, 3))
+        self.assertIn("Cheapest: ", self.type_keys(anna, "enter"))
+        before = said(anna.planning)
+        text = self.type_keys(anna, "s")
+        self.assertNotIn(before, text)
+        self.assertRegex(text, r"Cheapest: \S+ with c\d+, day")
+
+    def test_no_slot_is_left_open(self):
+        """Where a thousand offers are not enough for the grid, the rest is asked."""
+        draw, courses, rooms = random.Random(3), 1400, 300
+        names = [f"c{number:04}" for number in range(courses)]
+        lines = [
+            f"Name: many Courses: {courses} Rooms: {rooms} Days: 5 Periods_per_day: 4 "
+            "Curricula: 1 Constraints: 0 COURSES:",
+            *(f"{name} t{name} 2 2 {draw.randrange(20, 90)}" for name in names),
+            "ROOMS:",
+            *(f"r{number:03} {draw.randrange(20, 90)}" for number in range(rooms)),
+            "CURRICULA: q 1 c0000 UNAVAILABILITY_CONSTRAINTS: END.",
+        ]
+        slots = [(day, period) for day in range(5) for period in range(4)]
+        free = {slot: [f"r{number:03}" for number in range(rooms)] for slot in slots}
+        placed = []
+        for name in names:
+            for slot in draw.sample([one for one in slots if free[one]], 2):
+                placed.append(f"{name} {free[slot].pop()} {slot[0]} {slot[1]}\n")
+        instance = self.write("many.ctt", "\n".join(lines))
+        solution = self.write("many.sol", "".join(placed))
+        self.open("day", instance, "1", "--start", solution)
+        planning = self.planning("day", 0)
+        lecture = planning.known.present().of_course("c0000")[0]
+        timetable = planning.known.present()
+        for kind in (MOVE, SWAP):
+            carry = Carry(planning, kind, "c0000", lecture)
+            self.assertFalse(carry.is_whole)
+            for slot in slots:
+                free_slot = timetable.room_at("c0000", slot) is None or slot == lecture.slot
+                self.assertEqual(bool(carry.at(slot)), free_slot, (kind, slot))
+        board = Board(planning)
+        board.show_view(View("course", "c0000"))
+        board.set_cursor(lecture.slot)
+        self.assertNotIn("?  ", self.type_keys(board, "enter").replace("? help", ""))
+
+
+class Meant(Two):
+    def test_typed_text_publishes_nothing(self):
+        anna, _ = self.boards()
+        anna.planning.edit(BEST)
+        text = self.type_keys(anna, *"c0109")
+        self.assertIn("Why? 0109", text)
+        self.assertEqual(anna.planning.minutes.read_on(), [])
+        self.assertTrue(anna.planning.is_open)
+        self.type_keys(anna, "escape")
+        self.go_to(anna, "course c0001", (1, 2))
+        self.type_keys(anna, "x")
+        self.assertEqual(anna.planning.missing(), {"c0001": 1})
+        self.assertIn("It leaves lectures missing: c0001.", self.type_keys(anna, "c"))
+        self.type_keys(anna, "escape", "u")
+        self.assertEqual((anna.planning.missing(), anna.planning.edits()), ({}, [BEST]))
+        self.assertEqual(anna.planning.minutes.read_on(), [])
+
+    def test_box(self):
+        """Each edit in words, what the cost changes, whether it is stale; the reason is kept."""
+        anna, ben = self.boards()
+        anna.planning.edit(BEST)
+        anna.planning.edit("swap c0110 4 2 c0014 4 2")
+        text = self.type_keys(anna, "c")
+        self.assertIn("1. c0109: day 5, period 2, r01 -> day 5, period 4, r04", text)
+        self.assertRegex(
+            text, r"2\. c0110 \(day 5, period 3, r\d+\) <-> c0014 \(day 5, period 3, r"
+        )
+        self.assertRegex(text, r"Cost -\d+: capacity -\d+")
+        self.assertIn("Nothing that it stands on has changed.", text)
+        ben.planning.edit("drop c0109 3 2")
+        self.commit(ben, "a teacher is ill")
+        self.assertIn("The reason is kept.", text_of(ben))
+        self.assertTrue(anna.tick())
+        self.assertIn("Stale by now: course c0109 has changed", text_of(anna))
+        self.type_keys(anna, "escape")
+        self.assertTrue(anna.planning.is_open)
+        notes = read_commit_notes(Day(self.path("day")))
+        self.assertEqual(
+            [(n.planner, n.name, n.why) for n in notes.values()], [(1, "ben", "a teacher is ill")]
+        )
+
+    def test_other_edits(self):
+        """A draft that has other edits than those that were confirmed is not committed."""
+        anna, _ = self.boards()
+        anna.planning.edit(BEST)
+        box = anna.work.drafting.box()
+        anna.planning.edit("drop c0001 1 2")
+        self.assertIsNone(anna.work.drafting.commit(box.edits, ""))
+        self.assertIn("other edits", said(anna.planning))
+        self.assertEqual(anna.planning.minutes.read_on(), [])
+
+    def test_other_price(self):
+        """A lecture is not put down at another price than the one that was seen."""
+        anna, ben = self.boards()
+        self.go_to(anna, "course c0109", (4, 1))
+        self.type_keys(anna, "enter", "b")
+        ben.planning.edit("drop c0109 0 3")
+        self.commit(ben)
+        text = self.type_keys(anna, "enter")
+        if anna.planning.edits():
+            # the price was the same
+            self.assertEqual(anna.planning.edits(), [BEST])
+        else:
+            self.assertIn("Others have changed it just now", text)
+
+    def test_reason_that_cannot_be_written(self):
+        anna, _ = self.boards()
+        os.symlink("/dev/full", self.path("day/reasons"))
+        anna.planning.edit(BEST)
+        self.commit(anna, "for the dean")
+        text = text_of(anna)
+        self.assertIn("Committed as draft 1: 1 edit, on the disk. The reason could not be", text)
+        self.assertEqual(len(anna.planning.minutes.entries), 1)
+        # it is in the log, and written when it can be
+        anna.planning.seat.go()
+        os.remove(self.path("day/reasons"))
+        self.planning("day", 0, "anna")
+        self.assertEqual(read_commit_notes(Day(self.path("day")))[1].why, "for the dean")
+
+    def test_torn_note(self):
+        anna, ben = self.boards()
+        anna.planning.edit(BEST)
+        self.commit(anna, "one\tof many")
+        with open(self.path("day/reasons"), "a") as file:
+            file.write("7\t2026")
+        ben.planning.edit("drop c0001 1 2")
+        self.commit(ben, "two")
+        notes = read_commit_notes(Day(self.path("day")))
+        self.assertEqual({n: note.why for n, note in notes.items()}, {1: "one of many", 2: "two"})
+
+
+class Seen(Two):
+    def test_key_acts_on_what_was_seen(self):
+        anna, ben = self.boards()
+        self.go_to(anna, "room r01", (4, 1))
+        ben.planning.edit("swap c0109 4 1 c0113 4 1")
+        self.commit(ben)
+        # no drawing in between
+        anna.press("x")
+        self.assertFalse(anna.planning.is_open)
+        self.assertRegex(text_of(anna), r"ben (moved|gave) c0\d+ .*, \d\d:\d\d\.")
+        self.assertIn("~", text_of(anna))
+        # now it has been seen
+        anna.press("x")
+        self.assertEqual(anna.planning.edits(), ["drop c0113 4 1"])
+
+    def test_changes_of_others_without_a_draft(self):
+        anna, ben = self.boards()
+        text = self.go_to(anna, "course c0109", (4, 3))
+        self.assertNotIn("~", text)
+        ben.planning.edit(BEST)
+        self.commit(ben)
+        self.assertTrue(anna.tick())
+        text = text_of(anna)
+        self.assertRegex(text, r">~r04")
+        self.assertRegex(text, r"ben moved c0109 here, \d\d:\d\d\.")
+        anna.set_cursor((4, 1))
+        self.assertRegex(text_of(anna), r"ben took c0109 away from here, \d\d:\d\d\.")
+        # a draft of one's own begins from what others have left
+        anna.planning.edit("drop c0001 1 2")
+        anna.planning.abandon()
+        self.assertNotIn("~", text_of(anna))
+
+    def test_windows_of_many_days(self):
+        draw = (
+            "Name: w Courses: 1 Rooms: 1 Days: 10 Periods_per_day: 12 Curricula: 0 Constraints: 0"
+        )
+        text = f"{draw} COURSES: c t 1 1 5 ROOMS: r 9 CURRICULA: UNAVAILABILITY_CONSTRAINTS: END."
+        self.open("day", self.write("wide.ctt", text), "1")
+        board = Board(self.planning("day", 0))
+        board.begin()
+        head = text_of(board, 24, 120).split("\n")[3]
+        self.assertIn("day 8 >", re.sub(" +", " ", head))
+        self.assertNotIn("<", head)
+        for _ in range(9):
+            board.press("right")
+        head = text_of(board, 24, 120).split("\n")[3]
+        self.assertIn("day 10", head)
+        self.assertTrue(head.startswith("<"))
+        self.assertNotIn(">", head)
+
+
+class Overtaken(Two):
+    def overtaken(self):
+        anna, ben = self.boards()
+        one = anna.planning.known.present().of_course("c0068")[0]
+        anna.planning.edit(f"drop c0068 {one.day} {one.period}")
+        anna.planning.undo()
+        ben.planning.edit(f"drop c0068 {one.day} {one.period}")
+        self.commit(ben)
+        anna.tick()
+        return anna
+
+    def test_empty_draft(self):
+        for key in ("c", "f"):
+            with self.subTest(key=key):
+                self.setUp()
+                anna = self.overtaken()
+                self.assertIn("course c0068 has changed; no edits here", text_of(anna, 24, 120))
+                text = self.type_keys(anna, key)
+                self.assertIn("had no edits left: it is closed", text)
+                self.assertFalse(anna.planning.is_open)
+                self.assertEqual(anna.planning.ended(), [])
+                self.assertTrue(anna.planning.edit("drop c0001 1 2"))
+
+    def test_typed_edit_opens_a_draft(self):
+        anna, _ = self.boards()
+        self.type_keys(anna, ":", *"swap c0110 4 2 c0014 4 2", "enter")
+        self.assertEqual(anna.planning.edits(), ["swap c0110 4 2 c0014 4 2"])
+
+
+class TakenOver(Two):
+    def test_draft_of_somebody_else(self):
+        anna, _ = self.boards()
+        anna.planning.edit(BEST)
+        anna.planning.seat.go()
+        carla = Board(self.planning("day", 0, "carla"))
+        carla.begin()
+        text = text_of(carla)
+        self.assertIn("anna has left a draft here: go on with 1 edit?", text)
+        self.assertIn("c0109: day 5, period 2, r01 -> day 5, period 4, r04", text)
+        # it has to be answered
+        self.type_keys(carla, "escape", "c", "enter")
+        self.assertTrue(carla.planning.is_open)
+        carla.press("q")
+        self.assertTrue(carla.is_done)
+        carla.planning.seat.go()
+        carla = Board(self.planning("day", 0, "carla"))
+        carla.begin()
+        carla.press("y")
+        self.assertRegex(
+            self.office("status", self.path("day"))[1],
+            r"0 +carla +\d\d:\d\d +1 edit of anna and carla",
+        )
+        self.commit(carla, "it was agreed")
+        notes = read_commit_notes(Day(self.path("day")))
+        self.assertEqual((notes[1].name, notes[1].why), ("carla", "it was agreed"))
+        self.assertRegex(self.office("log", self.path("day"))[1], r"1 planner 0 carla")
+
+    def test_own_draft(self):
+        anna, _ = self.boards()
+        anna.planning.edit(BEST)
+        anna.planning.seat.go()
+        anna = Board(self.planning("day", 0, "anna"))
+        anna.begin()
+        self.assertIn("Your draft is as you left it", text_of(anna))
+
+
+class Failing(OfficeTest):
+    """Minutes that cannot be written any more."""
+
+    def fill(self):
+        """Two seats, of which the first has been told that its commit was not written."""
+        self.environment["TIMEDESK"] = self.write(
+            "limited", LIMITED.format(program=PROGRAM).replace("600, 600", "40, 40"), 0o755
+        )
+        self.open("day", SMALL, "2", "--start", SMALL_SOL)
+        anna, ben = [Board(self.planning("day", planner)) for planner in (0, 1)]
+        for board in (anna, ben):
+            board.begin()
+            text_of(board)
+        for edit in ("drop geo 1 2", "drop top 0 2", "drop geo 0 1"):
+            anna.planning.edit(edit)
+            self.commit(anna)
+            if "Not written" in text_of(anna):
+                return anna, ben
+        self.fail("the minutes were written")
+
+    def check(self, board):
+        """What is seen is what the minutes lead to."""
+        text = text_of(board)
+        self.assertIn("Nothing can be committed any more", text)
+        entries = len(board.planning.minutes.entries)
+        cost = self.office("status", self.path("day"))[1].split("cost now")[1].split()[0]
+        self.assertIn(f"cost {cost}: ", text)
+        self.assertIn(f"{entries} draft", text)
+        for course in ("geo", "top", "alg"):
+            board.show_view(View("course", course))
+            text_of(board)
+            self.assertEqual(
+                len(board.work.lectures()), len(board.planning.known.newest.of_course(course))
+            )
+        self.assertEqual(said(board.planning.alarm), "")
+
+    def test_every_seat_says_so(self):
+        anna, ben = self.fill()
+        self.assertTrue(ben.tick())
+        self.check(anna)
+        self.check(ben)
+        self.assertIn("minutes cannot be written", self.office("status", self.path("day"))[1])
+        ben.press("enter")
+        self.assertIsNone(ben.work.carry)
+
+    def test_also_where_no_file_can_tell_it(self):
+        _, ben = self.fill()
+        os.remove(self.path("day/failing"))
+        for course in ("geo", "top", "alg"):
+            ben.show_view(View("course", course))
+        self.check(ben)
+        ben.planning.seat.go()
+        os.remove(self.path("day/failing"))
+        ben = Board(self.planning("day", 1))
+        ben.begin()
+        self.check(ben)
+
+    def test_no_log_either(self):
+        anna, _ = self.fill()
+        full = os.open("/dev/full", os.O_WRONLY)
+        os.dup2(full, anna.planning.seat.log.end)
+        os.close(full)
+        anna.planning.seat.log.noted("x")
+        anna.planning._turned_down("not written")
+        self.assertIn("on no disk", said(anna.planning))
+        self.assertNotIn("in the log", said(anna.planning))
+        anna.planning.seat.waiting.append("drop geo 1 2")
+        lines = "\n".join(map(said, anna.work.drafting.left()))
+        self.assertNotIn("in the log", lines)
+        self.assertIn("write them down", lines)
