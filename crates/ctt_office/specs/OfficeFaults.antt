@@ -6,6 +6,8 @@ use Rattle.ctt_office.specs.declared.office_fault.OfficeFault.{OfficeFault}
 use Rattle.ctt_office.specs.declared.office_fault.OfficeFault.TheVariants.{CannotRead, CannotWrite, NoMemory, NoPlace, NoThread, NotWritten}
 use Rattle.ctt_office.specs.declared.office_fault.SeatFault.{SeatFault}
 use Rattle.ctt_office.specs.declared.office_fault.SeatFault.TheVariants as seat
+use Rattle.ctt_office.specs.declared.sitting.Ending.{Ending}
+use Rattle.ctt_office.specs.declared.sitting.Ending.TheVariants as ending
 
 -- a fault of a desk with this number of seats: an unreadable seat is one of them
 abbrev pub IsOfficeFault : ℕ → OfficeFault → Type 0
@@ -21,6 +23,14 @@ abbrev pub of_shared : SharedFault → OfficeFault
 of_shared (shared.Unlawful at fault) = NoMemory
 of_shared shared.NoPlace = NoPlace
 of_shared shared.NoMemory = NoMemory
+
+-- the fault of a seat that has ended so, if there is one: the planner is not at fault, so only
+-- memory can be lacking
+abbrev pub fault_of : Ending → Result (Unit {0}) SeatFault
+fault_of ending.Left = Ok tt
+fault_of ending.Ended = Ok tt
+fault_of ending.Broken = Ok tt
+fault_of ending.NoMemory = Err seat.NoMemory
 
 -- the fault of the seat with this index
 abbrev pub at_seat : ℕ → SeatFault → OfficeFault

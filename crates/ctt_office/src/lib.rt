@@ -20,9 +20,12 @@ mod workplace;
 
 pub use bad_word::BadWord;
 pub use blocks::{Blocks, read_blocks};
+pub use book::{Attempt, Book, Pages};
 pub use doors::Doors;
 pub use durable::Durable;
 pub use line_reader::{LineReader, Next};
 pub use office::keep_desk;
 pub use office_fault::OfficeFault;
 pub use seat_line::{SeatLine, read_seat_line};
+pub use sitting::{Ending, sit};
+pub use workplace::Workplace;

@@ -7,6 +7,7 @@ ghost use Rattle.ctt_office.specs.Lines.{Comes, Gives, ReaderValue, coming};
 ghost use Rattle.ctt_seat.specs.Attended.{leaver};
 ghost use Rattle.ctt_office.specs.Pages.{HasFailed, IsInMinutes};
 ghost use Rattle.ctt_office.specs.Ended.{EndedFits};
+ghost use Rattle.ctt_office.specs.OfficeFaults.{fault_of};
 ghost use Rattle.ctt_office.specs.SeatAnswers.{IsAnswer, IsUncommitted, Tells};
 ghost use Rattle.ctt_office.specs.SeatText.{LineFits, asked_by};
 ghost use Rattle.ctt_office.specs.Sittings.{EndsAt, IsBroken, IsCut, IsSat};
@@ -33,7 +34,7 @@ use std::sync::Wait;
 
 /// Why a seat has ended.
 #[derive(Clone, Copy, PartialEq, Eq)]
-pub(crate) enum Ending {
+pub enum Ending {
     /// The planner left.
     Left,
     /// The planner's lines ended.
@@ -148,7 +149,7 @@ fn is_last(line: &SeatLine) -> bool
 /// Answers a planner's lines until the planner leaves, the lines end, a device of the seat fails,
 /// or memory runs out for an answer. An open draft is then abandoned.
 #[tactic(auto, using(crate::proofs::SittingLemmas::read_failed, crate::proofs::SittingLemmas::write_failed))]
-fn sit<'i, S: Sheet<'i>, J: Naming, W: Durable, I: Source, O: Sink, R: Wait>(
+pub fn sit<'i, S: Sheet<'i>, J: Naming, W: Durable, I: Source, O: Sink, R: Wait>(
     rt: &R,
     alloc: Global,
     desk: &SharedDesk<S, J>,
@@ -192,6 +193,16 @@ fn sit<'i, S: Sheet<'i>, J: Naming, W: Durable, I: Source, O: Sink, R: Wait>(
     unreachable!()
 }
 
+/// Returns the fault of a seat that has ended so, if there is one.
+fn fault_of(ending: Ending) -> Result<(), SeatFault>
+    ensures { result ≡ fault_of ending }
+{
+    match ending {
+        Ending::Left | Ending::Ended | Ending::Broken => Ok(()),
+        Ending::NoMemory => Err(SeatFault::NoMemory),
+    }
+}
+
 /// Opens the devices of a seat, and answers the planner's lines.
 fn open_and_sit<'i, 'x, S: Sheet<'i>, J: Naming, D: Doors, W: Durable, R: Wait>(
     station: Station<'i, 'x, J, D, W>,
@@ -226,10 +237,7 @@ fn open_and_sit<'i, 'x, S: Sheet<'i>, J: Naming, D: Doors, W: Durable, R: Wait>(
         rt, alloc, desk, instance, book, number, place, &mut lines, &mut out,
     );
     let_go(planner);
-    match ending {
-        Ending::Left | Ending::Ended | Ending::Broken => Ok(()),
-        Ending::NoMemory => Err(SeatFault::NoMemory),
-    }
+    fault_of(ending)
 }
 
 /// A planner with a seat at a shared desk, over a grid sheet. The type has one lifetime for the

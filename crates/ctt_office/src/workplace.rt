@@ -2,6 +2,7 @@
 
 ghost use Rattle.std.specs.Prelude.{◌≡◌, None};
 ghost use Rattle.ctt_seat.specs.Attended.{leaver};
+ghost use Rattle.ctt_seat.specs.declared.seat.Seat.TheVariants.{Free};
 ghost use Rattle.ctt_office.specs.Ended.{OpenFits, ended_after, is_fresh_start};
 
 use ctt_board::{Sheet, Timetable};
@@ -14,9 +15,9 @@ use ctt_text::let_go;
 /// A seat, and the calls of the last draft that ended stale there, until they are redone or no
 /// longer wanted.
 #[derive(Drop)]
-pub(crate) struct Workplace<'i, S: Timetable, J: Naming> {
-    pub(crate) seat: Seat<'i, S, J>,
-    pub(crate) ended: Option<AskedCalls>,
+pub struct Workplace<'i, S: Timetable, J: Naming> {
+    pub seat: Seat<'i, S, J>,
+    pub ended: Option<AskedCalls>,
 }
 
 /// Returns whether an answer makes the calls of an ended draft obsolete.
@@ -59,8 +60,9 @@ pub(crate) fn calls_fit<'i, S: Sheet<'i>, J: Naming>(seat: &Seat<'i, S, J>)
 
 impl<'i, S: Sheet<'i>, J: Naming> Workplace<'i, S, J> {
     /// Creates the seat of a planner who has done nothing yet.
-    pub(crate) fn new(planner: Planner<S, J>) -> Self
-        ensures { result.ended ≡ None }
+    pub fn new(planner: Planner<S, J>) -> Self
+        ensures seat { result.seat ≡ Free planner }
+        ensures ended { result.ended ≡ None }
     {
         Workplace {
             seat: Seat::Free(planner),
@@ -69,7 +71,7 @@ impl<'i, S: Sheet<'i>, J: Naming> Workplace<'i, S, J> {
     }
 
     /// Ends the seat and returns its planner. An open draft is abandoned.
-    pub(crate) fn leave(self) -> Planner<S, J>
+    pub fn leave(self) -> Planner<S, J>
         ensures { result ≡ leaver self.entry.seat }
     {
         let Workplace { seat, ended } = self;

@@ -4,5 +4,5 @@ use Rattle.ctt_office.proofs.sitting.open_and_sit.Goals as goal
 
 pub sit-planner-requires : goal.sit-planner-requires
 sit-planner-requires g c κs =
-    let fits : EndedFits c.args.station.instance.now c.new-place.result.ended = subst (EndedFits c.args.station.instance.now) (sym c.new-place.ensures) tt in
+    let fits : EndedFits c.args.station.instance.now c.new-place.result.ended = subst (EndedFits c.args.station.instance.now) (sym c.new-place.ensures.ended) tt in
     search rules
