@@ -92,6 +92,7 @@ fn answer_lines<'i, S: Sheet<'i>, W: Sink>(
     ensures part { OnErr result
         (WroteFront desk.old (script instance.now text.now) (W.taken writer.old)
         (W.taken writer.new)) }
+    ensures flushed { OnOk result (W.unflushed writer.new ≡ 0) }
     ensures fault { IfErr result (λ fault. (fault ≡ script_fault.Write)
         ⊎ (fault ≡ script_fault.NoMemory)) }
     ensures failed { (result ≡ Err script_fault.Write) → W.has_failed writer.new ≡ true }
@@ -111,9 +112,10 @@ fn answer_lines<'i, S: Sheet<'i>, W: Sink>(
 /// this order, and writes one answer line for each line that has words. Returns the desk as the
 /// script leaves it.
 ///
-/// The whole script is read before anything is written, and none of it is read if the opening is
-/// refused. A failed flush counts as a failed write. If a write fails, or memory runs out, a prefix
-/// of the answers may have been written.
+/// The whole script is read before anything is written, by at most one read more than it has bytes,
+/// and none of it is read if the opening is refused. No read follows a failed one. All that was
+/// written is flushed at the end, and a failed flush counts as a failed write. If a write fails, or
+/// memory runs out, a prefix of the answers may have been written.
 #[tactic(auto, using(crate::proofs::ScriptRuns::not_read))]
 pub fn run_script<'i, R: Source, W: Sink>(
     alloc: Global,
@@ -130,6 +132,7 @@ pub fn run_script<'i, R: Source, W: Sink>(
     ensures answers { IfOk result (λ desk. IfSome (R.left reader.old) (λ text.
         Appends (W.taken writer.old) (W.taken writer.new)
         (answer_text instance.now desk.opening text))) }
+    ensures flushed { OnOk result (W.unflushed writer.new ≡ 0) }
     ensures stands { IfOk result (λ desk. IfSome (R.left reader.old) (λ text.
         Stands desk (script_run instance.now desk.opening text))) }
     ensures entries { IfOk result (λ desk. IsWritable instance.now desk.journal) }
@@ -145,6 +148,7 @@ pub fn run_script<'i, R: Source, W: Sink>(
         → (reader.new ≡ reader.old) × (writer.new ≡ writer.old) }
     ensures read { (result ≡ Err script_fault.Read) ↔ (R.has_failed reader.new ≡ true) }
     ensures end { OnOk result (IfSome (R.left reader.old) (λ _. R.left reader.new ≡ Some [])) }
+    ensures once { R.retries reader.new ≡ R.retries reader.old }
     ensures fewer { IfSome (R.left reader.old) (λ old. IfSome (R.left reader.new) (λ new.
         R.pulls reader.new + length new ≤ R.pulls reader.old + length old + 1)) }
     ensures unwritten { IfErr result (λ fault. MayHaveWritten fault ⊎ (writer.new ≡ writer.old)) }

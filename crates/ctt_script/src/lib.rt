@@ -22,6 +22,7 @@ mod written;
 
 pub use answers::{write_answer, write_bad_line};
 pub use call_words::{Words, words_of_call, words_of_edit};
+pub use ctt_files::{Device, Failed, InputFault, Sink, Source, read_all};
 pub use engine::run_script;
 pub use journal::{read_entry, read_journal};
 pub use journal_fault::JournalFault;
