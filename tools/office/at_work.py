@@ -7,10 +7,9 @@ from __future__ import annotations
 import contextlib
 import json
 import os
-from typing import Dict, Iterable, List, NamedTuple, Optional, Tuple
+from typing import Dict, List, NamedTuple, Optional, Tuple
 
-from office.folder import Day, is_locked
-from office.seat import read_sitter
+from office.folder import Day
 from office.timetable import Lecture
 
 

@@ -14,7 +14,7 @@ from office.overlays import Asked, Chooser, CommitBox, Overlay, Page, Typed
 from office.planning import Planning
 from office.text import fit, wrap
 from office.timetable import Lecture, Slot
-from office.week import View
+from office.week import Cell, View
 from office.wording import Wording
 from office.work import Work
 
@@ -55,6 +55,8 @@ class Board:
             "view": self.choose_view,
             "weeks": lambda: self.work.show_next_week(self.seen()),
             "history": lambda: self.work.drafts_of(self.seen()),
+            "pin": self.pin,
+            "who": self.work.knowing.who_is_where,
             "undo": lambda: self.free(drafting.undo),
             "edits": drafting.edits,
             "commit": lambda: self.free(self.show_box),
@@ -105,7 +107,7 @@ class Board:
         rows = rows[: height - BELOW]
         rows += [[("", "")]] * (height - BELOW - len(rows))
         rows += header.detail_rows(self.cursor, grid.cells[self.cursor])
-        rows += self.message_rows(width)
+        rows += self.message_rows(width, grid.cells[self.cursor])
         self.keep_drawn(grid)
         if isinstance(self.overlay, Typed):
             return rows + key_rows(self.work.carry, width)[:1] + self.overlay.rows(1, width)
@@ -134,10 +136,12 @@ class Board:
             return self.drawn.offer[1]
         return carry.chosen(self.cursor) if carry else None
 
-    def message_rows(self, width: int) -> List[Row]:
-        """Two rows: what the last step has to say, and what else is to be known."""
+    def message_rows(self, width: int, cell: Cell) -> List[Row]:
+        """Two rows: what the last step has to say, or what others say of the slot at the cursor,
+        and what else is to be known."""
         notice = self.planning.notice
-        lines = wrap(self.wording.notice(notice), width - 2)[:2]
+        told = self.wording.lines([notice] if notice else self.work.knowing.told_of(cell))
+        lines = [line for each in told for line in wrap(each, width - 2)][:2]
         style = "bad" if notice.is_bad else "said"
         rows: List[Row] = [[(fit(f" {line}", width), style)] for line in lines]
         urgent = next(iter(self.work.urgent()), NOTHING)
@@ -232,6 +236,17 @@ class Board:
             self.work.swap_instead()
             return self.begin_carry(None)
         return self.begin_carry(self.work.pick_up(self.seen(), SWAP))
+
+    def pin(self) -> Optional[Question]:
+        """Pins a lecture, or takes its pin off."""
+        lecture, knowing = self.seen(), self.work.knowing
+        if lecture is None or not knowing.can_pin(lecture):
+            knowing.can_pin(lecture)
+            return None
+        question = knowing.ask_unpin(lecture)
+        if question is None:
+            self.overlay = Typed("Why is it pinned? ", lambda why: knowing.pin(lecture, why))
+        return question
 
     def begin_carry(self, question: Optional[Question]) -> Optional[Question]:
         """Chooses what is offered at the cursor."""

@@ -7,6 +7,7 @@ import os
 import signal
 import time
 
+from office.at_work import end_work
 from office.folder import Day, write_whole
 from office.pipes import remove_pipes
 from office.program import Left, costs_in_words
@@ -24,6 +25,7 @@ def close_day(day: Day, seconds: float) -> int:
         end_office(day, seconds)
     for planner in range(facts["planners"]):
         remove_pipes(day.seat(planner))
+        end_work(day, planner)
     with contextlib.suppress(FileNotFoundError):
         os.remove(day.closing)
     return write_end(day)

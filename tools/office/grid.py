@@ -27,9 +27,15 @@ def name_in_cell(wording: Wording, view: View, cell: Cell) -> str:
     return ", ".join(f"{one} {other}" for one, other in zip(course, room))
 
 
+def marks_in_cell(cell: Cell) -> List[str]:
+    """`@` and the name of who has a draft open here, and whether something is pinned."""
+    names = dict.fromkeys(f"@{shown(work.name)}" for work in cell.at_work)
+    return [*names, *(["pin"] if cell.pins else [])]
+
+
 def signs_in_cell(cell: Cell) -> str:
-    """`!` students without a seat, `o` points for standing alone."""
-    found = []
+    """`!` students without a seat, `o` points for standing alone, and marks."""
+    found = marks_in_cell(cell)
     for short, alone in cell.signs:
         found += ([f"!{short}"] if short else []) + ([f"o{alone}"] if alone else [])
     return " ".join(found)
@@ -125,7 +131,7 @@ class Grid:
         if carry is not None:
             offers = carry.at(slot)
             style = "dim" if not offers else "good" if offers[0].price < 0 else "points"
-            return price_in_cell(self.wording, carry, slot), style
+            return " ".join([price_in_cell(self.wording, carry, slot), *marks_in_cell(cell)]), style
         signs = signs_in_cell(cell)
         if signs:
             return signs, "points"

@@ -56,6 +56,7 @@ class Header:
         seat = planning.seat
         who = f" seat {seat.planner} {shown(seat.name)}: {draft_text(planning)}"
         title = f" week of {self.wording.view(*work.view)}{self.missing_text()}"
+        title += self.others_text()
         if work.carry is not None:
             what = "picked up to swap" if work.carry.kind == SWAP else "picked up"
             title = f" {self.wording.course(work.carry.course)} is {what};{title}"
@@ -69,6 +70,11 @@ class Header:
             last = [(fit(title, width - columns(told)), "title"), (told, "bad")]
         cost = fit(f" {cost_text(planning)}", width)
         return [[(fit(who, width), "head")], [(cost, "head")], last]
+
+    def others_text(self) -> str:
+        """Who else works on the week."""
+        names = self.work.knowing.names_at_work(self.work.view)
+        return f"; at work on it: {shown(', '.join(names))}" if names else ""
 
     def course_text(self, name: str) -> str:
         """A course in words: who needs it, and how far it is placed."""

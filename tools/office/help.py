@@ -10,7 +10,7 @@ SIGNS = """\
 Signs: > the cursor, ^ the lecture that is picked up, * changed by your draft, ~ changed by others
 since it was opened (without a draft: since you sat down, or your last draft ended), % by both; !12
 twelve students have no seat, o2 it stands alone on its day (points), closed: the course is
-unavailable then.
+unavailable then; @ben: ben has a draft open that changes it, pin: it is pinned.
 
 Looking costs nothing: no look of the screen becomes part of your draft. A draft is opened by itself
 with the first edit. Each edit is in the log before you see it done."""

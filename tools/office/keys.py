@@ -68,6 +68,14 @@ ACTIONS = (
         "lists the drafts that have changed the course at the cursor, or the week if nothing stands "
         "there: Enter shows one, and t takes it back by edits of your draft.",
     ),
+    Action(
+        "pin",
+        "p",
+        "",
+        "pins the lecture at the cursor, with a reason: others are asked before they pick it up; "
+        "or takes the pin off. The desk refuses nothing for it.",
+    ),
+    Action("who", "i", "", "lists who sits where, on what he works, and since when."),
     Action("undo", "u", "undo", "takes the last edit of the draft back."),
     Action(
         "edits",
@@ -111,6 +119,8 @@ ACTIONS = (
     Action("decline", "n", "never asks again", ""),
     Action("give up", "y", "gives them up", ""),
     Action("make again", "r", "makes them again", ""),
+    Action("go on", "y", "goes on all the same", ""),
+    Action("unpin", "y", "takes it off", ""),
     Action("take back", "t", "takes it back in your draft", ""),
     Action("take over", "y", "goes on with them", ""),
     Action("leave to them", "q", "leaves them", ""),
@@ -118,7 +128,9 @@ ACTIONS = (
 BY_NAME: Dict[str, Action] = {action.name: action for action in ACTIONS}
 # the keys of the week, by the key
 WEEK_KEYS: Dict[str, str] = {
-    action.key: action.name for action in ACTIONS if action.help or action.key in ("tab", "?")
+    action.key: action.name
+    for action in ACTIONS
+    if action.help or action.key in ("tab", "backtab", "escape", "?")
 }
 NAMED = {"enter": "Enter", "tab": "Tab", "backtab": "Shift-Tab", "escape": "Escape"}
 # the two rows of keys, free and with a lecture picked up

@@ -13,6 +13,7 @@ from office import mending, processes
 from office.folder import Day, lock, write_whole
 from office.instance import names_of, read_instance
 from office.label_files import FILES, has_labels, read_labels
+from office.pins import pins_path
 from office.pipes import HeldSeats
 from office.processes import Signals, Stopped
 from office.program import build_words, program_words
@@ -132,6 +133,8 @@ class Opening:
             raise Refused("there is no program to run a desk with")
         if plan.labels:
             self.copy_labels(plan.labels)
+        if plan.after and os.path.exists(pins_path(plan.after)):
+            self.copy(pins_path(plan.after), pins_path(day))
         self.copy(plan.instance, day.instance)
         if plan.mends:
             self.check()
@@ -232,6 +235,7 @@ class Opening:
             day.aside,
             day.file("before.sol"),
             *map(day.file, FILES),
+            pins_path(day),
         ]
         for path in [*made, day.office]:
             for ending in ("", ".new"):

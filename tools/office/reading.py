@@ -8,6 +8,7 @@ from typing import Dict, List, Optional, Tuple
 
 from office.at import instance_of, read_at
 from office.costs import read_costs
+from office.courtesies import Courtesies
 from office.edits import WANTS
 from office.instance import Instance, read_solution
 from office.known import Known
@@ -39,6 +40,7 @@ class Reading:
         self.known = Known(self.instance, self._start())
         self.minutes = Minutes(seat.day.minutes)
         self.news = News(seat.day)
+        self.courtesies = Courtesies(seat)
         self.notice: Notice = NOTHING
         # said beside the notice, where the desk has answered otherwise than expected
         self.alarm: Notice = NOTHING
@@ -140,10 +142,12 @@ class Reading:
         self.read_newest()
         self.has_begun = True
         self._meet()
+        self.courtesies.begin()
         if answer.startswith("draft "):
             self._resume()
         else:
             self.known.ended = list(self.seat.story.ended_made)
+        self.courtesies.keep_own(self.is_open, self.shifts())
 
     def _meet(self) -> None:
         """What others have done until now is not new any more."""
@@ -231,6 +235,7 @@ class Reading:
         self.read_minutes()
         if was_open and not self.is_open:
             self._meet()
+        self.courtesies.keep_own(self.is_open, self.shifts())
         return answer
 
     def ask_again(self, line: str) -> str:
@@ -293,11 +298,12 @@ class Reading:
     def tick(self) -> bool:
         """Looks whether others were accepted, and what a commit would be told by now; answers
         whether there is news."""
+        is_new = self.courtesies.read_on()
         if not self.is_failing and os.path.exists(self.seat.day.failing):
             self.fail()
             return True
         if not self.minutes.has_grown() or not self.read_minutes():
-            return False
+            return is_new
         if self.is_open:
             self.read_status()
         return True

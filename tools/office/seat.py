@@ -10,6 +10,7 @@ import select
 import time
 from typing import Callable, Optional
 
+from office.at_work import end_work
 from office.folder import Day, lock, read_text
 from office.processes import now
 from office.refused import Refused
@@ -113,6 +114,8 @@ class Seat:
         """Goes away: the desk goes on, and an open draft stays as it is."""
         with contextlib.suppress(OSError):
             self.log.noted("went away")
+        if not self.story.is_open:
+            end_work(self.day, self.planner)
         for end in (self._lines, self.answers, self._lock):
             os.close(end)
         self.log.close()

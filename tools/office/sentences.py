@@ -3,7 +3,7 @@ from __future__ import annotations
 
 from typing import Dict
 
-from office.sentences_past import PAST
+from office.sentences_past import KNOWING, PAST
 
 # why an edit is refused
 REASONS = {
@@ -148,4 +148,4 @@ LINES = {
     "log fault": "The log cannot be written ({fault}): edits are lost if the desk dies.",
     "closing": "The office closes in {seconds} s: commit now, or your edits are offered again.",
 }
-SENTENCES: Dict[str, str] = {**REASONS, **DESK, **DRAFT, **LECTURES, **OTHERS, **LINES, **PAST}
+SENTENCES: Dict[str, str] = {**REASONS, **DESK, **DRAFT, **LECTURES, **OTHERS, **LINES, **PAST, **KNOWING}

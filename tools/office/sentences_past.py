@@ -23,3 +23,20 @@ PAST: Dict[str, str] = {
     "left as it is": "Left as it is:",
     "kept line": "{shifts}: {reason}",
 }
+KNOWING: Dict[str, str] = {
+    "who is where": "Who sits where",
+    "nobody": "nobody",
+    "sits": "{who}, since {time}",
+    "at seat": "seat {planner}: {sitter}; {work}",
+    "no draft known": "no draft that his screen tells of",
+    "draft since": "a draft of {who} since {time}, {count:edit}: {reasons}",
+    "one course": "{course}",
+    "at work": "{who} has a draft open on it, since {time}.",
+    "pinned": "Pinned by {who}, {time}{why}.",
+    "pinned lecture": "{course} on {slot} is pinned: go on all the same?",
+    "commit first": "{course} is not committed there: commit it first, then pin it.",
+    "take pin off": "{course} on {slot} is pinned: take the pin off?",
+    "pinned now": "{course} on {slot} is pinned. The desk does not know it: others are asked first.",
+    "unpinned": "{course} on {slot} is not pinned any more.",
+    "no pin": "The pin cannot be written: {fault}.",
+}

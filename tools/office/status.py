@@ -8,12 +8,15 @@ from typing import Optional
 
 from office.folder import Day, is_locked
 from office.history import read_pasts
+from office.label_files import read_labels
 from office.minutes import read_minutes
+from office.pins import read_pins
 from office.program import Left, costs_in_words
 from office.refused import Refused
 from office.seat import read_sitter
 from office.seatlog import SeatPast
-from office.text import counted
+from office.text import counted, shown
+from office.wording import Wording
 
 
 def state_of(day: Day) -> str:
@@ -93,6 +96,17 @@ def minutes_line(day: Day, pasts: list[Optional[SeatPast]]) -> str:
     return "minutes are written"
 
 
+def pin_lines(day: Day) -> list[str]:
+    """The lectures that are pinned, each with who pinned it, when and why."""
+    wording, lines = Wording({}, read_labels(day.path)), []
+    for pin in read_pins(day).values():
+        lecture = f"{wording.course(pin.course)} on {wording.slot(pin.slot)}"
+        why = f": {shown(pin.why)}" if pin.why else ""
+        when = pin.time[:16].replace("T", " ")
+        lines.append(f"pinned: {lecture}, by {shown(pin.name)}, {when}{why}")
+    return lines
+
+
 def print_status(day: Day) -> int:
     """Prints the status of a day."""
     facts = day.facts()
@@ -113,4 +127,6 @@ def print_status(day: Day) -> int:
     print_table(
         [heads] + [seat_line(day, p, pasts[p], counts[p]) for p in range(facts["planners"])]
     )
+    for line in pin_lines(day):
+        print(line)
     return 0

@@ -4,7 +4,9 @@ from __future__ import annotations
 from dataclasses import dataclass, field
 from typing import Dict, Iterable, List, NamedTuple
 
+from office.at_work import AtWork
 from office.instance import Instance
+from office.pins import Pin
 from office.planning import Planning
 from office.timetable import Lecture, Slot, Timetable
 
@@ -40,6 +42,9 @@ class Cell:
     is_mine: bool = False
     is_others: bool = False
     is_closed: bool = False
+    # who has a draft open that changes something here, and what is pinned
+    at_work: List[AtWork] = field(default_factory=list)
+    pins: List[Pin] = field(default_factory=list)
 
 
 def all_views(instance: Instance) -> List[View]:
@@ -70,6 +75,13 @@ def weeks_of(instance: Instance, lecture: Lecture) -> List[View]:
         View("room", lecture.room),
         *(View("curriculum", name) for name in instance.curricula_of[lecture.course]),
     ]
+
+
+def is_of(instance: Instance, view: View, lecture: Lecture) -> bool:
+    """Whether a lecture stands in a week."""
+    if view.kind == "room":
+        return lecture.room == view.name
+    return lecture.course in courses_of_view(instance, view)
 
 
 def of_view(timetable: Timetable, view: View) -> List[Lecture]:
@@ -128,4 +140,10 @@ def cells_of(planning: Planning, view: View) -> Dict[Slot, Cell]:
     for slot, cell in cells.items():
         cell.is_others = before.get(slot) != newest.get(slot)
         cell.signs = [signs_of(planning, view, one) for one in cell.lectures]
+        pins = [planning.courtesies.pin_of(one) for one in cell.lectures]
+        cell.pins = [pin for pin in pins if pin is not None]
+    for work in planning.courtesies.works():
+        for slot in {lecture.slot for lecture in work.lectures if is_of(instance, view, lecture)}:
+            if slot in cells:
+                cells[slot].at_work.append(work)
     return cells

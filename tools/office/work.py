@@ -12,6 +12,7 @@ from typing import Dict, List, Optional
 from office.carry import MOVE, PLACE, SWAP, Carry, Offer
 from office.drafting import BLANK, Drafting, told_edits
 from office.histories import History
+from office.knowing import Knowing
 from office.notice import NOTHING, Notice, Question, say
 from office.planning import Planning
 from office.timetable import Lecture, Slot
@@ -29,6 +30,7 @@ class Work:
         self.carry: Optional[Carry] = None
         self.drafting = Drafting(planning)
         self.history = History(planning)
+        self.knowing = Knowing(planning)
         # the planner leaves
         self.is_done = False
 
@@ -141,7 +143,9 @@ class Work:
         if lecture is None:
             self.notice = say("no lecture")
         elif self.is_there(lecture):
-            self._carry(kind, lecture.course, lecture)
+            return self.knowing.ask_pinned(
+                lecture, lambda: self._carry(kind, lecture.course, lecture)
+            )
         return None
 
     def pick_up_missing(self, course: str) -> Optional[Question]:
@@ -160,6 +164,8 @@ class Work:
             self.notice = say("minutes fail")
             return
         self.carry = Carry(self.planning, kind, course, lecture)
+        if lecture is not None:
+            self.carry.begin_at(lecture.slot)
         self.notice = self.carry.best_told()
 
     def renew(self) -> bool:
@@ -180,8 +186,11 @@ class Work:
         self.carry.choice = carry.choice
         return True
 
-    def put_down(self, slot: Slot, offer: Optional[Offer]) -> Optional[Question]:
-        """Puts down what is picked up, by an offer that was seen at a slot."""
+    def put_down(
+        self, slot: Slot, offer: Optional[Offer], is_asked: bool = False
+    ) -> Optional[Question]:
+        """Puts down what is picked up, by an offer that was seen at a slot. Whether a pinned
+        lecture may change places with it is asked first."""
         self.planning.tick()
         if not self.renew() or self.carry is None:
             return None
@@ -193,6 +202,9 @@ class Work:
             else:
                 self.notice = say("other price", now=carry.offer_told(fresh))
             return None
+        if carry.kind == SWAP and not is_asked:
+            partner = Lecture(offer.about, "", *slot)
+            return self.knowing.ask_pinned(partner, lambda: self.put_down(slot, offer, True))
         self.carry = None
         if carry.is_idle(slot, offer):
             self.notice = say("stays")
@@ -210,8 +222,11 @@ class Work:
         if self.carry or lecture is None:
             self.notice = say("lecture first")
         elif self.is_there(lecture):
-            self.planning.edit(f"drop {lecture.course} {lecture.day} {lecture.period}")
+            return self.knowing.ask_pinned(lecture, lambda: self._drop(lecture))
         return None
+
+    def _drop(self, lecture: Lecture) -> None:
+        self.planning.edit(f"drop {lecture.course} {lecture.day} {lecture.period}")
 
     def missing(self) -> Dict[str, int]:
         """The courses of which lectures are missing, and how many; says so if none is."""
