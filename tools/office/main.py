@@ -10,6 +10,7 @@ from office.arguments import Commands, add_at, add_command, planner
 from office.folder import Day
 from office.past import add_past
 from office.refused import MACHINE, Refused
+from office.web.launch import add_places, serve, web_of
 
 EXAMPLES = """a day, and the next one:
   office open monday comp07.ctt 8 --start comp07.sol
@@ -44,6 +45,17 @@ def add_open(commands: Commands) -> None:
     one.add_argument("--instance", metavar="CHANGED", dest="changed", help=changed)
     other = "with --after: another number of planners"
     one.add_argument("--planners", metavar="N", dest="seats", type=int, help=other)
+    web = "serve the seats to browsers, too; the options below say where"
+    one.add_argument("--web", action="store_true", help=web)
+    add_places(one)
+
+
+def add_web(commands: Commands) -> None:
+    one = add_command(commands, "web", "serve the seats of a day to browsers")
+    add_places(one)
+    key = "make a new key for a seat, or for `reader`; the old link ends"
+    one.add_argument("--new-key", metavar="SEAT", help=key)
+    one.add_argument("--links", action="store_true", help="print the links of seats that are served")
 
 
 def add_others(commands: Commands) -> None:
@@ -51,6 +63,7 @@ def add_others(commands: Commands) -> None:
     one.add_argument("planner", metavar="PLANNER", type=planner, help="the seat, from 0")
     one.add_argument("--name", help="who sits there, for the others and the log")
     one.add_argument("--plain", action="store_true", help="lines in place of the screen")
+    add_web(commands)
     status = "say who sits, how far their drafts are, and what the timetable costs"
     add_command(commands, "status", status)
     close = "close a day, and write its journal, its audit and the timetable that it leaves"
@@ -102,7 +115,7 @@ def open_by(words: argparse.Namespace, top: argparse.ArgumentParser) -> int:
                 "no INSTANCE, no PLANNERS, no --start"
             )
         plan = plan_after(day, Day(words.after), words.seats, words.changed, words.barred)
-        plan.labels = words.labels or plan.labels
+        plan.labels, plan.web = words.labels or plan.labels, web_of(day, words)
         return open_day(plan, words.unproved)
     if (
         words.instance is None
@@ -112,7 +125,7 @@ def open_by(words: argparse.Namespace, top: argparse.ArgumentParser) -> int:
     ):
         top.error("open: DAY INSTANCE PLANNERS, or DAY --after DAY")
     plan = Plan(day, words.planners, words.instance, words.start, words.barred)
-    plan.labels = words.labels
+    plan.labels, plan.web = words.labels, web_of(day, words)
     return open_day(plan, words.unproved)
 
 
@@ -134,6 +147,8 @@ def do(words: argparse.Namespace, top: argparse.ArgumentParser) -> int:
         from office.sitting import sit_down
 
         return sit_down(day, words.planner, words.name, words.plain)
+    if words.command == "web":
+        return serve(day, words)
     if words.command == "status":
         from office.status import print_status
 

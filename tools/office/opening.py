@@ -7,7 +7,7 @@ import os
 import subprocess
 import sys
 import time
-from typing import Optional
+from typing import List, Optional
 
 from office import mending, processes
 from office.folder import Day, lock, write_whole
@@ -39,6 +39,8 @@ class Plan:
         self.after: Optional[Day] = None
         # the folder of the labels that the day takes along
         self.labels: Optional[str] = None
+        # the command that serves the seats to browsers, if they are to be
+        self.web: List[str] = []
         # the start is the end of another day under another instance, or with other rooms barred:
         # what cannot stand any more is set aside
         self.mends = False
@@ -254,6 +256,7 @@ class Opening:
             f"open, seats 0 to {last}: office sit {day.path} PLANNER; "
             f"Ctrl-C, or office close {day.path}, closes it"
         )
+        web = processes.start(self.plan.web, None) if self.plan.web else None
         try:
             while desk.poll() is None and not self.signals.count:
                 self.signals.wait(60.0)
@@ -266,6 +269,11 @@ class Opening:
                 os.remove(day.closing)
             self.note("", "closed")
             os.close(self.lock)
+            if web is not None:
+                # it sees that the day is closed, and says so in its windows
+                with contextlib.suppress(subprocess.TimeoutExpired):
+                    web.wait(processes.GRACE)
+                processes.end(web)
         if desk.returncode < 0 and not self.signals.count:
             say(
                 f"the desk has ended {processes.how_ended(desk.returncode)}; "

@@ -1,0 +1,401 @@
+"""A planner at a browser: keyboard, pointers, windows, others."""
+import json
+import signal
+import time
+
+from served import (
+    BOX,
+    COMP07,
+    COMP07_SOL,
+    EDITS,
+    BrowserTest,
+    cell,
+    skip_without_browser,
+    wait_until,
+)
+
+# a lecture of c0109, where it is cheapest, and where ben brings it
+FROM, BEST, BENS = (4, 1), (4, 3), (4, 2)
+BEN = "open\nmove c0109 4 1 r09 4 2\ncommit\n"
+
+
+@skip_without_browser
+class Seats(BrowserTest):
+    def setUp(self):
+        super().setUp()
+        self.open("day", COMP07, "3", "--start", COMP07_SOL)
+        self.server = self.serve("day")
+
+    def port(self):
+        return self.address().split(":")[1]
+
+    def test_keyboard_alone(self):
+        """From the link to a draft that is made again, without a pointer; the focus is never
+        lost."""
+        anna = self.planner()
+        steps = [
+            (["/", *"c0109", "Enter"], "c0109", "#week-title"),
+            (["ArrowRight"] * 4 + ["ArrowUp"] * 2 + ["Enter"], "is held", "#inspector"),
+            (["s"], "is held, to swap", "#inspector"),
+            (["s"], "is held c0109", "#inspector"),
+            (["Escape"], "Move Enter", "#inspector"),
+            (["Enter", "b", "Enter"], "your draft: 1 edit", "#costs"),
+            (["x"], "missing 1", "#costs"),
+            (["u"], "missing 0", "#costs"),
+            (["w"], "t067", "#week-title"),
+            (["e"], "The edits of your draft", "#box"),
+            (["Escape"], "your draft: 1 edit", "#costs"),
+            (["?"], "Keys and signs", "#box"),
+            (["Escape"], "your draft: 1 edit", "#costs"),
+        ]
+        for keys, told, place in steps:
+            anna.press(*keys)
+            if told != "is held c0109":
+                anna.sees(told, place)
+            self.has_focus(anna)
+        self.sit("day", 1, BEN, "--name", "ben")
+        anna.sees("ben", "#news")
+        anna.sees("1 accepted since", "#costs")
+        self.commit(anna)
+        anna.sees("Your draft is stale: nothing is lost", "#box")
+        anna.sees("ben", "#box")
+        self.has_focus(anna)
+        anna.press("Enter")
+        anna.sees("0 of 1 edit made again", "#box")
+        anna.press("Escape")
+        anna.wait(f"return !({BOX[7:]})")
+        self.has_focus(anna)
+        self.is_clean(anna)
+
+    def test_panels_by_keyboard(self):
+        """Each button of the panels by Tab and Enter; the focus stays where it was, or goes to the
+        week."""
+        anna = self.planner()
+        self.show(anna, "c0109")
+        anna.click(cell(FROM))
+        anna.sees("5 of 5 placed", "#inspector")
+        anna.run("document.querySelector('[data-id=\"swap\"]').focus()")
+        anna.press("Enter")
+        anna.sees("is held, to swap", "#inspector")
+        self.has_focus(anna)
+        anna.press("Escape")
+        anna.wait("return !document.querySelector('#week.holding')")
+        anna.press("o")
+        anna.sees("rooms by price", ".menu-box")
+        anna.press("ArrowDown", "Enter")
+        anna.sees("your draft: 1 edit", "#costs")
+        self.has_focus(anna)
+        anna.run("document.querySelector('#draft [data-id=\"undo\"]').focus()")
+        anna.press("Enter")
+        anna.sees("your draft: 0 edits", "#costs")
+        self.has_focus(anna)
+        anna.press("x")
+        anna.sees("missing 1", "#costs")
+        anna.press("m")
+        self.assertEqual(anna.run("return document.activeElement.dataset.missing"), "c0109")
+        anna.press("Enter")
+        anna.sees("is held", "#inspector")
+        anna.press("b", "Enter")
+        anna.sees("missing 0", "#costs")
+        self.has_focus(anna)
+        self.is_clean(anna)
+
+    def test_keys_do_nothing_elsewhere(self):
+        """Letters are keys in the week alone; with Alt or Control they are none."""
+        anna = self.planner()
+        self.show(anna, "c0109")
+        self.move(anna, FROM, BEST)
+        anna.run("document.querySelector('#help-button').focus()")
+        anna.press("x", "u", "c", "a")
+        anna.press("/")
+        anna.type("c u x a")
+        anna.press("Escape")
+        anna.press("Alt+x", "Control+u", "Alt+c")
+        time.sleep(0.3)
+        self.assertFalse(anna.run(BOX))
+        anna.sees("your draft: 1 edit", "#costs")
+        # keys that are typed ahead do nothing behind a box that comes up
+        anna.press("c", "x", "x", "u")
+        anna.wait(BOX)
+        anna.press("Escape")
+        anna.sees("your draft: 1 edit", "#costs")
+        self.is_clean(anna)
+
+    def test_drag(self):
+        """By mouse and by pen: the price beside the hand, Escape, and the window's edge."""
+        anna = self.planner()
+        self.show(anna, "c0109")
+        for kind in ("mouse", "pen"):
+            anna.drag(kind, cell(FROM) + " .card", cell(BEST), drop=False)
+            anna.sees("−257 r04", ".held-card")
+            anna.press("Escape")
+            anna.wait("return !document.querySelector('.held-card, #week.holding')")
+            anna.pointer(kind, [("up",)])
+            self.assertEqual(anna.run(EDITS), 0)
+            # let go outside of the week
+            anna.drag(kind, cell(FROM) + " .card", cell(BEST), (1270, 4))
+            anna.wait("return !document.querySelector('.held-card, #week.holding')")
+            self.assertEqual(anna.run(EDITS), 0)
+            anna.drag(kind, cell(FROM) + " .card", cell(BEST))
+            anna.sees("your draft: 1 edit", "#costs")
+            anna.sees("−257", "#draft")
+            anna.press("u")
+            anna.sees("your draft: 0 edits", "#costs")
+        # a lecture that cannot stand there stays where it was
+        anna.drag("mouse", cell(FROM) + " .card", cell((0, 0)))
+        anna.sees("cannot stand", "#toasts")
+        self.assertEqual(anna.run(EDITS), 0)
+        self.is_clean(anna)
+
+    def test_missing_is_dragged_in(self):
+        anna = self.planner()
+        self.show(anna, "c0109")
+        anna.click(cell(FROM))
+        anna.press("x")
+        anna.sees("missing 1", "#costs")
+        anna.drag("mouse", "[data-missing='c0109'] .course", cell(BEST))
+        anna.sees("missing 0", "#costs")
+        anna.sees("your draft: 2 edits", "#costs")
+        self.is_clean(anna)
+
+    def test_finger(self):
+        """A finger drags by the grip; elsewhere it scrolls. A drag that the system breaks off
+        changes nothing."""
+        anna = self.planner(width=800, height=1100, touch=True)
+        self.show(anna, "c0109")
+        anna.drag("touch", cell(FROM) + " .course", cell(BEST))
+        time.sleep(0.3)
+        self.assertEqual(anna.run(EDITS), 0)
+        at = anna.middle(cell(FROM) + " .grip")
+        for kind, points in (
+            ("touchStart", [at]),
+            ("touchMove", [(at[0] + 20, at[1] + 40)]),
+            ("touchMove", [(at[0], at[1] + 150)]),
+            ("touchCancel", []),
+        ):
+            told = [{"x": x, "y": y} for x, y in points]
+            anna.cdp("Input.dispatchTouchEvent", type=kind, touchPoints=told)
+        anna.wait("return !document.querySelector('.held-card, #week.holding')")
+        self.assertEqual(anna.run(EDITS), 0)
+        anna.drag("touch", cell(FROM) + " .grip", cell(BEST))
+        anna.sees("your draft: 1 edit", "#costs")
+        self.is_clean(anna)
+
+    def test_conflict(self):
+        """A hold is renewed under the hand; what others have moved is held no more."""
+        anna, ben = self.planner(), self.planner("seat 1", "ben")
+        self.show(anna, "c0109")
+        self.pick_up(anna, FROM)
+        anna.sees("−257", cell(BEST))
+        self.show(ben, "r04")
+        ben.click(cell((1, 4)))
+        self.sit("day", 2, "open\nswap c0109 4 1 c0078 3 1\ncommit\n", "--name", "cleo")
+        anna.sees("cleo", "#news")
+        anna.wait("return !document.querySelector('#week.holding')")
+        anna.sees("c0109", "#toasts")
+        # ben, who works elsewhere, sees it, too
+        ben.sees("cleo", "#news")
+        for one in (anna, ben):
+            self.is_clean(one)
+
+    def test_price_that_was_not_shown(self):
+        """A put-down at another price than the one that was shown is refused, and so is a lecture
+        that was not seen there."""
+        self.ask("hello", {"name": "anna"})
+        seen = {"course": "c0109", "room": "r01", "at": FROM}
+        found = self.ask("pick_up", {"lecture": seen, "kind": "move"})[1]
+        best = next(one for one in found["picture"]["held"]["slots"] if one["at"] == list(BEST))
+        price, about, _ = best["offers"][0]
+        for forged in ({"price": price - 1, "about": about}, {"price": price, "about": "r00"}):
+            self.ask("pick_up", {"lecture": seen, "kind": "move"})
+            found = self.ask("put_down", {"to": BEST, **forged})[1]
+            self.assertTrue(found["notice"]["isBad"], found["notice"])
+            self.assertIsNone(found["picture"]["state"]["draft"])
+        wrong = {**seen, "room": "r02"}
+        found = self.ask("pick_up", {"lecture": wrong, "kind": "move"})[1]
+        self.assertIsNone(found["picture"]["held"])
+        found = self.ask("take_out", {"lecture": wrong})[1]
+        self.assertIsNone(found["picture"]["state"]["draft"])
+        self.ask("pick_up", {"lecture": seen, "kind": "move"})
+        found = self.ask("put_down", {"to": BEST, "price": price, "about": about})[1]
+        self.assertEqual(len(found["picture"]["state"]["draft"]["edits"]), 1)
+
+    def test_price_has_changed(self):
+        """Others change the price between its showing and the put-down: it is not made."""
+        self.ask("hello", {"name": "anna"})
+        seen = {"course": "c0109", "room": "r01", "at": FROM}
+        found = self.ask("pick_up", {"lecture": seen, "kind": "move"})[1]
+        best = next(one for one in found["picture"]["held"]["slots"] if one["at"] == list(BEST))
+        price, about, _ = best["offers"][0]
+        # the server does not look for news meanwhile, so that the put-down comes first
+        self.server.send_signal(signal.SIGSTOP)
+        self.sit("day", 1, "open\nreroom c0109 r06 4 1\ncommit\n", "--name", "ben")
+        self.server.send_signal(signal.SIGCONT)
+        found = self.ask("put_down", {"to": BEST, "price": price, "about": about})[1]
+        self.assertIsNone(found["picture"]["state"]["draft"])
+        self.assertNotEqual(found["notice"]["text"], "")
+
+    def test_two_windows(self):
+        """Two windows of a seat are one: an edit of one is in the other, and a commit carries what
+        its box has shown."""
+        one, two = self.planner(), self.planner()
+        two.sees("anna (you)", "#people")
+        self.show(one, "c0109")
+        self.show(two, "q022")
+        self.move(one, FROM, BEST)
+        two.sees("your draft: 1 edit", "#costs")
+        one.press("c")
+        one.wait(BOX)
+        two.click(cell((1, 4)))
+        two.press("x")
+        two.sees("your draft: 2 edits", "#costs")
+        one.press("Enter")
+        one.sees("changed", "#toasts")
+        with open(self.path("day/minutes")) as file:
+            self.assertEqual(file.read(), "")
+        two.press("u")
+        one.sees("your draft: 1 edit", "#costs")
+        self.committed(one)
+        two.sees("no draft open", "#costs")
+        for each in (one, two):
+            self.is_clean(each)
+
+    def test_answer_to_an_old_box(self):
+        """An answer to what is asked no more is refused."""
+        self.ask("hello", {"name": "anna"})
+        seen = {"course": "c0109", "room": "r01", "at": FROM}
+        self.ask("take_out", {"lecture": seen})
+        question = self.ask("act", {"name": "commit"})[1]["question"]
+        told = {"question": question["number"], "answer": question["answers"][0]["name"]}
+        self.ask("close", {})
+        self.assertEqual(self.ask("answer", told)[0], 409)
+        with open(self.path("day/minutes")) as file:
+            self.assertEqual(file.read(), "")
+
+    def test_terminal_and_window(self):
+        """A terminal and a window at one seat refuse each other by name; the page comes in by
+        itself when the seat is free."""
+        anna = self.planner()
+        status, _, said = self.office("sit", self.path("day"), "0", "--name", "cleo")
+        self.assertEqual(status, 3)
+        self.assertIn("anna sits at seat 0", said)
+        ben = self.start("sit", self.path("day"), "1", "--name", "ben")
+        ben.stdin.write("show cost\n")
+        ben.stdin.flush()
+        ben.stdout.readline()
+        anna.sees("ben", "#people")
+        other = self.browser()
+        other.go(self.links["seat 1"])
+        other.wait(BOX)
+        other.type("dora")
+        other.press("Enter")
+        other.sees("ben sits at seat 1", "#banner")
+        ben.stdin.close()
+        ben.wait(20)
+        other.sees("dora (you)", "#people")
+        self.assertEqual(other.text("#banner"), "")
+
+    def test_typed_line(self):
+        """Lines of the desk by hand, as at a terminal."""
+        anna = self.planner()
+        anna.press(":")
+        anna.wait(BOX)
+        anna.type("show cost")
+        anna.press("Enter")
+        anna.sees("costs 8030 0 708 109", "#toasts")
+        anna.press(":")
+        anna.wait(BOX)
+        anna.type("leave")
+        anna.press("Enter")
+        anna.sees("typed at a terminal", "#toasts")
+        self.is_clean(anna)
+
+    def test_reader(self):
+        """Who reads sees the week as it stands, live, and neither seats nor reasons."""
+        anna, reader = self.planner(who="Anna Berg"), self.browser()
+        reader.go(self.links["reader"])
+        reader.wait("return performance.getEntriesByName('ready').length > 0")
+        self.show(reader, "c0109")
+        reader.sees("r01", cell(FROM))
+        self.show(anna, "c0109")
+        self.move(anna, FROM, BEST)
+        self.committed(anna, "a secret reason")
+        reader.sees("r04", cell(BEST))
+        seen = reader.run("return document.documentElement.outerHTML")
+        for secret in ("Anna", "secret", "draft", "seat 0"):
+            self.assertNotIn(secret, seen)
+        reader.press("ArrowLeft", "Enter", "x", "c")
+        self.is_clean(reader)
+        # the seat's key opens no reading page of its own, and the other way round
+        self.assertEqual(self.ask("show", {"view": ["course", "c0109"]}, "reader")[0], 410)
+
+    def test_page_comes_back(self):
+        """A server that was killed is begun again: the page comes back with draft and hold."""
+        anna = self.planner()
+        self.show(anna, "c0109")
+        self.move(anna, FROM, BEST)
+        self.pick_up(anna, BEST)
+        port = self.port()
+        self.server.kill()
+        self.server.wait()
+        anna.sees("does not answer", "#banner")
+        self.serve("day", "--port", port)
+        anna.wait("return document.getElementById('banner').hidden")
+        anna.sees("your draft: 1 edit", "#costs")
+        anna.sees("is held", "#inspector")
+        self.assertIn("c0109", anna.text("#week-title"))
+        anna.press("Escape")
+        self.committed(anna)
+        self.assertIn("move c0109 4 1 r04 4 3", self.office("log", self.path("day"))[1])
+
+    def test_killed_during_a_commit(self):
+        """A commit under whose way the server is killed is on the disk or is not, and the page says
+        which."""
+        anna = self.planner()
+        self.show(anna, "c0109")
+        self.move(anna, FROM, BEST)
+        anna.press("c")
+        anna.wait(BOX)
+        port = self.port()
+        anna.press("Enter")
+        self.server.kill()
+        self.server.wait()
+        self.serve("day", "--port", port)
+        anna.wait("return document.getElementById('banner').hidden")
+        with open(self.path("day/minutes")) as file:
+            is_written = file.read() != ""
+        anna.sees("no draft open" if is_written else "your draft: 1 edit", "#costs")
+        anna.sees("draft 1" if is_written else "Nothing yet", "#news")
+
+    def test_desk_dies(self):
+        anna = self.planner()
+        self.show(anna, "c0109")
+        self.move(anna, FROM, BEST)
+        import os
+
+        os.kill(self.desk_of("day"), signal.SIGKILL)
+        anna.sees("committed drafts are on the disk", "#banner")
+
+    def test_office_closes(self):
+        """The page counts down, and says in the end that the office has closed."""
+        anna = self.planner()
+        closing = self.start("close", self.path("day"), "--wait", "3")
+        anna.sees("The office closes in", "#banner")
+        anna.sees("The office has closed", "#banner")
+        self.assertEqual(closing.wait(30), 0)
+        self.assertTrue(wait_until(lambda: self.server.poll() is not None, 10))
+        self.assertEqual(self.server.returncode, 0)
+
+    def test_offer_of_an_earlier_day(self):
+        """Edits that an earlier day has left are offered, as at a terminal."""
+        anna = self.planner()
+        self.show(anna, "c0109")
+        self.move(anna, FROM, BEST)
+        self.assertEqual(self.office("close", self.path("day"), "--wait", "0")[0], 0)
+        self.open("next", "--after", self.path("day"))
+        self.serve("next")
+        again = self.planner()
+        again.sees("not accepted: make them again?", "#box")
+        again.press("Enter")
+        again.sees("your draft: 1 edit", "#costs")
+        self.assertEqual(json.dumps(again.complaints()), "[]")

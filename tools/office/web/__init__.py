@@ -1,0 +1,1 @@
+"""The seats of a day in browsers: one process of the day serves them, by tornado."""

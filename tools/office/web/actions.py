@@ -1,0 +1,70 @@
+"""What actions are called in a browser: keys in the week, and buttons."""
+from __future__ import annotations
+
+from typing import Any, Dict, List
+
+from office.keys import ACTIONS, BY_NAME
+
+# keys that a browser has otherwise: Tab leaves the week there, and / is a key of searches
+KEYS = {
+    "pick up": ["Enter", " "],
+    "lay down": ["Escape"],
+    "next": ["o"],
+    "view": ["v", "/"],
+    "take out": ["x", "Delete"],
+}
+# what has no key there: one leaves by closing the window
+NONE = ("leave", "last")
+HELP = {
+    "next": "lists the rooms of a slot by price, of a swap the lectures to change places with.",
+    "lay down": "leaves a lecture where it was, and goes back from a box.",
+    "pick up": BY_NAME["pick up"].help.replace("Enter again", "Enter again, or a click,"),
+}
+BUTTONS = {
+    "redo": "Make my edits again",
+    "abandon": "Give up",
+    "make earlier": "Make them again",
+    "decline": "Never ask again",
+    "give up": "Give them up",
+    "commit": "Commit",
+}
+
+
+class KeyNames(Dict[str, str]):
+    """What a sentence calls an action."""
+
+    def __missing__(self, name: str) -> str:
+        keys = keys_of(name)
+        return said_key(keys[0]) if keys else name
+
+
+def button(name: str) -> str:
+    """What stands on the button of an action."""
+    short = BY_NAME[name].short or name
+    return BUTTONS.get(name, short[:1].upper() + short[1:])
+
+
+def keys_of(name: str) -> List[str]:
+    if name in NONE:
+        return []
+    return KEYS.get(name, [BY_NAME[name].key])
+
+
+def said_key(key: str) -> str:
+    """A key as it is printed on a keyboard."""
+    named = {"Escape": "Esc", " ": "Space"}
+    return named.get(key, key.upper() if len(key) == 1 else key)
+
+
+def key_table() -> List[Dict[str, Any]]:
+    """The keys of the week, each in a sentence."""
+    return [
+        {
+            "name": action.name,
+            "keys": keys_of(action.name),
+            "said": " or ".join(said_key(key) for key in keys_of(action.name)[:2]),
+            "help": HELP.get(action.name, action.help),
+        }
+        for action in ACTIONS
+        if keys_of(action.name) and (action.help or action.name in HELP or action.name == "help")
+    ]

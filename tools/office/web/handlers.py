@@ -1,0 +1,214 @@
+"""What is answered to a request: a file of the page, an answer of a seat, or its news."""
+from __future__ import annotations
+
+import asyncio
+import json
+import sys
+import traceback
+from typing import TYPE_CHECKING, Any, Dict, List, Optional
+
+import tornado.iostream
+import tornado.web
+from tornado import httputil
+
+from office.web.guard import ALWAYS, Fault, Head, media_type
+
+if TYPE_CHECKING:
+    from office.web.server import Office
+    from office.web.windows import Window
+
+# seconds between two signs of life, and that one who listens may take to hear something
+ALIVE, TAKES = 15.0, 20.0
+WINDOW = "X-Window"
+Data = Dict[str, Any]
+
+
+def head_of(request: httputil.HTTPServerRequest) -> Head:
+    fields: Dict[str, List[str]] = {}
+    for name, value in request.headers.get_all():
+        fields.setdefault(name.lower(), []).append(value)
+    return Head(request.method or "", request.path, request.query, fields)
+
+
+def json_of(data: Any) -> bytes:
+    return json.dumps(data, separators=(",", ":")).encode()
+
+
+@tornado.web.stream_request_body
+class Handler(tornado.web.RequestHandler):
+    """A request. It is looked at before its body is read."""
+
+    def initialize(self, office: Office) -> None:
+        self.office = office
+        self.said = b""
+
+    def set_default_headers(self) -> None:
+        self.clear_header("Server")
+        for name, value in ALWAYS.items():
+            self.set_header(name, value)
+
+    def prepare(self) -> None:
+        self.asked = head_of(self.request)
+        try:
+            self.office.guard.check_form(self.asked)
+            self.office.guard.check_host(self.asked)
+            self.check()
+        except Fault as fault:
+            self.refuse(fault)
+            raise tornado.web.Finish() from None
+
+    def check(self) -> None:
+        """Refuses what is no request of this kind."""
+
+    def data_received(self, chunk: bytes) -> None:
+        self.said += chunk
+
+    def refuse(self, fault: Fault) -> None:
+        self.set_status(fault.status)
+        self.answer({"fault": fault.why})
+
+    def answer(self, data: Data) -> None:
+        self.set_header("Content-Type", "application/json")
+        self.write(json_of(data))
+
+    def write_error(self, status_code: int, **more: Any) -> None:
+        self.finish(json_of({"fault": f"status {status_code}"}))
+
+    def log_exception(self, kind: Any, value: Any, trace: Any) -> None:
+        """A fault of ours, without what was asked: that has a key."""
+        if not isinstance(value, tornado.web.HTTPError):
+            traceback.print_exception(kind, value, trace, file=sys.stderr)
+
+
+class Missing(Handler):
+    """A path at which nothing is."""
+
+    def check(self) -> None:
+        raise Fault(404, "nothing is here")
+
+
+class Page(Handler):
+    """A file of the page. It has nothing of the day."""
+
+    def get(self, path: str) -> None:
+        file = self.office.pages[path]
+        self.set_header("Content-Type", file.kind)
+        self.set_header("Cache-Control", "no-cache")
+        self.write(file.body)
+
+    head = get  # type: ignore[assignment]
+
+
+class Asking(Handler):
+    """A request of somebody who has a key."""
+
+    def check(self) -> None:
+        self.office.guard.check_origin(self.asked)
+        self.who = self.office.guard.who(self.asked)
+        self.office.connections.is_known(self.request)
+
+    @property
+    def window(self) -> str:
+        """The window that asks, by the name that it has given itself."""
+        name = self.asked.get(WINDOW) or ""
+        if not (name.isascii() and name.isalnum() and len(name) <= 40):
+            raise Fault(400, "a window has a name")
+        return name
+
+
+class Verb(Asking):
+    """Something is asked, or done."""
+
+    def check(self) -> None:
+        super().check()
+        if self.request.method != "POST":
+            raise Fault(405, "this is asked by POST")
+        if media_type(self.asked) != "application/json":
+            raise Fault(415, "a request is JSON")
+
+    async def post(self, verb: str) -> None:
+        try:
+            told = self.told()
+            if verb == "hello":
+                told["login"] = self.office.guard.login(self.asked)
+            self.answer(await self.office.answer(self.who, self.window, verb, told))
+        except Fault as fault:
+            self.refuse(fault)
+
+    def told(self) -> Data:
+        """What the request says."""
+        try:
+            found = json.loads(self.said.decode("utf-8"))
+        except (ValueError, RecursionError):
+            raise Fault(400, "no JSON") from None
+        if not isinstance(found, dict):
+            raise Fault(400, "no JSON object")
+        return found
+
+
+class News(Asking):
+    """What changes, a line of JSON each, as long as the window listens."""
+
+    listened: Optional[Window] = None
+
+    def check(self) -> None:
+        super().check()
+        if self.request.method != "GET":
+            raise Fault(405, "news are read by GET")
+
+    async def get(self) -> None:
+        try:
+            listened = self.office.listen(self.who, self.window)
+        except Fault as fault:
+            self.refuse(fault)
+            return
+        self.listened = listened
+        self.set_header("Content-Type", "application/x-ndjson")
+        # a proxy shall hand on each line at once
+        self.set_header("X-Accel-Buffering", "no")
+        try:
+            # the first line says that the window is heard, an empty one that it is still
+            await self.tell(b"\n")
+            while True:
+                event = await listened.next_event(ALIVE)
+                if event is None:
+                    break
+                await self.tell(json_of(event) + b"\n" if event else b"\n")
+        except (tornado.iostream.StreamClosedError, asyncio.TimeoutError):
+            pass
+        finally:
+            listened.end()
+
+    async def tell(self, line: bytes) -> None:
+        self.write(line)
+        await asyncio.wait_for(self.flush(), TAKES)
+
+    def on_connection_close(self) -> None:
+        if self.listened is not None:
+            self.listened.end()
+
+
+def routes(office: Office) -> List[Any]:
+    """Which handler has which path."""
+    own = {"office": office}
+    pages = "|".join(sorted(map(_escaped, office.pages), reverse=True))
+    return [
+        (r"/api/news", News, own),
+        (r"/api/([a-z_]{1,20})", Verb, own),
+        (f"({pages})", Page, own),
+    ]
+
+
+def _escaped(path: str) -> str:
+    return path.replace(".", r"\.")
+
+
+def application(office: Office) -> tornado.web.Application:
+    return tornado.web.Application(
+        routes(office),
+        default_handler_class=Missing,
+        default_handler_args={"office": office},
+        compress_response=True,
+        # no line of a log has what was asked
+        log_function=lambda handler: None,
+    )

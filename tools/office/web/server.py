@@ -1,0 +1,266 @@
+"""`office web`: the server of a day's seats."""
+from __future__ import annotations
+
+import asyncio
+import contextlib
+import os
+import resource
+import signal
+import socket as sockets
+import time
+from collections import OrderedDict
+from typing import Any, Dict, List, Optional, Set
+
+import tornado.httpserver
+import tornado.netutil
+from tornado import httputil
+from tornado.iostream import IOStream
+
+from office.at import instance_of
+from office.folder import Day
+from office.label_files import read_labels
+from office.refused import Refused
+from office.web.actions import KeyNames
+from office.web.answers import Frame, isolated
+from office.web.guard import BODY, HEAD, Guard, read_logins
+from office.web.handlers import application
+from office.web.keys import READER, file_of, links_of, lock_server, read_keys
+from office.web.launch import Served
+from office.web.pages import read_pages
+from office.web.readers import Readers
+from office.web.sitter import Sitter
+from office.web.windows import Window
+from office.wording import Wording
+
+# seconds in which a head and a body have to come, and between two looks for news
+COMES, TICK = 10.0, 0.25
+# connections of strangers at once; files that the process may have open
+STRANGERS, FILES = 500, 4096
+# a path of a Unix socket has so many bytes at most
+LONGEST_PATH = 107
+# how long the windows have to hear that all is over
+FAREWELL = 0.3
+Data = Dict[str, Any]
+
+
+class Connections:
+    """The connections of which no request has had a key. The oldest one makes room, so that stalled
+    ones keep nobody out."""
+
+    def __init__(self) -> None:
+        self._strangers: OrderedDict[IOStream, None] = OrderedDict()
+
+    def begin(self, stream: IOStream) -> None:
+        for old in [one for one in self._strangers if one.closed()]:
+            self._strangers.pop(old)
+        self._strangers[stream] = None
+        if len(self._strangers) > STRANGERS:
+            self._strangers.popitem(last=False)[0].close()
+
+    def is_known(self, request: httputil.HTTPServerRequest) -> None:
+        self._strangers.pop(request.connection.stream, None)  # type: ignore[union-attr]
+
+
+class Listener(tornado.httpserver.HTTPServer):
+    """A server that knows its connections."""
+
+    connections: Connections
+
+    def handle_stream(self, stream: IOStream, address: Any) -> None:  # type: ignore[override]
+        self.connections.begin(stream)
+        super().handle_stream(stream, address)
+
+
+class Office:
+    """The seats of a day, those who read, and who listens."""
+
+    def __init__(self, day: Day, guard: Guard) -> None:
+        self.day, self.guard = day, guard
+        self.pages = read_pages()
+        self.connections = Connections()
+        wording = Wording(KeyNames(), read_labels(day.path), isolated)
+        frame = Frame(instance_of(day), wording)
+        self.readers = Readers(day, frame)
+        self.sitters = [Sitter(day, planner, frame) for planner in range(day.facts()["planners"])]
+        self.keys_at = self.stat_keys()
+        self.closes: Optional[float] = None
+        self.people: List[Data] = []
+
+    def place(self, who: str) -> Any:
+        return self.readers if who == READER else self.sitters[int(who)]
+
+    # what is asked
+
+    async def answer(self, who: str, window: str, verb: str, told: Data) -> Data:
+        place = self.place(who)
+        if verb == "hello":
+            known = place.windows.meet(window)
+        else:
+            known = place.windows.known(window)
+        found: Data = await place.answer(known, verb, told)
+        if verb == "hello":
+            found.update(day=self.day.name, closes=self.closes)
+        if verb == "hello" and who != READER:
+            self.people = self.who_sits()
+            found.update(people=self.people)
+        if found.pop("committed", False):
+            await self.look()
+        return found
+
+    def listen(self, who: str, window: str) -> Window:
+        listened: Window = self.place(who).windows.listen(window)
+        return listened
+
+    # news
+
+    async def watch(self, stop: asyncio.Event) -> None:
+        """Looks for news until the office closes, or the server is ended."""
+        while not stop.is_set() and not self.is_over():
+            with contextlib.suppress(asyncio.TimeoutError):
+                await asyncio.wait_for(stop.wait(), TICK)
+            self.look_at_keys()
+            await self.look()
+            self.tell_closing()
+        for place in self.places():
+            place.tell({"over": True})
+        await asyncio.sleep(FAREWELL)
+        for sitter in self.sitters:
+            await sitter.leave()
+
+    def places(self) -> List[Any]:
+        return [*self.sitters, self.readers]
+
+    def is_over(self) -> bool:
+        at = self.day.closes_at()
+        return not self.day.is_open() or (at is not None and time.time() > at)
+
+    async def look(self) -> None:
+        """Looks for news at each place at which somebody is."""
+        for place in self.places():
+            place.windows.drop_silent()
+            await place.look()
+        people = self.who_sits()
+        if people != self.people:
+            self.people = people
+            for sitter in self.sitters:
+                sitter.tell({"people": people})
+
+    def who_sits(self) -> List[Data]:
+        return [one for one in (sitter.person() for sitter in self.sitters) if one]
+
+    def tell_closing(self) -> None:
+        at = self.day.closes_at()
+        if at != self.closes:
+            self.closes = at
+            for place in self.places():
+                place.tell({"closes": at})
+
+    def stat_keys(self) -> int:
+        try:
+            return os.stat(file_of(self.day)).st_mtime_ns
+        except OSError:
+            return 0
+
+    def look_at_keys(self) -> None:
+        """Takes up keys that were made anew; windows of the old ones are let go."""
+        at = self.stat_keys()
+        if at == self.keys_at:
+            return
+        self.keys_at, old = at, self.guard.keys.by_name
+        self.guard.keys = read_keys(self.day)
+        for name, key in self.guard.keys.by_name.items():
+            if old[name] != key:
+                self.place(name).tell({"gone": True})
+                self.place(name).windows.end_all()
+
+
+def hosts_of(url: Optional[str]) -> Set[str]:
+    return {url.split("//", 1)[1].split("/", 1)[0]} if url else set()
+
+
+def guard_of(day: Day, served: Served) -> Guard:
+    keys = read_keys(day)
+    guard = Guard(keys, hosts_of(served.url))
+    if served.login_header and served.logins:
+        guard.login_header = served.login_header
+        guard.logins = read_logins(served.logins, set(keys.by_name))
+    return guard
+
+
+def listen_at(served: Served, path: str) -> sockets.socket:
+    """The socket at which requests come."""
+    try:
+        if served.port is not None:
+            return tornado.netutil.bind_sockets(served.port, "127.0.0.1", sockets.AF_INET)[0]
+        if len(os.fsencode(path)) > LONGEST_PATH:
+            raise Refused(f"{path} is too long for a socket: --socket names a shorter one")
+        return tornado.netutil.bind_unix_socket(path, mode=0o660)
+    except (OSError, ValueError) as fault:
+        raise Refused(f"cannot listen: {fault}") from None
+
+
+def base_of(served: Served, end: sockets.socket) -> str:
+    """Where the links lead: to the proxy, to the port, or to a port that leads to the socket."""
+    if served.url:
+        return served.url.rstrip("/") + "/"
+    if served.port is not None:
+        return f"http://127.0.0.1:{end.getsockname()[1]}/"
+    return "http://localhost:8470/"
+
+
+def say_links(day: Day, served: Served, base: str, path: str) -> None:
+    where = f"127.0.0.1, port {base.rsplit(':', 1)[1].rstrip('/')}" if served.port is not None else path
+    print(f"office: the seats of {day.path} are served at {where}")
+    if served.port is None and not served.url:
+        print(f"  from another machine: ssh -L 8470:{os.path.abspath(path)} HOST")
+    print("  who has a link can plan at its seat; the reader's link shows the timetable")
+    for name, link in links_of(day, base):
+        print(f"  {name:<7} {link}", flush=True)
+
+
+def allow_files() -> None:
+    """As many open files as connections may need."""
+    soft, hard = resource.getrlimit(resource.RLIMIT_NOFILE)
+    wanted = FILES if hard == resource.RLIM_INFINITY else min(FILES, hard)
+    if soft != resource.RLIM_INFINITY and soft < wanted:
+        resource.setrlimit(resource.RLIMIT_NOFILE, (wanted, hard))
+
+
+async def run(day: Day, served: Served, held: int) -> int:
+    office = Office(day, guard_of(day, served))
+    path = served.socket or day.file("web.socket")
+    end = listen_at(served, path)
+    base = base_of(served, end)
+    os.truncate(held, 0)
+    os.pwrite(held, f"{base}\n".encode(), 0)
+    server = Listener(
+        application(office),
+        max_header_size=HEAD,
+        max_body_size=BODY,
+        body_timeout=COMES,
+        idle_connection_timeout=COMES,
+    )
+    server.connections = office.connections
+    server.add_socket(end)
+    stop = asyncio.Event()
+    for sign in (signal.SIGINT, signal.SIGTERM):
+        asyncio.get_running_loop().add_signal_handler(sign, stop.set)
+    try:
+        say_links(day, served, base, path)
+        await office.watch(stop)
+    finally:
+        server.stop()
+        if served.port is None:
+            with contextlib.suppress(OSError):
+                os.remove(path)
+    return 0
+
+
+def serve_day(day: Day, served: Served) -> int:
+    """Serves the seats of a day until it is closed."""
+    if not day.is_ready():
+        raise Refused(f"no office is open in {day.path}")
+    held = lock_server(day)
+    allow_files()
+    signal.signal(signal.SIGHUP, signal.SIG_IGN)
+    return asyncio.run(run(day, served, held))

@@ -1,0 +1,271 @@
+"""A seat at which browsers sit, in a thread of its own, so that a desk which thinks holds up nobody
+else. All windows of a seat share its draft."""
+from __future__ import annotations
+
+import asyncio
+import select
+from concurrent.futures import ThreadPoolExecutor
+from typing import Any, Callable, Dict, List, Optional
+
+from office.costs import COSTS
+from office.folder import Day, is_locked
+from office.notice import NOTHING, Question
+from office.planning import Planning
+from office.refused import Refused
+from office.seat import DEAD, DeskEnded, NoAnswer, Seat, read_sitter
+from office.web.actions import key_table
+from office.web.answers import Frame, Picture, news_data, notice_data, question_data
+from office.web.guard import Fault
+from office.web.verbs import CHANGES, VERBS, Told, Turn
+from office.web.windows import Window, Windows
+from office.work import Work
+
+# so many requests of a seat may wait for their turn; a seat without a window is left after so many
+# seconds; so many drafts are told when a window begins; letters of a name
+WAIT, IDLE, DRAFTS, NAME = 16, 30.0, 40, 40
+FAREWELL = "The office has closed: what you have committed is on the disk."
+Data = Dict[str, Any]
+
+
+class Shown:
+    """What a window of the seat has: its work, what it is asked, and how many pictures it had."""
+
+    def __init__(self, planning: Planning) -> None:
+        self.planning = planning
+        self.work = Work(planning)
+        self.question: Optional[Question] = None
+        self.asked = 0
+        self.pictures = 0
+
+    def picture(self, frame: Frame, prices: Dict[str, int]) -> Data:
+        self.work.renew()
+        self.pictures += 1
+        return {"number": self.pictures, **Picture(frame, self.work, prices).data()}
+
+    def ask(self, frame: Frame, question: Optional[Question]) -> Optional[Data]:
+        """Keeps what is asked, and answers how it looks."""
+        self.question = question
+        self.asked += 1
+        return question_data(frame.wording, self.asked, question) if question else None
+
+
+class Sitter:
+    """Somebody who sits at a seat by browsers."""
+
+    def __init__(self, day: Day, planner: int, frame: Frame) -> None:
+        self.day, self.planner, self.frame = day, planner, frame
+        self.windows = Windows()
+        self.planning: Optional[Planning] = None
+        self.name = ""
+        # how many accepted drafts the windows have heard of
+        self.heard = 0
+        # by how much each edit of the draft has changed the cost when it was made
+        self.prices: Dict[str, int] = {}
+        self._waiting = 0
+        self._thread = ThreadPoolExecutor(1, f"seat-{planner}")
+
+    # what is asked
+
+    async def answer(self, window: Window, verb: str, data: Data) -> Data:
+        if verb != "hello" and verb not in ("answer", "close", "about") and verb not in VERBS:
+            raise Fault(404, "nothing is here")
+        if verb == "hello":
+            found = await self.do(lambda: self._hello(window, data), data)
+        else:
+            found = await self.do(lambda: self._turn(window, verb, data))
+        for other, picture in found.pop("others", []):
+            other.tell({"picture": picture})
+        return found
+
+    async def do(self, work: Callable[[], Data], hello: Optional[Data] = None) -> Data:
+        """Does something at the seat, one thing at a time."""
+        if self._waiting >= WAIT:
+            raise Fault(429, "too many requests wait at this seat")
+        self._waiting += 1
+        try:
+            return await asyncio.get_running_loop().run_in_executor(self._thread, self._do, work)
+        finally:
+            self._waiting -= 1
+
+    def _do(self, work: Callable[[], Data]) -> Data:
+        try:
+            return work()
+        except Refused as refused:
+            raise Fault(409, refused.reason) from None
+        except DeskEnded:
+            self._go()
+            raise Fault(503, DEAD) from None
+        except NoAnswer:
+            self._go()
+            raise Fault(503, "the desk does not answer") from None
+
+    # in the seat's thread
+
+    def _hello(self, window: Window, data: Data) -> Data:
+        """Sits down, if nobody does yet, and tells all with which a window begins."""
+        told = Told(self.frame.instance, data)
+        if self.planning is None:
+            last = self.name or read_sitter(self.day, self.planner)[0]
+            name = told.text("login", NAME) or told.text("name", NAME)
+            if not name:
+                return {"wants": "name", "last": last, "seat": self.planner}
+            self._sit(name)
+        shown = self._shown(window)
+        planning = shown.planning
+        if data.get("view") is not None:
+            shown.work.show(told.view())
+        if data.get("held") is not None:
+            self._hold_again(shown, Told(self.frame.instance, data["held"]))
+        question = shown.question or shown.work.drafting.offer_earlier()
+        news = planning.news.accepted[-DRAFTS:]
+        return {
+            "seat": self.planner,
+            "name": planning.seat.name,
+            "keys": key_table(),
+            "parts": [[part, part] for part in COSTS],
+            "farewell": FAREWELL,
+            **self.frame.told(),
+            "news": [news_data(planning, self.frame.wording, one) for one in news],
+            "picture": shown.picture(self.frame, self.prices),
+            "question": shown.ask(self.frame, question),
+            "notice": self._notice(),
+        }
+
+    def _hold_again(self, shown: Shown, told: Told) -> None:
+        """What was held when this server was another one is held again."""
+        kind = told.data.get("kind")
+        if kind == "place":
+            shown.work.pick_up_missing(told.course(told.data.get("course")))
+        elif kind in ("move", "swap"):
+            seen = Told(told.instance, {"lecture": told.data}).lecture()
+            shown.work.pick_up(seen, kind)
+
+    def _sit(self, name: str) -> None:
+        seat = Seat(self.day, self.planner, name)
+        planning = Planning(seat, self.frame.instance)
+        try:
+            planning.begin()
+        except BaseException:
+            seat.go()
+            raise
+        self.planning, self.name, self.heard = planning, name, len(planning.news.accepted)
+
+    def _go(self) -> None:
+        if self.planning is not None:
+            planning, self.planning = self.planning, None
+            planning.seat.go()
+
+    def _shown(self, window: Window) -> Shown:
+        """What a window has; it begins anew when somebody has sat down anew."""
+        assert self.planning is not None
+        if window.shown is None or window.shown.planning is not self.planning:
+            window.shown = Shown(self.planning)
+        shown: Shown = window.shown
+        return shown
+
+    def _turn(self, window: Window, verb: str, data: Data) -> Data:
+        if self.planning is None:
+            raise Fault(410, "this window is not known here: it begins anew")
+        shown, planning = self._shown(window), self.planning
+        told = Told(self.frame.instance, data)
+        if verb == "about":
+            lecture = told.lecture()
+            return {"about": Picture(self.frame, shown.work, {}).about(lecture) if lecture else None}
+        accepted, cost = len(planning.seat.story.accepted), sum(planning.costs().values())
+        planning.notice = planning.alarm = NOTHING
+        if verb == "close":
+            question = None
+        elif verb == "answer":
+            question = self._answer(shown, told)
+        else:
+            question = VERBS[verb](Turn(shown.work, told))
+        found = {
+            "notice": self._notice(cost),
+            "question": shown.ask(self.frame, question),
+            "picture": shown.picture(self.frame, self.prices),
+        }
+        if verb in CHANGES:
+            found["others"] = self._pictures(window)
+            found["committed"] = len(planning.seat.story.accepted) > accepted
+        return found
+
+    def _answer(self, shown: Shown, told: Told) -> Optional[Question]:
+        """The answer to what was asked last; none to what was asked before."""
+        question, name = shown.question, told.data.get("answer")
+        if question is None or told.number("question") != shown.asked:
+            raise Fault(409, "this was asked before: look again")
+        if not isinstance(name, str) or name not in question.answers:
+            raise Fault(400, "no answer to this")
+        return question.answers[name]()
+
+    def _notice(self, before: Optional[int] = None) -> Data:
+        """What there is to say; of an edit that was made also how it has changed the cost."""
+        planning = self.planning
+        assert planning is not None
+        found = notice_data(self.frame.wording, planning.notice)
+        if before is not None and planning.notice.code == "done" and planning.edits():
+            found["price"] = sum(planning.costs().values()) - before
+            self.prices[planning.edits()[-1]] = found["price"]
+        return found
+
+    def _pictures(self, but: Optional[Window] = None) -> List[Any]:
+        """What each other window draws now."""
+        return [
+            (one, self._shown(one).picture(self.frame, self.prices))
+            for one in self.windows.all()
+            if one is not but and one.is_listening
+        ]
+
+    # news
+
+    async def look(self) -> None:
+        """Looks for drafts that were accepted since, if somebody sits here."""
+        planning = self.planning
+        if planning is None:
+            return
+        if self.windows.idle_for() > IDLE and not self._waiting:
+            await self.leave()
+        elif planning.minutes.has_grown() or self._has_said(planning):
+            try:
+                found = await self.do(self._look)
+            except Fault as fault:
+                self.tell({"fault": fault.why})
+                self.windows.end_all()
+                return
+            for window, picture in found["others"]:
+                window.tell({"news": found["news"], "picture": picture})
+
+    @staticmethod
+    def _has_said(planning: Planning) -> bool:
+        """Whether the desk says something that nobody has asked, as when it ends."""
+        poll = select.poll()
+        poll.register(planning.seat.answers, select.POLLIN)
+        return bool(poll.poll(0))
+
+    def _look(self) -> Data:
+        planning = self.planning
+        if planning is None:
+            return {"others": [], "news": []}
+        if self._has_said(planning):
+            # nothing was asked: the desk has ended
+            planning.seat.read(0)
+        planning.tick()
+        new = planning.news.accepted[self.heard :]
+        self.heard += len(new)
+        news = [news_data(planning, self.frame.wording, one) for one in new]
+        return {"news": news, "others": self._pictures() if new else []}
+
+    def tell(self, event: Data) -> None:
+        for window in self.windows.all():
+            window.tell(event)
+
+    def person(self) -> Optional[Data]:
+        """Who sits at the seat now, here or at a terminal."""
+        name, since = read_sitter(self.day, self.planner)
+        if self.planning is None and not is_locked(self.day.sitter(self.planner)):
+            return None
+        who = self.frame.wording.safe(name) or f"planner {self.planner}"
+        return {"seat": self.planner, "who": who, "title": f"seat {self.planner}: {who}, since {since[11:16]}"}
+
+    async def leave(self) -> None:
+        await asyncio.get_running_loop().run_in_executor(self._thread, self._go)

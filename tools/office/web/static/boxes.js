@@ -1,0 +1,182 @@
+// Boxes in front of the week: what is to be read or answered.
+import { button, el, find, key, name } from "./dom.js";
+import { kindOf, number, signed } from "./numbers.js";
+
+let before = null;
+
+function open(title, parts, { cls = "", cancel } = {}) {
+  const box = find("box");
+  if (!box.open) before = document.activeElement;
+  box.className = cls;
+  box.oncancel = (event) => {
+    event.preventDefault();
+    cancel?.();
+  };
+  box.replaceChildren(el("h2", { id: "box-title" }, name(title)), ...parts.filter(Boolean));
+  if (!box.open) box.showModal();
+  const first = box.querySelector("[autofocus]") || box.querySelector("button");
+  first?.focus();
+  if (first?.matches("input")) first.select();
+}
+
+export function close() {
+  const box = find("box");
+  if (!box.open) return;
+  box.close();
+  box.replaceChildren();
+  const week = find("week").querySelector("[tabindex='0']");
+  const target = before?.isConnected && before !== document.body ? before : week;
+  target?.focus();
+}
+
+const buttons = (...made) => el("div", { cls: "buttons end" }, ...made);
+
+// a line of text in a box, and what Enter does with it
+function field(id, label, more, go) {
+  const input = el("input", { type: "text", id, autocomplete: "off", ...more });
+  input.addEventListener("keydown", (event) => {
+    if (event.key !== "Enter" || event.isComposing) return;
+    event.preventDefault();
+    go();
+  });
+  return [el("label", { for: id }, label), input];
+}
+
+// who sits down; a promise of the name
+export function askName({ seat, last }) {
+  return new Promise((done) => {
+    const go = () => {
+      const given = find("name").value.trim();
+      if (!given) return;
+      close();
+      done(given);
+    };
+    const more = { maxlength: "40", value: last, autofocus: true, autocomplete: "name" };
+    const told = `This link is seat ${seat} of the day. Your name is shown to the other planners, and is in the log.`;
+    open(
+      "Who sits down?",
+      [
+        el("p", {}, told),
+        ...field("name", "Your name", more, go),
+        buttons(button("sit", "Sit down", go, { cls: "primary" })),
+      ],
+      { cls: "small" }
+    );
+  });
+}
+
+// a line of the desk that is typed by hand
+export function askLine(send) {
+  const go = () => {
+    const line = find("line").value.trim();
+    close();
+    if (line) send(line);
+  };
+  const more = { maxlength: "500", spellcheck: "false", autofocus: true };
+  open(
+    "A line of the desk",
+    [
+      ...field("line", "such as: peek course c0109", more, go),
+      buttons(button("back", "Back", close), button("send", "Send", go, { cls: "primary" })),
+    ],
+    { cls: "small", cancel: close }
+  );
+}
+
+// lines of a question by what they are: titles, edits, and what else is told
+function linePart({ code, text, price }) {
+  if (!text) return null;
+  const delta = price === undefined ? null : el("span", { cls: `delta ${kindOf(price)}` }, signed(price));
+  return el("p", { cls: `line-${code.replace(/ /g, "-")}` }, name(text.trim()), delta);
+}
+
+function costTable(costs) {
+  const row = ({ label, was, now }, cls) =>
+    el(
+      "tr",
+      { cls },
+      el("th", { scope: "row" }, label),
+      el("td", {}, was === null ? "" : number(was)),
+      el("td", {}, number(now)),
+      el(
+        "td",
+        {},
+        was === null || was === now
+          ? ""
+          : el("span", { cls: `delta ${kindOf(now - was)}` }, signed(now - was))
+      )
+    );
+  const heads = ["before", "after", ""].map((text) => el("th", { scope: "col" }, text));
+  return el(
+    "table",
+    { cls: "sums" },
+    el("thead", {}, el("tr", {}, el("td"), heads)),
+    el("tbody", {}, costs.slice(0, -1).map((one) => row(one))),
+    el("tfoot", {}, row(costs[costs.length - 1]))
+  );
+}
+
+// a question of the office: title, lines, perhaps costs and a line to type, and a button an answer
+export function ask(question, acts) {
+  const { number: id, title, lines, answers, costs, why } = question;
+  const back = () => {
+    close();
+    acts.closeQuestion(id);
+  };
+  const typed = () => (why ? { why: find("why").value.trim() } : {});
+  const go = (name) => () => acts.answer(id, name, typed());
+  const first = answers.length ? go(answers[0].name) : back;
+  const made = answers.map((one, at) =>
+    button(one.name, one.said, go(one.name), {
+      cls: at === 0 ? "primary" : "",
+      autofocus: at === 0 && !why,
+    })
+  );
+  const shown = lines.map(linePart);
+  const more = { maxlength: "200", placeholder: why?.hint, autofocus: true };
+  open(
+    title,
+    [
+      costs
+        ? el("div", { cls: "two" }, el("div", { cls: "lines" }, shown), costTable(costs))
+        : el("div", { cls: "lines" }, shown),
+      ...(why ? field("why", why.label, more, first) : []),
+      buttons(
+        button("back", answers.length ? "Back" : "Go on", back, { autofocus: !answers.length }),
+        made.reverse()
+      ),
+    ],
+    { cancel: back }
+  );
+}
+
+// each key in a sentence, and the signs
+export function help(keys) {
+  const keyList = keys.filter((one) => one.help);
+  const term = (one, text) => [el("dt", {}, one), el("dd", {}, text)];
+  const sign = (cls, text) => el("span", { cls: `${cls} static` }, text);
+  open(
+    "Keys and signs",
+    [
+      el("h3", {}, "Keys, in the week"),
+      el(
+        "dl",
+        { cls: "keys" },
+        term(key("arrows"), "move the cursor over the week; Tab leaves the week for the panels"),
+        keyList.map((one) => term(key(one.said), one.help))
+      ),
+      el("h3", {}, "Signs"),
+      el(
+        "dl",
+        { cls: "keys" },
+        term(sign("sign short", "● 21"), "so many students have no seat"),
+        term(sign("sign alone", "○ 2"), "points for standing alone on its day"),
+        term(sign("pencil", "✎"), "changed in your draft"),
+        term(sign("who", "name"), "changed by somebody else since"),
+        term(sign("delta good", "−22"), "saves 22 points")
+      ),
+      buttons(button("back", "Back", close, { cls: "primary", autofocus: true })),
+    ],
+    { cancel: close }
+  );
+}

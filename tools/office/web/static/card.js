@@ -1,0 +1,48 @@
+// A lecture as a card, and the signs for what costs points.
+import { el, name } from "./dom.js";
+import { counted } from "./numbers.js";
+
+export function signs(lecture, kind) {
+  const found = [];
+  if (lecture.short) {
+    const title = `${counted(lecture.short, "student")} without a seat`;
+    found.push(el("span", { cls: "sign short", title }, `● ${lecture.short}`));
+  }
+  if (lecture.alone) {
+    const where = kind === "curriculum" ? "alone on its day" : "alone on its day in its curricula";
+    const title = `${where}: ${counted(lecture.alone, "point")}`;
+    found.push(el("span", { cls: "sign alone", title }, `○ ${lecture.alone}`));
+  }
+  return found;
+}
+
+const line = (cls, ...parts) => el("div", { cls: `line ${cls}` }, ...parts);
+
+// what the week's title says already is dim
+export function card(lecture, [kind], { canMove }) {
+  const grip = el("span", { cls: "grip", "aria-hidden": "true", title: "drag" }, "⠿");
+  const people = `${lecture.students}/${lecture.seats}`;
+  return el(
+    "div",
+    { cls: "card", css: { "--hue": lecture.hue } },
+    line("", name(lecture.said, "course"), canMove ? grip : null),
+    line(
+      "place",
+      name(lecture.room_said, kind === "room" ? "room dim" : "room"),
+      name(lecture.teacher_said, kind === "teacher" ? "teacher dim" : "teacher")
+    ),
+    line(
+      "foot",
+      lecture.seats ? el("span", { cls: "seats", title: "students / seats" }, people) : null,
+      ...signs(lecture, kind)
+    )
+  );
+}
+
+export function cardSaid(lecture) {
+  const found = [`${lecture.said} in ${lecture.room_said}, teacher ${lecture.teacher_said}`];
+  if (lecture.seats) found.push(`${lecture.students} students, ${lecture.seats} seats`);
+  if (lecture.short) found.push(`${counted(lecture.short, "student")} without a seat`);
+  if (lecture.alone) found.push(`alone on its day, ${counted(lecture.alone, "point")}`);
+  return found.join(", ");
+}

@@ -1,0 +1,147 @@
+// The pointer: a lecture is dragged by mouse, pen or finger, and dropped on a slot.
+import { el, find, name } from "./dom.js";
+import { keyOf } from "./numbers.js";
+
+// so many pixels are no drag yet
+const NEAR = 6;
+
+class Hand {
+  // acts: pickUp(slot) and place(course) answer a promise; drop(slot), layDown(), hover(slot), told(slot)
+  constructor(week, acts) {
+    Object.assign(this, { week, acts, pressed: null, ghost: null, over: null });
+  }
+
+  begin(event) {
+    const card = event.target.closest?.(".card");
+    if (event.button !== 0 || !card || this.pressed || this.acts.isHolding()) return;
+    // a finger scrolls, unless it takes the grip
+    if (event.pointerType === "touch" && !event.target.closest(".grip")) return;
+    this.pressed = {
+      card,
+      slot: this.week.slotAt(event.target),
+      missing: event.target.closest("[data-missing]")?.dataset.missing,
+      x: event.clientX,
+      y: event.clientY,
+      id: event.pointerId,
+      isDragging: false,
+    };
+  }
+
+  move(event) {
+    const { pressed } = this;
+    if (!pressed || event.pointerId !== pressed.id) return;
+    if (!pressed.isDragging) {
+      if (Math.hypot(event.clientX - pressed.x, event.clientY - pressed.y) < NEAR) return;
+      this.lift();
+    }
+    event.preventDefault();
+    // under a mouse, above a finger
+    const up = event.pointerType === "touch" ? -64 : 16;
+    const left = Math.max(4, Math.min(event.clientX + 14, innerWidth - 190));
+    const top = Math.max(4, Math.min(event.clientY + up, innerHeight - 44));
+    this.ghost.style.transform = `translate(${left}px, ${top}px)`;
+    const slot = this.week.slotAt(document.elementFromPoint(event.clientX, event.clientY));
+    if (slot && (!this.over || keyOf(slot) !== keyOf(this.over))) this.acts.hover(slot);
+    this.mark(slot);
+    this.tell(slot);
+  }
+
+  lift() {
+    const { pressed } = this;
+    pressed.isDragging = true;
+    const hue = pressed.card.style.getPropertyValue("--hue");
+    const label = pressed.card.querySelector(".course").textContent;
+    this.price = el("span", { cls: "held-price" });
+    this.ghost = el(
+      "div",
+      { cls: "held-card", css: { "--hue": hue } },
+      name(label, "strong"),
+      this.price
+    );
+    document.body.append(this.ghost);
+    document.body.classList.add("dragging");
+    const { pickUp, place } = this.acts;
+    pressed.ready = pressed.missing ? place(pressed.missing) : pickUp(pressed.slot);
+  }
+
+  tell(slot) {
+    const [kind, text] = slot ? this.acts.told(slot) : ["", ""];
+    this.price.className = `held-price delta ${kind}`;
+    this.price.replaceChildren(name(text));
+  }
+
+  mark(slot) {
+    if (this.over) this.week.cell(this.over).classList.remove("over");
+    this.over = slot;
+    if (slot) this.week.cell(slot).classList.add("over");
+  }
+
+  async end(event) {
+    const { pressed } = this;
+    if (!pressed || event.pointerId !== pressed.id) return;
+    const slot = this.week.slotAt(document.elementFromPoint(event.clientX, event.clientY));
+    this.stop();
+    if (!pressed.isDragging) return;
+    swallowClick();
+    await pressed.ready;
+    if (event.type === "pointerup" && slot) this.acts.drop(slot);
+    else this.acts.layDown();
+  }
+
+  stop() {
+    this.pressed = null;
+    this.mark(null);
+    this.ghost?.remove();
+    this.ghost = null;
+    document.body.classList.remove("dragging");
+  }
+
+  async escape(event) {
+    if (event.key !== "Escape" || !this.pressed?.isDragging) return;
+    event.stopPropagation();
+    const { ready } = this.pressed;
+    this.stop();
+    await ready;
+    this.acts.layDown();
+  }
+}
+
+// the click that follows a drag means nothing
+function swallowClick() {
+  const eat = (event) => {
+    event.stopPropagation();
+    event.preventDefault();
+  };
+  window.addEventListener("click", eat, { capture: true, once: true });
+  setTimeout(() => window.removeEventListener("click", eat, { capture: true }), 50);
+}
+
+export function makeHand(week, acts) {
+  const hand = new Hand(week, acts);
+  document.addEventListener("pointerdown", (event) => hand.begin(event));
+  document.addEventListener("pointermove", (event) => hand.move(event), { passive: false });
+  document.addEventListener("pointerup", (event) => hand.end(event));
+  document.addEventListener("pointercancel", (event) => hand.end(event));
+  document.addEventListener("keydown", (event) => hand.escape(event), true);
+  window.addEventListener("blur", () => hand.pressed && hand.escape(leaving));
+  const grid = find("week");
+  grid.addEventListener("click", (event) => {
+    const slot = week.slotAt(event.target);
+    if (!slot) return;
+    if (event.target.closest("button.more")) acts.more(slot);
+    else acts.tap(slot);
+  });
+  grid.addEventListener("dblclick", (event) => {
+    const slot = week.slotAt(event.target);
+    if (slot && event.target.closest(".card") && !acts.isHolding()) acts.pickUp(slot);
+  });
+  // a mouse that rests points nowhere, whatever is drawn under it
+  grid.addEventListener("pointermove", (event) => {
+    const rests = !event.movementX && !event.movementY;
+    if (event.pointerType !== "mouse" || rests || !acts.isHolding()) return;
+    const slot = week.slotAt(event.target);
+    if (slot && keyOf(slot) !== keyOf(week.cursor)) acts.hover(slot);
+  });
+}
+
+const leaving = { key: "Escape", stopPropagation() {} };

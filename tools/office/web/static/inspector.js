@@ -1,0 +1,72 @@
+// The panel about the lecture at the cursor, or about the one that is held.
+import { button, el, find, key, name, refill } from "./dom.js";
+
+const line = (text) => el("p", { cls: "told" }, name(text));
+const title = (text, more) =>
+  el("div", { cls: "who-line" }, name(text, "big"), el("span", { cls: "where" }, more));
+
+function act(acts, id, text, letter, more = {}) {
+  return button(id, [text, " ", key(letter)], () => acts.act(id), more);
+}
+
+function heldParts(held, acts) {
+  const isSwap = held.kind === "swap";
+  const other = isSwap ? ["move", "Move"] : ["swap", "Swap"];
+  const more = isSwap ? "is held, to swap" : "is held";
+  return [
+    el("div", { css: { "--hue": held.hue } }, title(held.said, more)),
+    line(held.about),
+    el("p", { cls: "hint" }, held.hint),
+    el(
+      "div",
+      { cls: "buttons" },
+      act(acts, "cheapest", "Cheapest", "B", { cls: "primary" }),
+      held.at ? act(acts, ...other, "S") : null,
+      act(acts, "lay down", "Leave it", "Esc")
+    ),
+  ];
+}
+
+function chosenParts({ about, picture }, week, acts) {
+  const here = week.at(week.cursor).lectures[0];
+  const isSeen = (view) => view.join() === picture.week.view.join();
+  const weeks = about.weeks.map(([view, said]) =>
+    button(view.join(), name(said), () => acts.show(view), {
+      cls: "link",
+      "aria-current": isSeen(view) ? "true" : null,
+    })
+  );
+  return [
+    el("div", { css: { "--hue": here.hue } }, title(about.said, about.where)),
+    about.lines.map(line),
+    el(
+      "div",
+      { cls: "buttons" },
+      act(acts, "move", "Move", "Enter", { cls: "primary" }),
+      act(acts, "swap", "Swap", "S"),
+      act(acts, "next", "Room", "O"),
+      act(acts, "take out", "Take out", "X")
+    ),
+    el("div", { cls: "weeks" }, el("span", { cls: "label" }, "Week of"), weeks),
+  ];
+}
+
+export function drawInspector(app, week, acts) {
+  const box = find("inspector");
+  const { held } = app.picture;
+  if (held) return refill(box, ...heldParts(held, acts));
+  const here = week.at(week.cursor).lectures[0];
+  if (here && app.about?.course === here.course) {
+    return refill(box, ...chosenParts(app, week, acts));
+  }
+  // what is about to be told takes the same room
+  if (here) return refill(box, el("div", { css: { "--hue": here.hue } }, title(here.said, "")));
+  const changed = week.at(week.cursor).changed;
+  return refill(
+    box,
+    el("h2", {}, name(week.said(week.cursor))),
+    changed ? line(changed) : null,
+    el("p", { cls: "hint" }, "Nothing stands here. Choose a lecture and press ", key("Enter")),
+    el("p", { cls: "hint" }, "to see what each slot costs, or drag it there.")
+  );
+}

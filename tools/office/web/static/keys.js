@@ -1,0 +1,49 @@
+// The keyboard. Letters are keys only in the week, so that they disturb nobody who types or
+// dictates elsewhere.
+import { find } from "./dom.js";
+import { isMenuOpen } from "./menu.js";
+
+const STEPS = {
+  ArrowLeft: [-1, 0],
+  ArrowRight: [1, 0],
+  ArrowUp: [0, -1],
+  ArrowDown: [0, 1],
+  Home: [-99, 0],
+  End: [99, 0],
+};
+
+const isTyping = () => document.activeElement?.matches("input, textarea") ?? false;
+const isPlain = (event) => !event.ctrlKey && !event.metaKey && !event.altKey;
+
+// keys: [{name, key}] as the office has them
+export function listenToKeys(acts, keys) {
+  const names = new Map(keys.flatMap((one) => one.keys.map((key) => [key, one.name])));
+
+  function inWeek(event) {
+    if (!isPlain(event) || isMenuOpen() || event.defaultPrevented) return;
+    const step = STEPS[event.key];
+    const name = names.get(event.key) || names.get(event.key.toLowerCase());
+    if (step) acts.go(...step);
+    else if (name) acts.act(name);
+    else return;
+    event.preventDefault();
+  }
+
+  function anywhere(event) {
+    if (event.defaultPrevented || !isPlain(event) || isTyping()) return;
+    if (isMenuOpen() || find("box").open) return;
+    if (event.key === "Escape" && acts.isHolding()) acts.act("lay down");
+    else if (event.key === "/") acts.act("view");
+    else if (event.key === "?") acts.act("help");
+    else return;
+    event.preventDefault();
+  }
+
+  find("week").addEventListener("keydown", inWeek);
+  document.addEventListener("keydown", anywhere);
+  find("help-button").addEventListener("click", () => acts.act("help"));
+  find("skip").addEventListener("click", (event) => {
+    event.preventDefault();
+    acts.toWeek();
+  });
+}

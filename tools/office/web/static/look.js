@@ -1,0 +1,89 @@
+// The cursor, and what is known of the lecture at it.
+import { el, fill, find, key, name } from "./dom.js";
+import { heldSaid } from "./held.js";
+import { drawInspector } from "./inspector.js";
+import { ask } from "./link.js";
+import { same } from "./numbers.js";
+
+// so long the cursor rests before the office is asked
+const REST = 60;
+
+const legend = (cls, sign, text) => el("span", {}, el("span", { cls: `sign ${cls}` }, sign), text);
+
+export class Look {
+  constructor(app, week) {
+    Object.assign(this, { app, week, later: null });
+  }
+
+  get held() {
+    return this.app.picture.held;
+  }
+
+  go(days, periods) {
+    const [day, period] = this.week.cursor;
+    const slot = [day + days, period + periods];
+    if (this.week.isInside(slot)) this.goTo(slot);
+  }
+
+  goTo(slot) {
+    this.week.setCursor(slot, true);
+    if (this.held) this.drawTray();
+    else this.choose();
+  }
+
+  // a mouse or a finger is over a slot
+  hover(slot) {
+    this.week.setCursor(slot, false);
+    if (this.held) this.drawTray();
+  }
+
+  // the cursor goes to the first lecture of a week, or stays if it is at one
+  toFirst() {
+    const cells = this.app.picture.week.cells.filter((cell) => cell.lectures.length);
+    const isAtOne = cells.some((cell) => same(cell.at, this.week.cursor));
+    if (!this.held && cells.length && !isAtOne) this.week.setCursor(cells[0].at, false);
+    this.choose();
+  }
+
+  // asks what is known of the lecture at the cursor, once it rests there
+  choose() {
+    const lecture = this.held ? null : this.week.seen(this.week.cursor);
+    const wanted = lecture && JSON.stringify([lecture, this.app.picture.number]);
+    clearTimeout(this.later);
+    if (!lecture || this.app.about?.course !== lecture.course) this.app.about = null;
+    this.draw();
+    if (!lecture || this.app.about?.wanted === wanted) return;
+    this.later = setTimeout(async () => {
+      const found = await ask("about", { lecture }).catch(() => null);
+      if (!found?.about || !same(lecture.at, this.week.cursor)) return;
+      this.app.about = { ...found.about, wanted };
+      this.draw();
+    }, REST);
+  }
+
+  draw() {
+    drawInspector(this.app, this.week, this.acts);
+  }
+
+  // the line below the week
+  drawTray() {
+    const { held, week } = this;
+    if (!held) {
+      fill(
+        find("tray"),
+        legend("short", "● 9", " students without a seat"),
+        legend("alone", "○ 2", " points for standing alone"),
+        el("span", { cls: "keys-hint" }, key("Enter"), " picks up, ", key("?"), " all keys")
+      );
+      return;
+    }
+    const offer = held.slots.find((one) => same(one.at, week.cursor));
+    const can = offer.offers.length > 0 || same(offer.at, held.at);
+    fill(
+      find("tray"),
+      el("strong", {}, name(week.said(week.cursor))),
+      el("span", { cls: can ? "" : "no" }, name(heldSaid(held, offer))),
+      el("span", { cls: "keys-hint" }, key("Enter"), " puts it down, ", key("Esc"), " leaves it")
+    );
+  }
+}

@@ -1,0 +1,80 @@
+// A short list beside a slot: rooms, or partners of a swap, by price.
+import { el, name } from "./dom.js";
+import { kindOf, signed } from "./numbers.js";
+
+let shown = null;
+
+export const isMenuOpen = () => shown !== null;
+
+export function closeMenu() {
+  if (!shown) return;
+  shown.box.remove();
+  document.removeEventListener("pointerdown", outside, true);
+  shown = null;
+}
+
+function outside(event) {
+  if (!shown || shown.box.contains(event.target)) return;
+  const { back } = shown;
+  closeMenu();
+  back();
+}
+
+function put(box, anchor) {
+  const spot = anchor.getBoundingClientRect();
+  const size = box.getBoundingClientRect();
+  const left = Math.min(spot.left + 4, innerWidth - size.width - 8);
+  const isBelow = spot.bottom + size.height + 8 < innerHeight;
+  const top = isBelow ? spot.bottom + 2 : spot.top - size.height - 2;
+  box.style.left = `${Math.max(8, left)}px`;
+  box.style.top = `${Math.max(8, Math.min(top, innerHeight - size.height - 8))}px`;
+}
+
+// offers: [price, code, said]; choose(place) when one is taken, back() when none is
+export function openMenu(anchor, label, offers, choose, back) {
+  closeMenu();
+  const list = el("ul", { role: "listbox", tabindex: "0", "aria-label": label, cls: "menu" });
+  let at = 0;
+  const items = offers.map(([price, , said], place) =>
+    el(
+      "li",
+      {
+        role: "option",
+        id: `offer-${place}`,
+        on: { click: () => take(place), pointermove: () => go(place) },
+      },
+      el("span", { cls: `delta ${kindOf(price)}` }, signed(price)),
+      name(said, "strong")
+    )
+  );
+  list.append(...items);
+  const box = el("div", { cls: "menu-box" }, el("div", { cls: "menu-title" }, label), list);
+  document.body.append(box);
+  put(box, anchor);
+  shown = { box, back };
+
+  function go(place) {
+    at = Math.max(0, Math.min(items.length - 1, place));
+    items.forEach((item, n) => item.setAttribute("aria-selected", String(n === at)));
+    list.setAttribute("aria-activedescendant", `offer-${at}`);
+    items[at].scrollIntoView({ block: "nearest" });
+  }
+  function take(place) {
+    closeMenu();
+    choose(place);
+  }
+  list.addEventListener("keydown", (event) => {
+    const step = { ArrowDown: 1, ArrowUp: -1, Home: -999, End: 999 }[event.key];
+    if (step) go(at + step);
+    else if (event.key === "Enter" || event.key === " ") take(at);
+    else if (event.key === "Escape" || event.key === "Tab") {
+      closeMenu();
+      back();
+    } else return;
+    event.preventDefault();
+    event.stopPropagation();
+  });
+  document.addEventListener("pointerdown", outside, true);
+  go(0);
+  list.focus();
+}

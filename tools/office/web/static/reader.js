@@ -1,0 +1,71 @@
+// The timetable as it stands, for who reads: weeks by name, live.
+import { announce, banner, el, fill, find, name } from "./dom.js";
+import { ask, keepListening, takeKey } from "./link.js";
+import { makeSearch } from "./search.js";
+import { Week } from "./week.js";
+
+const VIEW = "read-view";
+const LOST = "The office does not answer just now; this page tries again.";
+const app = { day: null, isOver: false };
+let week = null;
+
+function draw(told) {
+  week.draw(told, null);
+  sessionStorage.setItem(VIEW, JSON.stringify(told.view));
+  fill(find("week-title"), el("span", { cls: "kind" }, told.view[0]), name(told.title));
+  fill(find("week-about"), name(told.about));
+}
+
+async function show(view) {
+  const found = await ask("show", { view }).catch(lost);
+  if (!found) return;
+  draw(found.picture.week);
+  week.setCursor(week.cursor, true);
+  announce(`Week of ${found.picture.week.title}`);
+}
+
+function build(found) {
+  find("day").textContent = found.day;
+  document.title = `${found.day} · timedesk`;
+  week = new Week(found, false);
+  const search = makeSearch(found.named, show, () => week.setCursor(week.cursor, true));
+  const steps = { ArrowLeft: [-1, 0], ArrowRight: [1, 0], ArrowUp: [0, -1], ArrowDown: [0, 1] };
+  find("week").addEventListener("keydown", (event) => {
+    const [days, periods] = steps[event.key] || [0, 0];
+    const slot = [week.cursor[0] + days, week.cursor[1] + periods];
+    if ((!days && !periods) || !week.isInside(slot)) return;
+    week.setCursor(slot, true);
+    event.preventDefault();
+  });
+  document.addEventListener("keydown", (event) => {
+    if (event.key !== "/" || document.activeElement?.matches("input")) return;
+    search.focus();
+    event.preventDefault();
+  });
+}
+
+async function begin() {
+  const view = JSON.parse(sessionStorage.getItem(VIEW) || "null");
+  const found = await ask("hello", { view });
+  if (!app.day) build(found);
+  app.day = found;
+  banner("");
+  draw(found.picture.week);
+  performance.mark("ready");
+}
+
+function hear(event) {
+  if (event.picture) draw(event.picture.week);
+  if (event.over) {
+    app.isOver = true;
+    banner("The office has closed; this is the timetable that it leaves.");
+  }
+}
+
+function lost(fault) {
+  banner(fault.status ? fault.message : LOST);
+  return null;
+}
+
+takeKey();
+keepListening({ begin, hear, lost, isOver: () => app.isOver });

@@ -1,0 +1,187 @@
+// The seat in a browser: what is known, and what is drawn when it changes.
+import { makeActs } from "./acts.js";
+import * as boxes from "./boxes.js";
+import { announce, banner, el, fill, find, name } from "./dom.js";
+import { makeHand } from "./hand.js";
+import { listenToKeys } from "./keys.js";
+import { ask, Fault, keepListening, takeKey } from "./link.js";
+import { Look } from "./look.js";
+import { keyOf } from "./numbers.js";
+import { makeSearch } from "./search.js";
+import * as side from "./side.js";
+import { toast, toastNotice } from "./toasts.js";
+import { Week } from "./week.js";
+
+const VIEW = "view";
+const NAME = "name";
+// so long a draft of somebody else is marked as new
+const NEW = 20000;
+
+const app = {
+  // what the office told at the beginning, the newest picture, and what is asked
+  day: null,
+  picture: null,
+  question: null,
+  // the lecture at the cursor
+  about: null,
+  news: [],
+  unseen: new Set(),
+  recent: new Map(),
+  closes: null,
+  isOver: false,
+  lost: "",
+};
+let week = null;
+let acts = null;
+let look = null;
+
+// drawing
+
+function drawWeek() {
+  const { week: told, held } = app.picture;
+  week.draw(told, held, app.recent);
+  fill(find("week-title"), el("span", { cls: "kind" }, told.view[0]), name(told.title));
+  const missing = told.missing ? el("span", { cls: "pill bad" }, told.missing) : null;
+  fill(find("week-about"), name(told.about), missing);
+  look.drawTray();
+}
+
+function drawState() {
+  side.drawCosts(app);
+  side.drawDraft(app, acts);
+  side.drawMissing(app, acts);
+  drawBanner();
+}
+
+function drawBanner() {
+  banner(app.lost || closing() || app.picture?.state.alarm || "");
+}
+
+function closing() {
+  if (app.isOver) return app.day.farewell;
+  if (!app.closes) return "";
+  const seconds = Math.max(0, Math.round(app.closes - Date.now() / 1000));
+  return `The office closes in ${seconds} s: commit now, or your edits are offered again.`;
+}
+
+// takes up what the office tells; what is older than what is seen is left
+function take(found) {
+  if (found.picture && found.picture.number >= (app.picture?.number ?? 0)) {
+    app.picture = found.picture;
+    sessionStorage.setItem(VIEW, JSON.stringify(app.picture.week.view));
+    drawWeek();
+    drawState();
+    look.choose();
+  }
+  if (found.question !== undefined) {
+    app.question = found.question;
+    if (found.question) boxes.ask(found.question, acts);
+    else boxes.close();
+  }
+  if (found.notice) toastNotice(found.notice, acts);
+}
+
+// what is asked
+
+async function turn(verb, told = {}) {
+  try {
+    const found = await ask(verb, told);
+    take(found);
+    return found;
+  } catch (fault) {
+    if (!(fault instanceof Fault)) throw fault;
+    toast("bad", fault.message);
+    announce(fault.message);
+    return {};
+  }
+}
+
+// acts one after another: what was pressed before has its effect first, and a key that was meant
+// for the week does nothing behind a box that has come up meanwhile
+let last = Promise.resolve();
+
+function queue(act) {
+  const before = app.question;
+  last = last.then(() => (app.question === before ? act() : null));
+  return last;
+}
+
+// what the office says by itself
+
+function hear(event) {
+  if (event.people) side.drawPeople(event.people, app.day);
+  if (event.closes !== undefined) app.closes = event.closes;
+  if (event.over) app.isOver = true;
+  if (event.news) event.news.forEach(tellNews);
+  if (event.picture) take(event);
+  if (event.news) side.drawNews(app);
+  drawBanner();
+}
+
+function tellNews(one) {
+  if (app.news.some((known) => known.number === one.number)) return;
+  app.news.push(one);
+  if (one.seat === app.day.seat) return;
+  app.unseen.add(one.number);
+  for (const slot of one.slots) app.recent.set(keyOf(slot), one.who);
+  toast("news", one.text);
+  announce(one.text);
+  setTimeout(() => {
+    app.unseen.delete(one.number);
+    side.drawNews(app);
+  }, NEW);
+}
+
+function lost(fault) {
+  app.lost = fault.message;
+  document.body.classList.add("lost");
+  drawBanner();
+}
+
+// the beginning, and each time that the office has been away
+
+function where() {
+  const view = JSON.parse(sessionStorage.getItem(VIEW) || "null");
+  const held = app.picture?.held;
+  if (!held) return { view };
+  const { kind, course, at, room } = held;
+  return { view, held: { kind, course, at, room } };
+}
+
+async function begin() {
+  const told = { name: localStorage.getItem(NAME) || "", ...where() };
+  let found = await ask("hello", told);
+  while (found.wants) {
+    drawBanner();
+    told.name = await boxes.askName(found);
+    localStorage.setItem(NAME, told.name);
+    found = await ask("hello", told);
+  }
+  const isFirst = app.day === null;
+  Object.assign(app, { day: found, news: found.news, closes: found.closes, lost: "" });
+  app.picture = null;
+  document.body.classList.remove("lost");
+  if (isFirst) build(found);
+  side.drawPeople(found.people, app.day);
+  side.drawNews(app);
+  take(found);
+  if (isFirst) look.toFirst();
+  if (isFirst && !app.question) acts.toWeek();
+  performance.mark("ready");
+}
+
+function build(found) {
+  find("day").textContent = found.day;
+  document.title = `${found.day} · ${found.name} · timedesk`;
+  week = new Week(found, true);
+  look = new Look(app, week);
+  const search = makeSearch(found.named, (view) => acts.show(view), () => acts.toWeek());
+  acts = makeActs({ app, week, turn, queue, look, search: () => search.focus() });
+  look.acts = acts;
+  makeHand(week, acts);
+  listenToKeys(acts, found.keys);
+  setInterval(() => (app.closes || app.isOver) && drawBanner(), 1000);
+}
+
+takeKey();
+keepListening({ begin, hear, lost, isOver: () => app.isOver });

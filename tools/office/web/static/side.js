@@ -1,0 +1,198 @@
+// The cost above the week, and the panels beside it: the draft, what is missing, what others did.
+import { button, el, find, key, name, refill } from "./dom.js";
+import { counted, kindOf, number, signed, sum } from "./numbers.js";
+
+// so many courses and drafts are listed
+const COURSES = 60;
+const DRAFTS = 30;
+
+const title = (text, count) =>
+  el("h2", {}, text, count === undefined ? null : el("span", { cls: "count" }, String(count)));
+
+const delta = (n) => (n ? el("span", { cls: `delta ${kindOf(n)}` }, signed(n)) : null);
+
+// what the timetable costs, with its parts, and how the draft changes them
+export function drawCosts({ picture, day }) {
+  const { costs, draft, missing, ended } = picture.state;
+  const all = Object.values(costs);
+  const base = draft?.base || null;
+  const saved = draft && draft.base_total !== null ? sum(all) - draft.base_total : 0;
+  const parts = day.parts.map(([part, label]) =>
+    el(
+      "div",
+      { cls: "part" },
+      el("span", { cls: "label" }, label),
+      el("span", { cls: "value" }, number(costs[part] ?? 0)),
+      base ? delta((costs[part] ?? 0) - base[part]) : null
+    )
+  );
+  const total = [el("span", { cls: "label" }, "Cost"), el("span", { cls: "value" }, number(sum(all)))];
+  const count = sum(missing.map((one) => one.count));
+  refill(
+    find("costs"),
+    el("div", { cls: "total" }, total, delta(saved)),
+    parts,
+    el(
+      "div",
+      { cls: `part missing ${count ? "some" : ""}` },
+      el("span", { cls: "label" }, "missing"),
+      el("span", { cls: "value" }, number(count))
+    ),
+    el("div", { cls: "state" }, draftSaid(draft, ended))
+  );
+}
+
+function draftSaid(draft, ended) {
+  const pill = (text, cls = "") => el("span", { cls: `pill ${cls}` }, name(text));
+  if (ended.length) return pill("draft not accepted", "bad");
+  if (!draft) return pill("no draft open");
+  return [
+    draft.foretold ? pill(draft.foretold, "bad") : null,
+    pill(`your draft: ${counted(draft.edits.length, "edit")}`, "open"),
+    draft.behind ? pill(`${draft.behind} accepted since`) : null,
+  ];
+}
+
+// who sits
+
+const hueOf = (seat) => String((seat * 137 + 300) % 360);
+const initials = (text) =>
+  text
+    .split(/\s+/)
+    .map((word) => [...word][0] || "")
+    .slice(0, 2)
+    .join("")
+    .toUpperCase();
+
+function face(seat, who, cls = "") {
+  const css = { "--hue": hueOf(seat) };
+  return el("span", { cls: `face ${cls}`, "aria-hidden": "true", css }, initials(who) || "?");
+}
+
+export function drawPeople(people, day) {
+  const items = people.map(({ seat, who, title: told }) =>
+    el(
+      "li",
+      { cls: seat === day.seat ? "person me" : "person", title: told },
+      face(seat, who),
+      name(who),
+      seat === day.seat ? " (you)" : null
+    )
+  );
+  find("people").replaceChildren(...items);
+}
+
+// the draft
+
+const editItem = (edit, more) => {
+  const price = edit.price ?? null;
+  const told = price === null ? null : el("span", { cls: `delta ${kindOf(price)}` }, signed(price));
+  return el("li", {}, name(edit.text), told, more);
+};
+
+export function drawDraft({ picture }, acts) {
+  const { draft, ended } = picture.state;
+  const box = find("draft");
+  const act = (id, text, more) => button(id, text, () => acts.act(id), more);
+  if (ended.length) {
+    return refill(
+      box,
+      title("Your last draft", ended.length),
+      el("p", { cls: "hint" }, "Nothing is lost. Decide on its edits before you go on."),
+      el("ol", { cls: "edits" }, ended.map((text) => editItem({ text }))),
+      el(
+        "div",
+        { cls: "buttons" },
+        act("redo", ["Make them again ", key("R")], { cls: "primary" }),
+        act("abandon", ["Give up… ", key("A")])
+      )
+    );
+  }
+  if (!draft) {
+    const hint = "The first edit opens a draft. Others see it when you commit it.";
+    return refill(box, title("Your draft"), el("p", { cls: "hint" }, hint));
+  }
+  const { edits, left_out: left, foretold } = draft;
+  const undo = act("undo", "Undo", { cls: "link", title: "U" });
+  const last = edits.length - 1;
+  refill(
+    box,
+    title("Your draft", edits.length),
+    el("ol", { cls: "edits" }, edits.map((edit, at) => editItem(edit, at === last ? undo : null))),
+    left.length ? [el("h3", {}, "Not made again"), el("ul", {}, left.map(told))] : null,
+    foretold ? el("p", { cls: "warn" }, name(foretold)) : null,
+    el(
+      "div",
+      { cls: "buttons" },
+      act("commit", ["Commit… ", key("C")], { cls: "primary", disabled: !edits.length }),
+      act("refresh", ["Bring up to date ", key("F")]),
+      act("abandon", ["Give up… ", key("A")])
+    )
+  );
+}
+
+const told = (text) => el("li", {}, name(text));
+
+// what is missing
+
+export function drawMissing({ picture }, acts) {
+  const { missing } = picture.state;
+  const box = find("missing");
+  const count = sum(missing.map((one) => one.count));
+  box.hidden = count === 0 && !box.contains(document.activeElement);
+  const card = (one) =>
+    button(
+      one.course,
+      [
+        el(
+          "span",
+          { cls: "line" },
+          name(one.said, "course"),
+          el("span", { cls: "grip", "aria-hidden": "true" }, "⠿")
+        ),
+        el("span", { cls: "line place" }, `${one.count} missing`, name(one.teacher_said)),
+        el("span", { cls: "line foot" }, counted(one.students, "student")),
+      ],
+      () => acts.place(one.course),
+      {
+        cls: "card",
+        css: { "--hue": one.hue },
+        data: { missing: one.course, id: one.course },
+        "aria-label": `Pick up ${one.said}, ${one.count} missing, ${one.students} students`,
+      }
+    );
+  const rest = missing.length - COURSES;
+  refill(
+    box,
+    title("Missing lectures", count),
+    el("ul", { cls: "to-place" }, missing.slice(0, COURSES).map((one) => el("li", {}, card(one)))),
+    rest > 0 ? el("p", { cls: "hint" }, `and ${rest} other courses`) : null
+  );
+}
+
+// what was accepted
+
+export function drawNews({ news, day, unseen }) {
+  const item = (one) =>
+    el(
+      "li",
+      { cls: unseen.has(one.number) ? "fresh" : "" },
+      el(
+        "div",
+        { cls: "by" },
+        face(one.seat, one.who, "small"),
+        name(one.who, "strong"),
+        one.seat === day.seat ? " (you)" : null,
+        el("span", { cls: "when" }, `draft ${one.number} · ${one.when}`)
+      ),
+      one.why ? el("p", { cls: "reason" }, "“", name(one.why), "”") : null,
+      el("ul", {}, one.edits.map(told))
+    );
+  const hint = "Nothing yet. What others commit appears here at once.";
+  const list = [...news].reverse().slice(0, DRAFTS).map(item);
+  refill(
+    find("news"),
+    title("Accepted today", news.length || undefined),
+    news.length ? el("ol", { cls: "drafts" }, list) : el("p", { cls: "hint" }, hint)
+  );
+}

@@ -1,0 +1,40 @@
+// What the last step has to say, in the line below the week.
+import { announce, button, el, find, name } from "./dom.js";
+import { kindOf, priceSaid, signed } from "./numbers.js";
+
+// how long it stays
+const STAYS = { bad: 15000, news: 8000, said: 6000 };
+
+export function toast(kind, text, more = []) {
+  const gone = () => {
+    one.remove();
+    const isCovered = find("toasts").childElementCount > 0;
+    find("tray").classList.toggle("covered", isCovered);
+  };
+  const close = button("close", "×", gone, { cls: "link close", "aria-label": "Close" });
+  const one = el("div", { cls: `toast ${kind}` }, el("span", {}, name(text)), more, close);
+  find("toasts").replaceChildren(one);
+  find("tray").classList.add("covered");
+  setTimeout(gone, STAYS[kind] || STAYS.said);
+}
+
+// what is seen beside the week already is heard alone
+const SEEN = ["cheapest in", "cheapest with", "stays"];
+
+export function toastNotice({ code, text, isBad, price }, acts) {
+  if (!text) return;
+  announce(price === undefined ? text : `${text} ${priceSaid(price)}`);
+  if (SEEN.includes(code)) return;
+  const undo = () => {
+    acts.toWeek();
+    acts.act("undo");
+  };
+  const more =
+    price === undefined
+      ? []
+      : [
+          el("span", { cls: `delta ${kindOf(price)}` }, signed(price)),
+          button("undo", "Undo", undo, { cls: "link" }),
+        ];
+  toast(isBad ? "bad" : "said", text, more);
+}

@@ -1,0 +1,133 @@
+// The week: days as columns, periods as rows. Cells stay, what is in them is drawn anew.
+import { card, cardSaid } from "./card.js";
+import { el, find, name } from "./dom.js";
+import { heldParts, heldSaid } from "./held.js";
+import { keyOf, same } from "./numbers.js";
+
+const EMPTY = { lectures: [], others: [], gone: [], now: [] };
+
+export class Week {
+  // slots: for each day what each of its periods is called
+  constructor({ days, periods, slots }, canMove) {
+    Object.assign(this, { days, periods, slots, canMove });
+    this.cells = new Map();
+    this.cursor = [0, 0];
+    // what is drawn
+    this.told = new Map();
+    this.build();
+  }
+
+  build() {
+    const grid = find("week");
+    grid.style.setProperty("--days", this.days.length);
+    grid.style.setProperty("--periods", this.periods.length);
+    grid.classList.toggle("dense", this.days.length > 7 || this.periods.length > 8);
+    const corner = el("span", { cls: "visually-hidden" }, "period");
+    const head = el(
+      "div",
+      { role: "row", cls: "row head" },
+      el("div", { role: "columnheader", cls: "corner" }, corner),
+      this.days.map((day) => el("div", { role: "columnheader", cls: "day" }, name(day)))
+    );
+    grid.replaceChildren(head, ...this.periods.map((label, period) => this.row(label, period)));
+  }
+
+  row(label, period) {
+    const cells = this.days.map((_, day) => {
+      const key = keyOf([day, period]);
+      const made = el("div", { role: "gridcell", tabindex: "-1", cls: "cell", data: { at: key } });
+      this.cells.set(key, made);
+      return made;
+    });
+    const head = el("div", { role: "rowheader", cls: "period" }, name(label));
+    return el("div", { role: "row", cls: "row" }, head, cells);
+  }
+
+  cell(slot) {
+    return this.cells.get(keyOf(slot));
+  }
+
+  said([day, period]) {
+    return this.slots[day][period];
+  }
+
+  isInside([day, period]) {
+    return this.days[day] !== undefined && this.periods[period] !== undefined;
+  }
+
+  slotAt(target) {
+    const cell = target?.closest?.(".cell");
+    return cell ? cell.dataset.at.split(",").map(Number) : null;
+  }
+
+  // what was drawn at a slot
+  at(slot) {
+    return this.told.get(keyOf(slot)) || EMPTY;
+  }
+
+  // the lecture that is seen at a slot, as the office has to know it
+  seen(slot) {
+    const one = this.at(slot).lectures[0];
+    return one ? { course: one.course, room: one.room, at: slot } : null;
+  }
+
+  setCursor(slot, focus) {
+    const old = this.cell(this.cursor);
+    old.tabIndex = -1;
+    old.classList.remove("at");
+    this.cursor = slot;
+    const cell = this.cell(slot);
+    cell.tabIndex = 0;
+    cell.classList.add("at");
+    if (!focus) return;
+    cell.focus({ preventScroll: true });
+    cell.scrollIntoView({ block: "nearest", inline: "nearest" });
+  }
+
+  // draws the week, and what is offered if something is held
+  draw(week, held, recent = new Map()) {
+    this.told = new Map(week.cells.map((one) => [keyOf(one.at), one]));
+    const offers = new Map((held?.slots || []).map((one) => [keyOf(one.at), one]));
+    find("week").classList.toggle("holding", !!held);
+    for (const [key, cell] of this.cells) {
+      const slot = key.split(",").map(Number);
+      const one = this.told.get(key) || EMPTY;
+      const who = recent.get(key) || one.others.join(", ");
+      cell.className = "cell";
+      cell.classList.toggle("at", same(slot, this.cursor));
+      cell.classList.toggle("mine", !!one.mine);
+      cell.classList.toggle("theirs", one.others.length > 0);
+      cell.classList.toggle("closed", !!one.closed);
+      cell.classList.toggle("fresh", recent.has(key));
+      const parts = held
+        ? heldParts(cell, one, held, offers.get(key), week.view)
+        : this.freeParts(one, week.view);
+      if (who) parts.push(el("span", { cls: "who" }, name(who)));
+      cell.replaceChildren(...parts);
+      cell.setAttribute("aria-label", this.label(slot, one, held && offers.get(key), held, who));
+    }
+  }
+
+  freeParts(one, view) {
+    const isChanged = one.others.length > 0;
+    const now = name(one.now.join(", ") || "empty");
+    const news = isChanged ? [el("div", { cls: "now" }, "now ", now)] : [];
+    if (one.lectures.length) {
+      return [...one.lectures.map((lecture) => card(lecture, view, this)), ...news];
+    }
+    if (isChanged) return news;
+    if (one.gone.length) return [el("div", { cls: "ghost" }, "was ", name(one.gone.join(", ")))];
+    return one.closed ? [el("span", { cls: "closed-text" }, "closed")] : [];
+  }
+
+  label(slot, one, offer, held, who) {
+    const was = one.gone.length ? `empty, was ${one.gone.join(", ")}` : "";
+    const empty = was || (one.closed ? "closed" : "empty");
+    const parts = [this.said(slot)];
+    if (offer) parts.push(heldSaid(held, offer));
+    parts.push(one.lectures.map(cardSaid).join("; ") || empty);
+    if (one.mine) parts.push("changed in your draft");
+    if (who) parts.push(`changed by ${who}`);
+    return parts.join(". ");
+  }
+}

@@ -1,0 +1,179 @@
+"""What a browser can ask of a planner's work. It names a lecture, an offer, a week or a question
+that it has seen; edits are made of them here, of known names and ranges alone."""
+from __future__ import annotations
+
+from typing import Any, Callable, Dict, List, Optional
+
+from office.carry import MOVE, SWAP, Offer
+from office.instance import Instance
+from office.notice import Question, say
+from office.timetable import Lecture, Slot
+from office.web.guard import Fault
+from office.week import KINDS, View
+from office.work import Work
+
+Data = Dict[str, Any]
+# letters of a line that is typed by hand, and of a reason
+LINE, WHY = 500, 200
+
+
+class Told:
+    """What a request says, of names and ranges that are known."""
+
+    def __init__(self, instance: Instance, data: Data) -> None:
+        self.instance, self.data = instance, data
+
+    def text(self, name: str, longest: int) -> str:
+        """Some text in one line."""
+        found = self.data.get(name, "")
+        if not isinstance(found, str):
+            raise Fault(400, f"{name} is text")
+        return " ".join(found.split())[:longest]
+
+    def number(self, name: str) -> int:
+        found = self.data.get(name)
+        if not isinstance(found, int) or isinstance(found, bool):
+            raise Fault(400, f"{name} is a number")
+        return found
+
+    def view(self, name: str = "view") -> View:
+        found, instance = self.data.get(name), self.instance
+        known: Dict[str, Any] = {
+            "curriculum": instance.curricula,
+            "teacher": instance.teachers,
+            "room": instance.rooms,
+            "course": instance.courses,
+        }
+        if not isinstance(found, list) or len(found) != 2 or found[0] not in KINDS:
+            raise Fault(400, "whose week?")
+        if not isinstance(found[1], str) or found[1] not in known[found[0]]:
+            raise Fault(400, f"no {found[0]} of this name")
+        return View(found[0], found[1])
+
+    def slot(self, name: str) -> Slot:
+        return self._slot(self.data.get(name))
+
+    def _slot(self, found: Any) -> Slot:
+        is_pair = isinstance(found, list) and len(found) == 2
+        if not is_pair or not all(type(number) is int for number in found):
+            raise Fault(400, "no slot")
+        day, period = found
+        if not (0 <= day < self.instance.days and 0 <= period < self.instance.periods):
+            raise Fault(400, "no slot of this week")
+        return day, period
+
+    def course(self, found: Any) -> str:
+        if not isinstance(found, str) or found not in self.instance.courses:
+            raise Fault(400, "no course of this name")
+        return found
+
+    def lecture(self) -> Optional[Lecture]:
+        """The lecture that was seen; none, if a slot without one was."""
+        found = self.data.get("lecture")
+        if found is None:
+            return None
+        if not isinstance(found, dict):
+            raise Fault(400, "no lecture")
+        room = found.get("room")
+        if not isinstance(room, str) or room not in self.instance.rooms:
+            raise Fault(400, "no room of this name")
+        return Lecture(self.course(found.get("course")), room, *self._slot(found.get("at")))
+
+
+class Turn:
+    """A request at the work of one window. Each act answers what is to be asked then, if anything
+    is."""
+
+    def __init__(self, work: Work, told: Told) -> None:
+        self.work, self.told = work, told
+
+    def show(self) -> None:
+        self.work.show(self.told.view())
+
+    def next_week(self) -> None:
+        self.work.show_next_week(self.told.lecture())
+
+    def pick_up(self) -> Optional[Question]:
+        kind = self.told.data.get("kind")
+        if kind not in (MOVE, SWAP):
+            raise Fault(400, "to move or to swap?")
+        return self.work.pick_up(self.told.lecture(), kind)
+
+    def pick_up_missing(self) -> Optional[Question]:
+        return self.work.pick_up_missing(self.told.course(self.told.data.get("course")))
+
+    def swap_instead(self) -> None:
+        self.work.swap_instead()
+
+    def move_instead(self) -> Optional[Question]:
+        """What is picked up to be swapped is to be moved."""
+        carry = self.work.carry
+        return self.work.pick_up(carry.lecture) if carry and carry.lecture else None
+
+    def put_down(self) -> Optional[Question]:
+        """Puts down what is held, at the price that was shown; without one it stays."""
+        carry, slot = self.work.carry, self.told.slot("to")
+        if carry is None:
+            self.work.notice = say("pick up first")
+            return None
+        if self.told.data.get("price") is None and slot == carry.slot:
+            self.work.lay_down()
+            return None
+        if self.told.data.get("price") is None:
+            return self.work.put_down(slot, None)
+        price, about = self.told.number("price"), self.told.data.get("about")
+        seen = [one for one in carry.at(slot) if (one.price, one.about) == (price, about)]
+        # one that was never offered is refused as one that is offered no more
+        return self.work.put_down(slot, seen[0] if seen else Offer(price, "", str(about)))
+
+    def lay_down(self) -> None:
+        self.work.lay_down()
+
+    def take_out(self) -> Optional[Question]:
+        return self.work.take_out(self.told.lecture())
+
+    def best(self) -> None:
+        if self.work.carry is None:
+            self.work.notice = say("pick up first")
+
+    def missing(self) -> None:
+        self.work.missing()
+
+    def line(self) -> Optional[Question]:
+        """A line of the desk that was typed by hand."""
+        line = self.told.text("line", LINE)
+        if not line:
+            return None
+        if line.split()[0] == "leave":
+            raise Fault(400, "`leave` ends the seat for the day: that is typed at a terminal")
+        self.work.carry = None
+        return self.work.drafting.type_line(line)
+
+    def act(self) -> Optional[Question]:
+        """An action of the draft, by its name."""
+        drafting = self.work.drafting
+        acts: Dict[str, Callable[[], Optional[Question]]] = {
+            "undo": drafting.undo,
+            "edits": drafting.edits,
+            "commit": drafting.commit,
+            "refresh": drafting.refresh,
+            "redo": drafting.redo,
+            "abandon": drafting.ask_abandon,
+        }
+        name = self.told.data.get("name")
+        if not isinstance(name, str) or name not in acts:
+            raise Fault(400, "nothing of this name is done here")
+        if name != "edits":
+            self.work.carry = None
+        return acts[name]()
+
+
+VERBS: Dict[str, Callable[[Turn], Optional[Question]]] = {
+    name: getattr(Turn, name)
+    for name in (
+        "show next_week pick_up pick_up_missing swap_instead move_instead put_down lay_down "
+        "take_out best missing line act"
+    ).split()
+}
+# after these the other windows of the seat may see something else
+CHANGES: List[str] = ["put_down", "take_out", "line", "act", "answer"]

@@ -1,0 +1,107 @@
+"""The windows that listen: what each is to hear, until it has gone."""
+from __future__ import annotations
+
+import asyncio
+import time
+from collections import deque
+from typing import Any, Deque, Dict, List, Optional
+
+from office.web.guard import Fault
+
+# events that may wait for a window, windows of one seat, and the seconds after which one that does
+# not listen is forgotten
+WAIT, MOST, SILENT = 32, 4, 30.0
+Data = Dict[str, Any]
+
+
+class Window:
+    """A window of a browser."""
+
+    def __init__(self, windows: Windows, name: str) -> None:
+        self.windows, self.name = windows, name
+        # what the face of the model keeps for this window
+        self.shown: Any = None
+        self.is_listening = False
+        self.met = time.monotonic()
+        self._events: Deque[Data] = deque()
+        self._woken = asyncio.Event()
+
+    def tell(self, event: Data) -> None:
+        """Tells the window something; one that does not take it begins anew."""
+        if len(self._events) < WAIT:
+            self._events.append(event)
+            self._woken.set()
+        else:
+            self.end()
+
+    async def next_event(self, seconds: float) -> Optional[Data]:
+        """The next event; nothing after so many seconds; None if the window has gone."""
+        if not self._events:
+            try:
+                await asyncio.wait_for(self._woken.wait(), seconds)
+            except asyncio.TimeoutError:
+                return {}
+        self._woken.clear()
+        return self._events.popleft() if self._events else None
+
+    def end(self) -> None:
+        """The window has gone, or listens no more."""
+        self.is_listening = False
+        self._events.clear()
+        self._woken.set()
+        self.windows.forget(self)
+
+
+class Windows:
+    """The windows of a seat, or of the readers."""
+
+    def __init__(self, most: int = MOST) -> None:
+        self.most = most
+        self.by_name: Dict[str, Window] = {}
+        self.gone_since = time.monotonic()
+
+    def meet(self, name: str) -> Window:
+        """A window that begins."""
+        if name not in self.by_name:
+            if len(self.by_name) >= self.most:
+                raise Fault(429, f"{self.most} windows of this link are open: close one of them")
+            self.by_name[name] = Window(self, name)
+        return self.by_name[name]
+
+    def known(self, name: str) -> Window:
+        """A window that has begun here."""
+        if name not in self.by_name:
+            raise Fault(410, "this window is not known here: it begins anew")
+        return self.by_name[name]
+
+    def listen(self, name: str) -> Window:
+        """A window listens; if it did before, that was broken off."""
+        window = self.known(name)
+        if window.is_listening:
+            window.end()
+            new = self.meet(name)
+            window, new.shown = new, window.shown
+        window.is_listening = True
+        return window
+
+    def drop_silent(self) -> None:
+        """Forgets those that were met and do not listen."""
+        for window in self.all():
+            if not window.is_listening and time.monotonic() > window.met + SILENT:
+                self.forget(window)
+
+    def forget(self, window: Window) -> None:
+        if self.by_name.get(window.name) is window:
+            del self.by_name[window.name]
+            self.gone_since = time.monotonic()
+
+    def all(self) -> List[Window]:
+        return list(self.by_name.values())
+
+    def end_all(self) -> None:
+        for window in self.all():
+            window.end()
+
+    def idle_for(self) -> float:
+        """For how many seconds nobody listens here."""
+        return 0.0 if self.by_name else time.monotonic() - self.gone_since
