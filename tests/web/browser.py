@@ -3,6 +3,7 @@ import base64
 import contextlib
 import http.client
 import json
+import os
 import re
 import shutil
 import subprocess
@@ -10,7 +11,7 @@ import time
 
 ELEMENT = "element-6066-11e4-a52e-4f735466cecf"
 # what takes longer hangs
-PATIENCE = 30
+PATIENCE = int(os.environ.get("PATIENCE", "30"))
 KEYS = {
     "Enter": "\ue007",
     "Escape": "\ue00c",
@@ -116,9 +117,7 @@ class Browser:
         )
         if touch:
             self.cdp("Emulation.setTouchEmulationEnabled", enabled=True, maxTouchPoints=5)
-            self.cdp(
-                "Emulation.setEmitTouchEventsForMouse", enabled=False, configuration="desktop"
-            )
+            self.cdp("Emulation.setEmitTouchEventsForMouse", enabled=False, configuration="desktop")
 
     def end(self):
         with contextlib.suppress(DriverFault, OSError):
@@ -250,9 +249,7 @@ class Browser:
         for step in steps:
             if step[0] == "move":
                 (x, y), time_taken = step[1], step[2] if len(step) > 2 else 0
-                actions.append(
-                    {"type": "pointerMove", "x": x, "y": y, "duration": time_taken}
-                )
+                actions.append({"type": "pointerMove", "x": x, "y": y, "duration": time_taken})
             elif step[0] == "wait":
                 actions.append({"type": "pause", "duration": step[1]})
             else:
@@ -291,6 +288,3 @@ class Browser:
         """What the console has as errors or warnings since the last time."""
         lines = self.command("POST", "se/log", {"type": "browser"})
         return [line["message"] for line in lines if line["level"] in ("SEVERE", "WARNING")]
-
-
-

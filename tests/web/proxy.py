@@ -59,7 +59,15 @@ class Proxy:
         self.write(self.text)
         with open(os.path.join(room, "nginx.conf"), "w") as file:
             file.write(MAIN.format(room=room))
-        words = [NGINX, "-p", room, "-c", os.path.join(room, "nginx.conf"), "-e", f"{room}/error.log"]
+        words = [
+            NGINX,
+            "-p",
+            room,
+            "-c",
+            os.path.join(room, "nginx.conf"),
+            "-e",
+            f"{room}/error.log",
+        ]
         # run by root it would serve as another user, who may not reach the folder of a test
         words += ["-g", "user root;"] if os.getuid() == 0 else []
         self.process = subprocess.Popen(words, stderr=subprocess.PIPE)
@@ -89,7 +97,9 @@ class Proxy:
         }[how]
         text = self.text
         if how == "word":
-            text = re.sub(r"auth_basic \"timetabling\";\n +auth_basic_user_file [^;]+;", inside, text)
+            text = re.sub(
+                r"auth_basic \"timetabling\";\n +auth_basic_user_file [^;]+;", inside, text
+            )
         else:
             text = text.replace("location /seats/ {", "location /seats/ {\n" + inside)
         self.write(text)

@@ -36,7 +36,7 @@ def has_tornado():
 
 
 # seconds after which a test is ended
-PATIENCE = 150
+PATIENCE = 5 * int(os.environ.get("PATIENCE", "30"))
 NO_TORNADO = "no Python has tornado, so no seat was served"
 NO_BROWSER = "chromium or chromedriver is not installed, so no page was opened"
 READY = "return performance.getEntriesByName('ready').length > 0"

@@ -71,7 +71,13 @@ class Guarded(Shared):
         self.refused(400, body=b"{}", headers=two)
         self.refused(405, method="GET")
         self.refused(405, path="/api/news")
-        for path in ("/../day.json", "/..%2fday.json", "/static/seat.js", "/web.keys", "/api/hello/"):
+        for path in (
+            "/../day.json",
+            "/..%2fday.json",
+            "/static/seat.js",
+            "/web.keys",
+            "/api/hello/",
+        ):
             self.refused(404, method="GET", path=path)
 
     def test_head(self):

@@ -40,7 +40,9 @@ class Proxied(BrowserTest):
     def through(self, path, who=None, body=None, *more):
         """What is answered through the proxy: status, and the text."""
         context = ssl._create_unverified_context()
-        connection = http.client.HTTPSConnection("localhost", self.port, context=context, timeout=20)
+        connection = http.client.HTTPSConnection(
+            "localhost", self.port, context=context, timeout=20
+        )
         fields = dict([("X-Window", "w1"), ("Content-Type", "application/json"), *more])
         if who:
             word = base64.b64encode(f"{who}:{WORDS[who]}".encode()).decode()

@@ -1,4 +1,4 @@
-"""Begins the server of the seats, with a Python that has tornado; another one may run the office."""
+"""Begins the server of the seats with a Python that has tornado; another may run the office."""
 from __future__ import annotations
 
 import argparse

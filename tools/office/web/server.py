@@ -209,7 +209,9 @@ def base_of(served: Served, end: sockets.socket) -> str:
 
 
 def say_links(day: Day, served: Served, base: str, path: str) -> None:
-    where = f"127.0.0.1, port {base.rsplit(':', 1)[1].rstrip('/')}" if served.port is not None else path
+    where = (
+        f"127.0.0.1, port {base.rsplit(':', 1)[1].rstrip('/')}" if served.port is not None else path
+    )
     print(f"office: the seats of {day.path} are served at {where}")
     if served.port is None and not served.url:
         print(f"  from another machine: ssh -L 8470:{os.path.abspath(path)} HOST")

@@ -170,7 +170,9 @@ class Sitter:
         told = Told(self.frame.instance, data)
         if verb == "about":
             lecture = told.lecture()
-            return {"about": Picture(self.frame, shown.work, {}).about(lecture) if lecture else None}
+            return {
+                "about": Picture(self.frame, shown.work, {}).about(lecture) if lecture else None
+            }
         accepted, cost = len(planning.seat.story.accepted), sum(planning.costs().values())
         planning.notice = planning.alarm = NOTHING
         if verb == "close":
@@ -265,7 +267,11 @@ class Sitter:
         if self.planning is None and not is_locked(self.day.sitter(self.planner)):
             return None
         who = self.frame.wording.safe(name) or f"planner {self.planner}"
-        return {"seat": self.planner, "who": who, "title": f"seat {self.planner}: {who}, since {since[11:16]}"}
+        return {
+            "seat": self.planner,
+            "who": who,
+            "title": f"seat {self.planner}: {who}, since {since[11:16]}",
+        }
 
     async def leave(self) -> None:
         await asyncio.get_running_loop().run_in_executor(self._thread, self._go)
