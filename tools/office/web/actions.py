@@ -16,9 +16,13 @@ KEYS = {
 # what has no key there: one leaves by closing the window
 NONE = ("leave", "last")
 HELP = {
-    "next": "lists the rooms of a slot by price, of a swap the lectures to change places with.",
+    "cheapest": "goes to the slot with the cheapest price.",
+    "history": "lists the drafts that have changed the course at the cursor, or the week if "
+    "nothing stands there; each can be taken back by edits of your draft.",
     "lay down": "leaves a lecture where it was, and goes back from a box.",
-    "pick up": BY_NAME["pick up"].help.replace("Enter again", "Enter again, or a click,"),
+    "missing": "goes to the missing lectures: choose one, and put it down as one that was picked "
+    "up.",
+    "next": "lists the rooms of a slot by price, of a swap the lectures to change places with.",
 }
 BUTTONS = {
     "redo": "Make my edits again",
@@ -27,6 +31,10 @@ BUTTONS = {
     "decline": "Never ask again",
     "give up": "Give them up",
     "commit": "Commit",
+    "make again": "Make my edits again",
+    "take back": "Take it back in my draft",
+    "take over": "Go on with them",
+    "leave to them": "Leave them",
 }
 
 
@@ -35,7 +43,7 @@ class KeyNames(Dict[str, str]):
 
     def __missing__(self, name: str) -> str:
         keys = keys_of(name)
-        return said_key(keys[0]) if keys else name
+        return said_key(keys[0]) if keys else "closing the window"
 
 
 def button(name: str) -> str:

@@ -2,11 +2,11 @@
 of the wording alone."""
 from __future__ import annotations
 
-from typing import Any, Dict, List, Optional
+from typing import Any, Dict, List
 
 from office.carry import SWAP, Carry, Offer
-from office.commit_notes import read_commit_notes
-from office.costs import read_costs
+from office.costs import COSTS, read_costs
+from office.drafting import Box
 from office.instance import Instance
 from office.news import Accepted
 from office.notice import NOTHING, Notice, Question, say
@@ -133,11 +133,10 @@ class Picture:
         }
 
     def alarm(self) -> str:
-        """What is to be known whatever is done."""
-        planning = self.planning
-        fault = planning.seat.log.fault
-        told = say("log fault", fault=fault) if fault else NOTHING
-        return self.wording.notice(planning.alarm or told)
+        """What is to be known whatever is done. How long the office is open a browser counts
+        itself."""
+        urgent = [one for one in self.work.urgent() if one.code != "closing"]
+        return self.wording.notice(urgent[0]) if urgent else ""
 
     def draft(self) -> Data:
         planning, wording = self.planning, self.wording
@@ -283,19 +282,42 @@ def notice_data(wording: Wording, notice: Notice) -> Data:
 
 
 def question_data(wording: Wording, number: int, question: Question) -> Data:
-    """What is to be read or answered, with a button an answer."""
+    """What is to be read, answered or chosen, with a button an answer."""
     return {
         "number": number,
         "title": wording.notice(question.title),
         "lines": [{"code": one.code, "text": wording.notice(one)} for one in question.lines],
         "answers": [{"name": name, "said": button(name)} for name in question.answers],
+        "choices": wording.lines([told for told, _ in question.choices]),
+        "canWait": question.can_wait,
+    }
+
+
+def box_data(wording: Wording, number: int, box: Box) -> Data:
+    """What is to be seen before a commit, with a line for the reason. The costs are a table."""
+    lines = [one for one in box.lines() if one.code != "box change"]
+    before = box.before or None
+    costs = [
+        {"label": part, "was": before[part] if before else None, "now": box.after[part]}
+        for part in COSTS
+    ]
+    was = sum(box.before.values()) if before else None
+    return {
+        "number": number,
+        "title": f"Commit {counted(len(box.edits), 'edit')}?",
+        "lines": [{"code": one.code, "text": wording.notice(one)} for one in lines],
+        "answers": [{"name": "commit", "said": button("commit")}],
+        "choices": [],
+        "canWait": True,
+        "costs": [*costs, {"label": "total", "was": was, "now": sum(box.after.values())}],
+        "why": {"label": "Why? (the others see it; it may stay empty)"},
     }
 
 
 def news_data(planning: Planning, wording: Wording, accepted: Accepted) -> Data:
     """An accepted draft."""
     news, entry = planning.news, accepted.entry
-    note: Optional[Any] = read_commit_notes(planning.seat.day).get(entry.number)
+    told = news.told(accepted)
     who = wording.notice(news.who(accepted))
     edits = [wording.shifts(shifts) for shifts in accepted.shifts]
     slots = {slot for shift in accepted.all() for slot in shift.slots()}
@@ -303,8 +325,8 @@ def news_data(planning: Planning, wording: Wording, accepted: Accepted) -> Data:
         "number": entry.number,
         "seat": entry.planner,
         "who": who,
-        "when": news.told(accepted)[1][11:16],
-        "why": wording.safe(note.why) if note else "",
+        "when": told.time[11:16],
+        "why": wording.safe(told.why),
         "edits": edits,
         "slots": sorted(slots),
         "text": f"{who} committed draft {entry.number}: {'; '.join(edits)}",

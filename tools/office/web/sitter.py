@@ -3,20 +3,19 @@ else. All windows of a seat share its draft."""
 from __future__ import annotations
 
 import asyncio
-import select
 from concurrent.futures import ThreadPoolExecutor
 from typing import Any, Callable, Dict, List, Optional
 
 from office.costs import COSTS
 from office.folder import Day, is_locked
-from office.notice import NOTHING, Question
+from office.notice import NOTHING, Question, say
 from office.planning import Planning
 from office.refused import Refused
 from office.seat import DEAD, DeskEnded, NoAnswer, Seat, read_sitter
 from office.web.actions import key_table
-from office.web.answers import Frame, Picture, news_data, notice_data, question_data
+from office.web.answers import Frame, Picture, box_data, news_data, notice_data, question_data
 from office.web.guard import Fault
-from office.web.verbs import CHANGES, VERBS, Told, Turn
+from office.web.verbs import CHANGES, VERBS, Shown, Told, Turn
 from office.web.windows import Window, Windows
 from office.work import Work
 
@@ -25,28 +24,6 @@ from office.work import Work
 WAIT, IDLE, DRAFTS, NAME = 16, 30.0, 40, 40
 FAREWELL = "The office has closed: what you have committed is on the disk."
 Data = Dict[str, Any]
-
-
-class Shown:
-    """What a window of the seat has: its work, what it is asked, and how many pictures it had."""
-
-    def __init__(self, planning: Planning) -> None:
-        self.planning = planning
-        self.work = Work(planning)
-        self.question: Optional[Question] = None
-        self.asked = 0
-        self.pictures = 0
-
-    def picture(self, frame: Frame, prices: Dict[str, int]) -> Data:
-        self.work.renew()
-        self.pictures += 1
-        return {"number": self.pictures, **Picture(frame, self.work, prices).data()}
-
-    def ask(self, frame: Frame, question: Optional[Question]) -> Optional[Data]:
-        """Keeps what is asked, and answers how it looks."""
-        self.question = question
-        self.asked += 1
-        return question_data(frame.wording, self.asked, question) if question else None
 
 
 class Sitter:
@@ -59,6 +36,8 @@ class Sitter:
         self.name = ""
         # how many accepted drafts the windows have heard of
         self.heard = 0
+        # what is asked of who has sat down, until it is answered in one of his windows
+        self.first: Optional[Question] = None
         # by how much each edit of the draft has changed the cost when it was made
         self.prices: Dict[str, int] = {}
         self._waiting = 0
@@ -70,14 +49,15 @@ class Sitter:
         if verb != "hello" and verb not in ("answer", "close", "about") and verb not in VERBS:
             raise Fault(404, "nothing is here")
         if verb == "hello":
-            found = await self.do(lambda: self._hello(window, data), data)
+            self.loop = asyncio.get_running_loop()
+            found = await self.do(lambda: self._hello(window, data))
         else:
             found = await self.do(lambda: self._turn(window, verb, data))
-        for other, picture in found.pop("others", []):
-            other.tell({"picture": picture})
+        for other, event in found.pop("others", []):
+            other.tell(event)
         return found
 
-    async def do(self, work: Callable[[], Data], hello: Optional[Data] = None) -> Data:
+    async def do(self, work: Callable[[], Data]) -> Data:
         """Does something at the seat, one thing at a time."""
         if self._waiting >= WAIT:
             raise Fault(429, "too many requests wait at this seat")
@@ -116,18 +96,19 @@ class Sitter:
             shown.work.show(told.view())
         if data.get("held") is not None:
             self._hold_again(shown, Told(self.frame.instance, data["held"]))
-        question = shown.question or shown.work.drafting.offer_earlier()
+        if self.first is not None:
+            shown.ask(self.first)
         news = planning.news.accepted[-DRAFTS:]
         return {
             "seat": self.planner,
-            "name": planning.seat.name,
+            "name": self.frame.wording.safe(planning.seat.name),
             "keys": key_table(),
-            "parts": [[part, part] for part in COSTS],
+            "parts": COSTS,
             "farewell": FAREWELL,
             **self.frame.told(),
             "news": [news_data(planning, self.frame.wording, one) for one in news],
-            "picture": shown.picture(self.frame, self.prices),
-            "question": shown.ask(self.frame, question),
+            "picture": self._picture(shown),
+            "question": self._question(shown),
             "notice": self._notice(),
         }
 
@@ -143,12 +124,19 @@ class Sitter:
     def _sit(self, name: str) -> None:
         seat = Seat(self.day, self.planner, name)
         planning = Planning(seat, self.frame.instance)
+        seat.waits = self._tell_waiting
         try:
-            planning.begin()
+            self.first = Work(planning).begin()
         except BaseException:
             seat.go()
             raise
         self.planning, self.name, self.heard = planning, name, len(planning.news.accepted)
+        self.prices.clear()
+
+    def _tell_waiting(self, seconds: float) -> None:
+        """The windows are told that the desk does not answer; this runs in the seat's thread."""
+        told = self.frame.wording.notice(say("no answer yet", seconds=round(seconds)))
+        self.loop.call_soon_threadsafe(self.tell, {"waits": told})
 
     def _go(self) -> None:
         if self.planning is not None:
@@ -170,35 +158,52 @@ class Sitter:
         told = Told(self.frame.instance, data)
         if verb == "about":
             lecture = told.lecture()
-            return {
-                "about": Picture(self.frame, shown.work, {}).about(lecture) if lecture else None
-            }
+            picture = Picture(self.frame, shown.work, self.prices)
+            return {"about": picture.about(lecture) if lecture else None}
         accepted, cost = len(planning.seat.story.accepted), sum(planning.costs().values())
         planning.notice = planning.alarm = NOTHING
-        if verb == "close":
-            question = None
-        elif verb == "answer":
-            question = self._answer(shown, told)
-        else:
-            question = VERBS[verb](Turn(shown.work, told))
+        self._act(shown, verb, told)
+        if shown.work.is_done:
+            self._go()
+            return {"left": True, "others": [(one, {"left": True}) for one in self._others(window)]}
         found = {
             "notice": self._notice(cost),
-            "question": shown.ask(self.frame, question),
-            "picture": shown.picture(self.frame, self.prices),
+            "question": self._question(shown),
+            "picture": self._picture(shown),
         }
         if verb in CHANGES:
             found["others"] = self._pictures(window)
             found["committed"] = len(planning.seat.story.accepted) > accepted
         return found
 
-    def _answer(self, shown: Shown, told: Told) -> Optional[Question]:
-        """The answer to what was asked last; none to what was asked before."""
-        question, name = shown.question, told.data.get("answer")
-        if question is None or told.number("question") != shown.asked:
-            raise Fault(409, "this was asked before: look again")
-        if not isinstance(name, str) or name not in question.answers:
-            raise Fault(400, "no answer to this")
-        return question.answers[name]()
+    def _act(self, shown: Shown, verb: str, told: Told) -> None:
+        """Does what is asked, and keeps what is to be asked then."""
+        if self.first is not None and verb == "answer":
+            self.first = None
+        elif self.first is not None and not self.first.can_wait:
+            raise Fault(409, "first answer what is asked")
+        if verb == "answer":
+            shown.ask(shown.answer(told))
+            return
+        shown.ask(None)
+        if verb != "close":
+            question = VERBS[verb](Turn(shown, told))
+            if question is not None:
+                shown.ask(question)
+
+    def _question(self, shown: Shown) -> Optional[Data]:
+        """What is asked, as it looks."""
+        if shown.box is not None:
+            return box_data(self.frame.wording, shown.asked, shown.box)
+        if shown.question is not None:
+            return question_data(self.frame.wording, shown.asked, shown.question)
+        return None
+
+    def _picture(self, shown: Shown) -> Data:
+        shown.work.renew()
+        shown.pictures += 1
+        data = Picture(self.frame, shown.work, self.prices).data()
+        return {"number": shown.pictures, **data}
 
     def _notice(self, before: Optional[int] = None) -> Data:
         """What there is to say; of an edit that was made also how it has changed the cost."""
@@ -210,13 +215,12 @@ class Sitter:
             self.prices[planning.edits()[-1]] = found["price"]
         return found
 
+    def _others(self, but: Optional[Window] = None) -> List[Window]:
+        return [one for one in self.windows.all() if one is not but and one.is_listening]
+
     def _pictures(self, but: Optional[Window] = None) -> List[Any]:
         """What each other window draws now."""
-        return [
-            (one, self._shown(one).picture(self.frame, self.prices))
-            for one in self.windows.all()
-            if one is not but and one.is_listening
-        ]
+        return [(one, {"picture": self._picture(self._shown(one))}) for one in self._others(but)]
 
     # news
 
@@ -227,28 +231,21 @@ class Sitter:
             return
         if self.windows.idle_for() > IDLE and not self._waiting:
             await self.leave()
-        elif planning.minutes.has_grown() or self._has_said(planning):
+        elif planning.minutes.has_grown() or planning.seat.has_more():
             try:
                 found = await self.do(self._look)
             except Fault as fault:
                 self.tell({"fault": fault.why})
                 self.windows.end_all()
                 return
-            for window, picture in found["others"]:
-                window.tell({"news": found["news"], "picture": picture})
-
-    @staticmethod
-    def _has_said(planning: Planning) -> bool:
-        """Whether the desk says something that nobody has asked, as when it ends."""
-        poll = select.poll()
-        poll.register(planning.seat.answers, select.POLLIN)
-        return bool(poll.poll(0))
+            for window, event in found["others"]:
+                window.tell({"news": found["news"], **event})
 
     def _look(self) -> Data:
         planning = self.planning
         if planning is None:
             return {"others": [], "news": []}
-        if self._has_said(planning):
+        if planning.seat.has_more():
             # nothing was asked: the desk has ended
             planning.seat.read(0)
         planning.tick()

@@ -5,8 +5,10 @@ from __future__ import annotations
 from typing import Any, Callable, Dict, List, Optional
 
 from office.carry import MOVE, SWAP, Offer
+from office.drafting import Box
 from office.instance import Instance
 from office.notice import Question, say
+from office.planning import Planning
 from office.timetable import Lecture, Slot
 from office.web.guard import Fault
 from office.week import KINDS, View
@@ -80,12 +82,47 @@ class Told:
         return Lecture(self.course(found.get("course")), room, *self._slot(found.get("at")))
 
 
+class Shown:
+    """What a window has of a planner's work: a week, what is held, and what is asked."""
+
+    def __init__(self, planning: Planning) -> None:
+        self.planning = planning
+        self.work = Work(planning)
+        # what is asked, or confirmed before a commit, and the number under which it was
+        self.question: Optional[Question] = None
+        self.box: Optional[Box] = None
+        self.asked = 0
+        self.pictures = 0
+
+    def ask(self, question: Optional[Question], box: Optional[Box] = None) -> None:
+        """Keeps what is asked now, or that nothing is."""
+        self.question, self.box = question, box
+        self.asked += 1
+
+    def answer(self, told: Told) -> Optional[Question]:
+        """The answer to what is asked now; none to what was asked before."""
+        name = told.data.get("answer")
+        question, box = self.question, self.box
+        if told.number("question") != self.asked or (question is None and box is None):
+            raise Fault(409, "this was asked before: look again")
+        self.ask(None)
+        if box is not None and name == "commit":
+            return self.work.drafting.commit(box.edits, told.text("why", WHY))
+        if question is not None and isinstance(name, str) and name in question.answers:
+            return question.answers[name]()
+        choice = told.data.get("choice")
+        if question is not None and type(choice) is int and 0 <= choice < len(question.choices):
+            return question.choices[choice][1]()
+        self.ask(question, box)
+        raise Fault(400, "no answer to this")
+
+
 class Turn:
     """A request at the work of one window. Each act answers what is to be asked then, if anything
     is."""
 
-    def __init__(self, work: Work, told: Told) -> None:
-        self.work, self.told = work, told
+    def __init__(self, shown: Shown, told: Told) -> None:
+        self.shown, self.work, self.told = shown, shown.work, told
 
     def show(self) -> None:
         self.work.show(self.told.view())
@@ -154,8 +191,9 @@ class Turn:
         drafting = self.work.drafting
         acts: Dict[str, Callable[[], Optional[Question]]] = {
             "undo": drafting.undo,
+            "history": lambda: self.work.drafts_of(self.told.lecture()),
             "edits": drafting.edits,
-            "commit": drafting.commit,
+            "commit": self.show_box,
             "refresh": drafting.refresh,
             "redo": drafting.redo,
             "abandon": drafting.ask_abandon,
@@ -163,9 +201,13 @@ class Turn:
         name = self.told.data.get("name")
         if not isinstance(name, str) or name not in acts:
             raise Fault(400, "nothing of this name is done here")
-        if name != "edits":
+        if name not in ("edits", "history"):
             self.work.carry = None
         return acts[name]()
+
+    def show_box(self) -> None:
+        """Shows what a commit would publish, if there is anything to commit."""
+        self.shown.ask(None, self.work.drafting.box())
 
 
 VERBS: Dict[str, Callable[[Turn], Optional[Question]]] = {

@@ -160,7 +160,7 @@ class Acts {
       next: () => this.rooms(slot, lecture),
       "lay down": () => this.layDown(),
     }[name];
-    return this.queue(own || (() => this.turn("act", { name })));
+    return this.queue(own || (() => this.turn("act", { name, lecture })));
   }
 }
 

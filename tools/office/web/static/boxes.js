@@ -52,7 +52,9 @@ export function askName({ seat, last }) {
       done(given);
     };
     const more = { maxlength: "40", value: last, autofocus: true, autocomplete: "name" };
-    const told = `This link is seat ${seat} of the day. Your name is shown to the other planners, and is in the log.`;
+    const told =
+      `This link is seat ${seat} of the day. ` +
+      "Your name is shown to the other planners, and is in the log.";
     open(
       "Who sits down?",
       [
@@ -84,10 +86,9 @@ export function askLine(send) {
 }
 
 // lines of a question by what they are: titles, edits, and what else is told
-function linePart({ code, text, price }) {
+function linePart({ code, text }) {
   if (!text) return null;
-  const delta = price === undefined ? null : el("span", { cls: `delta ${kindOf(price)}` }, signed(price));
-  return el("p", { cls: `line-${code.replace(/ /g, "-")}` }, name(text.trim()), delta);
+  return el("p", { cls: `line-${code.replace(/ /g, "-")}` }, name(text.trim()));
 }
 
 function costTable(costs) {
@@ -116,38 +117,72 @@ function costTable(costs) {
   );
 }
 
-// a question of the office: title, lines, perhaps costs and a line to type, and a button an answer
+// what can be chosen from, which narrows as one types
+function choiceList(choices, choose) {
+  const items = choices.map((text, at) => ({
+    text: text.toLowerCase(),
+    item: el("li", {}, button(`choice-${at}`, name(text), () => choose(at), { cls: "choice" })),
+  }));
+  const list = el("ul", { cls: "choices" }, items.map((one) => one.item));
+  const label = "Letters narrow the list";
+  const input = el("input", { type: "text", autofocus: true, "aria-label": label });
+  input.addEventListener("input", () => {
+    const words = input.value.toLowerCase().split(/\s+/);
+    for (const { text, item } of items) item.hidden = !words.every((word) => text.includes(word));
+  });
+  const shown = () => [...list.querySelectorAll("li:not([hidden]) button")];
+  const walk = (event) => {
+    const all = [input, ...shown()];
+    const at = all.indexOf(document.activeElement);
+    const step = { ArrowDown: 1, ArrowUp: -1 }[event.key];
+    if (step) all[Math.max(0, Math.min(all.length - 1, at + step))].focus();
+    else if (event.key === "Enter" && at === 0) shown()[0]?.click();
+    else return;
+    event.preventDefault();
+  };
+  return el("div", { on: { keydown: walk } }, choices.length > 6 ? input : null, list);
+}
+
+// a question of the office: its title and lines, perhaps costs, a list, a line to type, and a
+// button an answer
 export function ask(question, acts) {
-  const { number: id, title, lines, answers, costs, why } = question;
+  const { number: id, title, lines, answers, choices, costs, why, canWait } = question;
   const back = () => {
     close();
     acts.closeQuestion(id);
   };
   const typed = () => (why ? { why: find("why").value.trim() } : {});
-  const go = (name) => () => acts.answer(id, name, typed());
+  const go = (answer) => () => acts.answer(id, answer, typed());
+  const choose = (choice) => acts.answer(id, null, { choice });
   const first = answers.length ? go(answers[0].name) : back;
+  const isRead = !answers.length && !choices.length;
   const made = answers.map((one, at) =>
     button(one.name, one.said, go(one.name), {
       cls: at === 0 ? "primary" : "",
       autofocus: at === 0 && !why,
     })
   );
-  const shown = lines.map(linePart);
-  const more = { maxlength: "200", placeholder: why?.hint, autofocus: true };
+  const shown = el("div", { cls: "lines" }, lines.map(linePart));
+  const backButton = button("back", isRead ? "Go on" : "Back", back, { autofocus: isRead });
   open(
     title,
     [
-      costs
-        ? el("div", { cls: "two" }, el("div", { cls: "lines" }, shown), costTable(costs))
-        : el("div", { cls: "lines" }, shown),
-      ...(why ? field("why", why.label, more, first) : []),
-      buttons(
-        button("back", answers.length ? "Back" : "Go on", back, { autofocus: !answers.length }),
-        made.reverse()
-      ),
+      costs ? el("div", { cls: "two" }, shown, costTable(costs)) : shown,
+      el("p", { id: "foretold", cls: "warn", hidden: true }),
+      choices.length ? choiceList(choices, choose) : null,
+      ...(why ? field("why", why.label, { maxlength: "200", autofocus: true }, first) : []),
+      buttons(canWait ? backButton : null, made.reverse()),
     ],
-    { cancel: back }
+    { cancel: canWait ? back : null }
   );
+}
+
+// what has become of the draft while its box is in front
+export function foretell(text) {
+  const line = document.getElementById("foretold");
+  if (!line) return;
+  line.hidden = !text;
+  line.replaceChildren(name(text));
 }
 
 // each key in a sentence, and the signs

@@ -6,7 +6,8 @@ import { keyOf } from "./numbers.js";
 const NEAR = 6;
 
 class Hand {
-  // acts: pickUp(slot) and place(course) answer a promise; drop(slot), layDown(), hover(slot), told(slot)
+  // acts: pickUp(slot) and place(course), which answer a promise, drop(slot), layDown(),
+  // hover(slot), told(slot)
   constructor(week, acts) {
     Object.assign(this, { week, acts, pressed: null, ghost: null, over: null });
   }

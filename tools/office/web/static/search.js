@@ -15,7 +15,8 @@ export function makeSearch(named, choose, back) {
 
   function matches() {
     const words = input.value.toLowerCase().split(/\s+/).filter(Boolean);
-    const has = (one) => words.every((word) => one.text.includes(word) || one.kind.startsWith(word));
+    const isIn = (one, word) => one.text.includes(word) || one.kind.startsWith(word);
+    const has = (one) => words.every((word) => isIn(one, word));
     const begins = (one) =>
       words.some((word) => one.text.startsWith(word) || one.code.toLowerCase().startsWith(word));
     const hits = all.filter(has);

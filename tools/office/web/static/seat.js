@@ -29,8 +29,11 @@ const app = {
   recent: new Map(),
   closes: null,
   isOver: false,
+  // why nothing can be done now
   lost: "",
+  waits: "",
 };
+const LEFT = "You have left the seat: load this page anew to sit down.";
 let week = null;
 let acts = null;
 let look = null;
@@ -54,7 +57,14 @@ function drawState() {
 }
 
 function drawBanner() {
-  banner(app.lost || closing() || app.picture?.state.alarm || "");
+  banner(app.lost || app.waits || closing() || app.picture?.state.alarm || "");
+}
+
+function leave() {
+  app.isOver = true;
+  app.day.farewell = LEFT;
+  boxes.close();
+  drawBanner();
 }
 
 function closing() {
@@ -66,12 +76,15 @@ function closing() {
 
 // takes up what the office tells; what is older than what is seen is left
 function take(found) {
+  if (found.left) leave();
   if (found.picture && found.picture.number >= (app.picture?.number ?? 0)) {
     app.picture = found.picture;
     sessionStorage.setItem(VIEW, JSON.stringify(app.picture.week.view));
+    app.waits = "";
     drawWeek();
     drawState();
     look.choose();
+    boxes.foretell(app.picture.state.draft?.foretold || "");
   }
   if (found.question !== undefined) {
     app.question = found.question;
@@ -111,7 +124,9 @@ function queue(act) {
 function hear(event) {
   if (event.people) side.drawPeople(event.people, app.day);
   if (event.closes !== undefined) app.closes = event.closes;
+  if (event.waits) app.waits = event.waits;
   if (event.over) app.isOver = true;
+  if (event.left) leave();
   if (event.news) event.news.forEach(tellNews);
   if (event.picture) take(event);
   if (event.news) side.drawNews(app);

@@ -17,16 +17,17 @@ export function drawCosts({ picture, day }) {
   const all = Object.values(costs);
   const base = draft?.base || null;
   const saved = draft && draft.base_total !== null ? sum(all) - draft.base_total : 0;
-  const parts = day.parts.map(([part, label]) =>
+  const parts = day.parts.map((part) =>
     el(
       "div",
       { cls: "part" },
-      el("span", { cls: "label" }, label),
+      el("span", { cls: "label" }, part),
       el("span", { cls: "value" }, number(costs[part] ?? 0)),
       base ? delta((costs[part] ?? 0) - base[part]) : null
     )
   );
-  const total = [el("span", { cls: "label" }, "Cost"), el("span", { cls: "value" }, number(sum(all)))];
+  const value = el("span", { cls: "value" }, number(sum(all)));
+  const total = [el("span", { cls: "label" }, "Cost"), value];
   const count = sum(missing.map((one) => one.count));
   refill(
     find("costs"),
