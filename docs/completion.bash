@@ -124,6 +124,7 @@ _office_folders() {
 # Completes a word of office.
 _office() {
     local typed=${COMP_WORDS[COMP_CWORD]} word option='' given=' ' command='' day='' place=0 options=''
+    local places='--login-header --logins --port --socket --url'
     COMPREPLY=()
     for word in "${COMP_WORDS[@]:1:COMP_CWORD-1}"; do
         if [[ $word == = ]]; then
@@ -132,7 +133,7 @@ _office() {
             option=
         elif [[ $word == --* || $word == -o ]]; then
             given+="$word "
-            [[ $word =~ ^--(help|json|plain|unproved)$ ]] || option=$word
+            [[ $word =~ ^--(help|json|links|plain|unproved|web)$ ]] || option=$word
         elif [[ -z $command ]]; then
             command=$word
         else
@@ -143,7 +144,8 @@ _office() {
     [[ $typed != = ]] || typed=
     case $command in
     '') options='--unproved' ;;
-    open) options='--after --barred --instance --labels --planners --start' ;;
+    open) options="--after --barred --instance --labels --planners --start --web $places" ;;
+    web) options="--links --new-key $places" ;;
     sit) options='--name --plain' ;;
     close) options='--wait' ;;
     show) options='--at' ;;
@@ -164,12 +166,12 @@ _office() {
     *:--labels | *:--output | *:-o | import:0) _office_folders "$typed" ;;
     *:--start) _timedesk_files "$typed" .sol ;;
     *:--instance | open:1) _timedesk_files "$typed" .ctt ;;
-    *:--barred) _timedesk_files "$typed" '' ;;
+    *:--barred | *:--logins | *:--socket) _timedesk_files "$typed" '' ;;
     diff:--course | diff:--curriculum | diff:--room | diff:--teacher)
         _timedesk_names "$typed" "$option" "${day%:*}/instance.ctt"
         ;;
     *:--*) ;;
-    :0) _timedesk_words "$typed" close diff export import log open revert show sit status ;;
+    :0) _timedesk_words "$typed" close diff export import log open revert show sit status web ;;
     *:0 | diff:1) _office_days "$typed" ;;
     log:1)
         for option in --course --curriculum --room --teacher; do

@@ -127,7 +127,7 @@ offers '' timedesk week cut.ctt monday.sol --curriculum ''
 mkdir monday tuesday
 touch monday/day.json
 cp small.ctt monday/instance.ctt
-offers $'close\ndiff\nexport\nimport\nlog\nopen\nrevert\nshow\nsit\nstatus' office ''
+offers $'close\ndiff\nexport\nimport\nlog\nopen\nrevert\nshow\nsit\nstatus\nweb' office ''
 offers $'show\nsit\nstatus' ./office s
 offers $'open' office --unproved o
 offers $'--help\n--unproved' office -
@@ -142,7 +142,9 @@ offers $'small.ctt' office open wednesday s
 offers $'monday' office open wednesday --after ''
 offers $'small.ctt' office open wednesday --after monday --instance s
 offers $'monday\nmonday.sol' office open wednesday small.ctt 2 --start m
-offers $'--after\n--barred\n--help\n--instance\n--labels\n--planners\n--start' office open wednesday -
+offers $'--after\n--barred\n--help\n--instance\n--labels\n--login-header\n--logins\n--planners\n--port\n--socket\n--start\n--url\n--web' office open wednesday -
+offers $'monday' office web ''
+offers $'--links\n--login-header\n--logins' office web monday --l
 offers $'monday' office open wednesday small.ctt 2 --labels m
 offers $'monday' office import m
 offers $'new' office import monday -o n
@@ -167,7 +169,7 @@ office=$here/office
 commands=$("$office" --help | sed -n 's/^    \([a-z][a-z]*\)  .*/\1/p')
 offers "$commands" office ''
 for command in $commands; do
-    options=$("$office" "$command" --help | sed -n '/^option/,$s/^  \(-[a-z][ A-Z]*, \)\?\(--[a-z]*\).*/\2/p')
+    options=$("$office" "$command" --help | sed -n '/^option/,$s/^  \(-[a-z][ A-Z]*, \)\?\(--[a-z-]*\).*/\2/p')
     offers "$options" office "$command" monday --
 done
 

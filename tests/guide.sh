@@ -86,8 +86,8 @@ sed -n 's/^\.B office //p' "$page" | sort -u >"$room/wanted"
 equals 'the commands of office in the man page' "$room/found" "$room/wanted"
 mapfile -t names <"$room/found"
 for name in "${names[@]}"; do
-    sed -n "0,/^\.SH DESC/{/^\.B office $name\$/,/^\.\(br\|SH\)/p}" "$page" | sed 's,\\,,g' | grep -o -e '--[a-z]*' | sort >"$room/wanted"
-    "$here/office" "$name" --help | sed -n '/^option/,${/--help/d;s/^  \(-.*, \)\?\(--[a-z]*\).*/\2/p}' | sort >"$room/found"
+    sed -n "0,/^\.SH DESC/{/^\.B office $name\$/,/^\.\(br\|SH\)/p}" "$page" | sed 's,\\,,g' | grep -o -e '--[a-z-]*' | sort >"$room/wanted"
+    "$here/office" "$name" --help | sed -n '/^option/,${/--help/d;s/^  \(-.*, \)\?\(--[a-z-]*\).*/\2/p}' | sort >"$room/found"
     equals "the options of office $name" "$room/found" "$room/wanted"
 done
 
