@@ -101,7 +101,7 @@ impl AskedCalls {
 
     /// Returns the list itself. Takes no memory.
     pub fn into_vec(self) -> Vec<Asked>
-        ensures { result.items ≡ self.entry }
+        ensures { result.items ≡ self }
     {
         let AskedCalls { list } = self;
         list

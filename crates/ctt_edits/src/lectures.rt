@@ -43,7 +43,7 @@ impl Lectures {
 
     /// Returns the list itself. Takes no memory.
     pub fn into_vec(self) -> Vec<Placed>
-        ensures { result.items ≡ self.entry }
+        ensures { result.items ≡ self }
     {
         let Lectures { list } = self;
         list

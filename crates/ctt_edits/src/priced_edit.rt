@@ -90,7 +90,7 @@ impl PricedEdits {
 
     /// Returns the list itself. Takes no memory.
     pub fn into_vec(self) -> Vec<PricedEdit>
-        ensures { result.items ≡ self.entry }
+        ensures { result.items ≡ self }
     {
         let PricedEdits { list } = self;
         list

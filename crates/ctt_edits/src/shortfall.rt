@@ -63,7 +63,7 @@ impl Shortfalls {
 
     /// Returns the list itself. Takes no memory.
     pub fn into_vec(self) -> Vec<Shortfall>
-        ensures { result.items ≡ self.entry }
+        ensures { result.items ≡ self }
     {
         let Shortfalls { list } = self;
         list
