@@ -35,6 +35,9 @@ BUTTONS = {
     "take back": "Take it back in my draft",
     "take over": "Go on with them",
     "leave to them": "Leave them",
+    "pin": "Pin it",
+    "go on": "Go on all the same",
+    "unpin": "Take the pin off",
 }
 
 

@@ -2,18 +2,19 @@
 of the wording alone."""
 from __future__ import annotations
 
-from typing import Any, Dict, List
+from typing import Any, Dict, List, Optional
 
 from office.carry import SWAP, Carry, Offer
 from office.costs import COSTS, read_costs
 from office.drafting import Box
 from office.instance import Instance
 from office.news import Accepted
-from office.notice import NOTHING, Notice, Question, say
+from office.notice import NOTHING, Notice, say
 from office.planning import Planning
 from office.text import counted, shown
 from office.timetable import Lecture, Slot
 from office.web.actions import button
+from office.web.verbs import Shown
 from office.week import Cell, View, by_slot, courses_of_view, of_view, weeks_of
 from office.wording import Wording
 from office.work import Work
@@ -140,7 +141,7 @@ class Picture:
 
     def draft(self) -> Data:
         planning, wording = self.planning, self.wording
-        foretold = say("stale by now", row=planning.foretold) if planning.foretold else NOTHING
+        foretold = say("box stale", row=planning.foretold) if planning.foretold else NOTHING
         return {
             "edits": [
                 {"text": wording.shifts(shifts), "price": self.prices.get(edit)}
@@ -177,6 +178,7 @@ class Picture:
             "title": self.wording.name(*view),
             "about": self.frame.about(view),
             "missing": f"{counted(count, 'lecture')} missing" if count else "",
+            "working": [self.wording.safe(name) for name in self.work.knowing.names_at_work(view)],
             "cells": told,
         }
 
@@ -201,6 +203,8 @@ class Picture:
             "now": [brief(one) for one in newest] if cell.is_others else [],
             "closed": cell.is_closed,
             "gone": [brief(one) for one in gone] if cell.is_mine else [],
+            "working": sorted({self.wording.safe(one.name) for one in cell.at_work}),
+            "pinned": bool(cell.pins),
         }
 
     def gone(self) -> Dict[Slot, List[Lecture]]:
@@ -237,13 +241,14 @@ class Picture:
         short = instance.courses[lecture.course].students - seats
         lacking = f", {counted(short, 'student')} without one" if short > 0 else ""
         room = f"room {wording.room(lecture.room)}, {counted(seats, 'seat')}{lacking}"
-        changed = self.work.changed_here(lecture.slot)
+        cell = self.work.cells()[lecture.slot]
+        changed = self.work.changed_here(lecture.slot) if cell.is_others else None
+        told = [*([changed] if changed else []), *self.work.knowing.told_of(cell)]
         return {
             "course": lecture.course,
             "said": wording.course(lecture.course),
             "where": wording.slot(lecture.slot),
-            "lines": [room, *self.course_lines(lecture.course)]
-            + ([wording.notice(changed)] if changed else []),
+            "lines": [room, *self.course_lines(lecture.course), *wording.lines(told)],
             "weeks": [[view, wording.short(*view)] for view in weeks_of(instance, lecture)],
         }
 
@@ -281,37 +286,38 @@ def notice_data(wording: Wording, notice: Notice) -> Data:
     return {"code": notice.code, "text": wording.notice(notice), "isBad": notice.is_bad}
 
 
-def question_data(wording: Wording, number: int, question: Question) -> Data:
-    """What is to be read, answered or chosen, with a button an answer."""
-    return {
-        "number": number,
+def question_data(wording: Wording, shown: Shown) -> Optional[Data]:
+    """What is to be read, answered, chosen or typed, with a button an answer."""
+    question, line = shown.question, shown.line
+    if question is None:
+        return None
+    lines = [one for one in question.lines if one.code != "box change"]
+    answers = [*question.answers, *([line.answer] if line else [])]
+    found: Data = {
+        "number": shown.asked,
         "title": wording.notice(question.title),
-        "lines": [{"code": one.code, "text": wording.notice(one)} for one in question.lines],
-        "answers": [{"name": name, "said": button(name)} for name in question.answers],
+        "lines": [{"code": one.code, "text": wording.notice(one)} for one in lines],
+        "answers": [{"name": name, "said": button(name)} for name in answers],
         "choices": wording.lines([told for told, _ in question.choices]),
         "canWait": question.can_wait,
     }
+    if line is not None:
+        found["why"] = {"label": line.label}
+    if line is not None and line.box is not None:
+        found["title"] = f"Commit {counted(len(line.box.edits), 'edit')}?"
+        found["costs"] = cost_rows(line.box)
+    return found
 
 
-def box_data(wording: Wording, number: int, box: Box) -> Data:
-    """What is to be seen before a commit, with a line for the reason. The costs are a table."""
-    lines = [one for one in box.lines() if one.code != "box change"]
+def cost_rows(box: Box) -> List[Data]:
+    """The costs before and after a commit, part by part, and their sums."""
     before = box.before or None
-    costs = [
+    rows = [
         {"label": part, "was": before[part] if before else None, "now": box.after[part]}
         for part in COSTS
     ]
-    was = sum(box.before.values()) if before else None
-    return {
-        "number": number,
-        "title": f"Commit {counted(len(box.edits), 'edit')}?",
-        "lines": [{"code": one.code, "text": wording.notice(one)} for one in lines],
-        "answers": [{"name": "commit", "said": button("commit")}],
-        "choices": [],
-        "canWait": True,
-        "costs": [*costs, {"label": "total", "was": was, "now": sum(box.after.values())}],
-        "why": {"label": "Why? (the others see it; it may stay empty)"},
-    }
+    was = sum(before.values()) if before else None
+    return [*rows, {"label": "total", "was": was, "now": sum(box.after.values())}]
 
 
 def news_data(planning: Planning, wording: Wording, accepted: Accepted) -> Data:

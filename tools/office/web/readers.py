@@ -59,7 +59,7 @@ class Readers:
         self.pictures += 1
         closed = self.instance.closed[view.name] if view.kind == "course" else set()
         lectures = by_slot(of_view(self.timetable, view))
-        blank: Data = {"mine": False, "others": [], "now": [], "gone": []}
+        blank: Data = {"mine": False, "others": [], "now": [], "gone": [], "working": []}
         cells = [
             {
                 "at": slot,

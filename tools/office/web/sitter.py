@@ -13,7 +13,7 @@ from office.planning import Planning
 from office.refused import Refused
 from office.seat import DEAD, DeskEnded, NoAnswer, Seat, read_sitter
 from office.web.actions import key_table
-from office.web.answers import Frame, Picture, box_data, news_data, notice_data, question_data
+from office.web.answers import Frame, Picture, news_data, notice_data, question_data
 from office.web.guard import Fault
 from office.web.verbs import CHANGES, VERBS, Shown, Told, Turn
 from office.web.windows import Window, Windows
@@ -108,7 +108,7 @@ class Sitter:
             **self.frame.told(),
             "news": [news_data(planning, self.frame.wording, one) for one in news],
             "picture": self._picture(shown),
-            "question": self._question(shown),
+            "question": question_data(self.frame.wording, shown),
             "notice": self._notice(),
         }
 
@@ -168,7 +168,7 @@ class Sitter:
             return {"left": True, "others": [(one, {"left": True}) for one in self._others(window)]}
         found = {
             "notice": self._notice(cost),
-            "question": self._question(shown),
+            "question": question_data(self.frame.wording, shown),
             "picture": self._picture(shown),
         }
         if verb in CHANGES:
@@ -190,14 +190,6 @@ class Sitter:
             question = VERBS[verb](Turn(shown, told))
             if question is not None:
                 shown.ask(question)
-
-    def _question(self, shown: Shown) -> Optional[Data]:
-        """What is asked, as it looks."""
-        if shown.box is not None:
-            return box_data(self.frame.wording, shown.asked, shown.box)
-        if shown.question is not None:
-            return question_data(self.frame.wording, shown.asked, shown.question)
-        return None
 
     def _picture(self, shown: Shown) -> Data:
         shown.work.renew()
@@ -226,12 +218,11 @@ class Sitter:
 
     async def look(self) -> None:
         """Looks for drafts that were accepted since, if somebody sits here."""
-        planning = self.planning
-        if planning is None:
+        if self.planning is None or self._waiting:
             return
-        if self.windows.idle_for() > IDLE and not self._waiting:
+        if self.windows.idle_for() > IDLE:
             await self.leave()
-        elif planning.minutes.has_grown() or planning.seat.has_more():
+        else:
             try:
                 found = await self.do(self._look)
             except Fault as fault:
@@ -248,11 +239,11 @@ class Sitter:
         if planning.seat.has_more():
             # nothing was asked: the desk has ended
             planning.seat.read(0)
-        planning.tick()
+        is_new = planning.tick()
         new = planning.news.accepted[self.heard :]
         self.heard += len(new)
         news = [news_data(planning, self.frame.wording, one) for one in new]
-        return {"news": news, "others": self._pictures() if new else []}
+        return {"news": news, "others": self._pictures() if new or is_new else []}
 
     def tell(self, event: Data) -> None:
         for window in self.windows.all():

@@ -2,7 +2,8 @@
 that it has seen; edits are made of them here, of known names and ranges alone."""
 from __future__ import annotations
 
-from typing import Any, Callable, Dict, List, Optional
+from functools import partial
+from typing import Any, Callable, Dict, List, NamedTuple, Optional
 
 from office.carry import MOVE, SWAP, Offer
 from office.drafting import Box
@@ -82,39 +83,50 @@ class Told:
         return Lecture(self.course(found.get("course")), room, *self._slot(found.get("at")))
 
 
+class Line(NamedTuple):
+    """A line that is to be typed for a question: what it is called, the answer with which it goes,
+    and what is done with it. What is confirmed before a commit is a box."""
+
+    label: str
+    answer: str
+    take: Callable[[str], Optional[Question]]
+    box: Optional[Box] = None
+
+
 class Shown:
     """What a window has of a planner's work: a week, what is held, and what is asked."""
 
     def __init__(self, planning: Planning) -> None:
         self.planning = planning
         self.work = Work(planning)
-        # what is asked, or confirmed before a commit, and the number under which it was
+        # what is asked, and what is to be typed for it, and the number under which it is
         self.question: Optional[Question] = None
-        self.box: Optional[Box] = None
+        self.line: Optional[Line] = None
         self.asked = 0
         self.pictures = 0
 
-    def ask(self, question: Optional[Question], box: Optional[Box] = None) -> None:
+    def ask(self, question: Optional[Question], line: Optional[Line] = None) -> None:
         """Keeps what is asked now, or that nothing is."""
-        self.question, self.box = question, box
+        self.question, self.line = question, line
         self.asked += 1
 
     def answer(self, told: Told) -> Optional[Question]:
         """The answer to what is asked now; none to what was asked before."""
-        name = told.data.get("answer")
-        question, box = self.question, self.box
-        if told.number("question") != self.asked or (question is None and box is None):
+        question, line, name = self.question, self.line, told.data.get("answer")
+        if question is None or told.number("question") != self.asked:
             raise Fault(409, "this was asked before: look again")
-        self.ask(None)
-        if box is not None and name == "commit":
-            return self.work.drafting.commit(box.edits, told.text("why", WHY))
-        if question is not None and isinstance(name, str) and name in question.answers:
-            return question.answers[name]()
         choice = told.data.get("choice")
-        if question is not None and type(choice) is int and 0 <= choice < len(question.choices):
-            return question.choices[choice][1]()
-        self.ask(question, box)
-        raise Fault(400, "no answer to this")
+        if line is not None and name == line.answer:
+            why = told.text("why", WHY)
+            act: Callable[[], Optional[Question]] = partial(line.take, why)
+        elif isinstance(name, str) and name in question.answers:
+            act = question.answers[name]
+        elif type(choice) is int and 0 <= choice < len(question.choices):
+            act = question.choices[choice][1]
+        else:
+            raise Fault(400, "no answer to this")
+        self.ask(None)
+        return act()
 
 
 class Turn:
@@ -192,6 +204,8 @@ class Turn:
         acts: Dict[str, Callable[[], Optional[Question]]] = {
             "undo": drafting.undo,
             "history": lambda: self.work.drafts_of(self.told.lecture()),
+            "pin": self.pin,
+            "who": self.work.knowing.who_is_where,
             "edits": drafting.edits,
             "commit": self.show_box,
             "refresh": drafting.refresh,
@@ -201,13 +215,36 @@ class Turn:
         name = self.told.data.get("name")
         if not isinstance(name, str) or name not in acts:
             raise Fault(400, "nothing of this name is done here")
-        if name not in ("edits", "history"):
+        if name not in ("edits", "history", "pin", "who"):
             self.work.carry = None
         return acts[name]()
 
     def show_box(self) -> None:
         """Shows what a commit would publish, if there is anything to commit."""
-        self.shown.ask(None, self.work.drafting.box())
+        drafting = self.work.drafting
+        box = drafting.box()
+        if box is not None:
+            label = "Why? (the others see it; it may stay empty)"
+            edits = box.edits
+            line = Line(label, "commit", lambda why: drafting.commit(edits, why), box)
+            self.shown.ask(Question(say("blank"), box.lines()), line)
+
+    def pin(self) -> Optional[Question]:
+        """Pins a lecture that was seen, or takes its pin off."""
+        lecture, knowing = self.told.lecture(), self.work.knowing
+        if lecture is None or not knowing.can_pin(lecture):
+            knowing.can_pin(lecture)
+            return None
+        question = knowing.ask_unpin(lecture)
+        if question is None:
+            pinned = lecture
+
+            def take(why: str) -> None:
+                knowing.pin(pinned, why)
+
+            title = say("edit words", shifts=[Shift(lecture, lecture)])
+            self.shown.ask(Question(title), Line("Why is it pinned?", "pin", take))
+        return question
 
 
 VERBS: Dict[str, Callable[[Turn], Optional[Question]]] = {

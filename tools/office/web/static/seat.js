@@ -45,7 +45,9 @@ function drawWeek() {
   week.draw(told, held, app.recent);
   fill(find("week-title"), el("span", { cls: "kind" }, told.view[0]), name(told.title));
   const missing = told.missing ? el("span", { cls: "pill bad" }, told.missing) : null;
-  fill(find("week-about"), name(told.about), missing);
+  const names = told.working.join(", ");
+  const working = names ? el("span", { cls: "pill" }, "at work on it: ", name(names)) : null;
+  fill(find("week-about"), name(told.about), missing, working);
   look.drawTray();
 }
 
@@ -124,6 +126,7 @@ function queue(act) {
 function hear(event) {
   if (event.people) side.drawPeople(event.people, app.day);
   if (event.closes !== undefined) app.closes = event.closes;
+  if (event.fault) app.lost = event.fault;
   if (event.waits) app.waits = event.waits;
   if (event.over) app.isOver = true;
   if (event.left) leave();

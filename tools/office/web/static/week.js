@@ -4,7 +4,7 @@ import { el, find, name } from "./dom.js";
 import { heldParts, heldSaid } from "./held.js";
 import { keyOf, same } from "./numbers.js";
 
-const EMPTY = { lectures: [], others: [], gone: [], now: [] };
+const EMPTY = { lectures: [], others: [], gone: [], now: [], working: [] };
 
 export class Week {
   // slots: for each day what each of its periods is called
@@ -103,6 +103,7 @@ export class Week {
         ? heldParts(cell, one, held, offers.get(key), week.view)
         : this.freeParts(one, week.view);
       if (who) parts.push(el("span", { cls: "who" }, name(who)));
+      if (!held) parts.push(...courtesies(one));
       cell.replaceChildren(...parts);
       cell.setAttribute("aria-label", this.label(slot, one, held && offers.get(key), held, who));
     }
@@ -128,6 +129,19 @@ export class Week {
     parts.push(one.lectures.map(cardSaid).join("; ") || empty);
     if (one.mine) parts.push("changed in your draft");
     if (who) parts.push(`changed by ${who}`);
+    if (one.pinned) parts.push("pinned");
+    if (one.working.length) parts.push(`${one.working.join(", ")} works on it`);
     return parts.join(". ");
   }
+}
+
+// who works on what stands in a slot, and whether it is pinned
+function courtesies(one) {
+  const found = [];
+  if (one.pinned) found.push(el("span", { cls: "note", title: "pinned" }, "pin"));
+  for (const who of one.working) {
+    const title = `${who} has a draft open on it`;
+    found.push(el("span", { cls: "note", title }, "@", name(who)));
+  }
+  return found.length ? [el("div", { cls: "notes" }, found)] : [];
 }

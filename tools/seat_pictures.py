@@ -1,0 +1,88 @@
+#!/usr/bin/env python3
+"""Makes the pictures of a seat in a browser that the documents have, from a day that is planned by
+two browsers: docs/web-held.png, docs/web-draft.png and docs/web-commit.png. It needs Chromium and
+its driver.
+
+PROGRAM names another program than the one that was built.
+"""
+import os
+import sys
+
+HERE = os.path.dirname(os.path.dirname(os.path.abspath(__file__)))
+sys.path[:0] = [os.path.join(HERE, "tests", "web"), os.path.join(HERE, "tests", "client")]
+
+from served import BOX, COMP07, COMP07_SOL, POOL, BrowserTest, cell  # noqa: E402
+
+# a lecture of c0109, where it is cheapest, and one of c0097 with its best place
+FROM, BEST = (4, 1), (4, 3)
+OTHER, THERE = (0, 3), (2, 3)
+NAMES = """kind,code,name,short name
+course,c0109,Linear Algebra,LinAlg
+course,c0078,Optics,Optics
+teacher,t067,Dr. Amira Haddad,Haddad
+room,r04,Great Hall,Great Hall
+room,r01,Seminar 1,Sem 1
+"""
+TIMES = "day,period,weekday,from,to\n" + "".join(
+    f"{day + 1},{period + 1},{weekday},{8 + 2 * period}:15,{9 + 2 * period}:45\n"
+    for day, weekday in enumerate(("Monday", "Tuesday", "Wednesday", "Thursday", "Friday"))
+    for period in range(5)
+)
+
+
+class Pictures(BrowserTest):
+    """A day whose pictures are taken."""
+
+    def save(self, browser, name):
+        browser.wait("return document.getElementById('toasts').childElementCount === 0", seconds=60)
+        browser.picture(os.path.join(HERE, "docs", name))
+        print(f"docs/{name}")
+
+    def runTest(self):
+        os.mkdir(self.path("labels"))
+        self.write("labels/labels.csv", NAMES)
+        self.write("labels/times.csv", TIMES)
+        labels = ["--labels", self.path("labels")]
+        self.open("monday", COMP07, "2", "--start", COMP07_SOL, *labels)
+        self.serve("monday")
+        anna = self.planner(who="Anna Berg")
+        ben = self.planner("seat 1", "Ben Okafor", features={"prefers-color-scheme": "dark"})
+        anna.sees("Ben Okafor", "#people")
+        self.show(anna, "c0109")
+        self.pick_up(anna, FROM)
+        self.save(anna, "web-held.png")
+        self.put_down(anna, BEST)
+        anna.sees("your draft: 1 edit", "#costs")
+        self.show(anna, "c0097")
+        self.move(anna, OTHER, THERE)
+        self.show(ben, "c0109")
+        ben.press("ArrowDown")
+        self.pick_up(ben, FROM, "s")
+        ben.press("b", "Enter")
+        ben.sees("your draft: 1 edit", "#costs")
+        self.committed(ben, "The Great Hall is needed on Friday")
+        anna.sees("1 accepted since", "#costs")
+        self.show(anna, "c0109")
+        anna.cdp(
+            "Emulation.setEmulatedMedia",
+            features=[{"name": "prefers-color-scheme", "value": "dark"}],
+        )
+        self.save(anna, "web-draft.png")
+        anna.press("c")
+        anna.wait(BOX)
+        anna.picture(os.path.join(HERE, "docs", "web-commit.png"))
+        print("docs/web-commit.png")
+
+
+def main():
+    pictures = Pictures()
+    pictures.setUp()
+    try:
+        pictures.runTest()
+    finally:
+        pictures.doCleanups()
+    assert POOL.driver
+
+
+if __name__ == "__main__":
+    main()
