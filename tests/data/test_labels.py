@@ -49,8 +49,6 @@ class Said(Folder):
         self.assertEqual((labels.day(0), labels.period(0)), ("day 1", "1"))
         self.assertEqual(labels.course("c0109"), "c0109")
         self.assertEqual(labels.short("room", "r04"), "r04")
-        self.assertEqual(labels.row("course c0109"), "course c0109")
-        self.assertEqual(labels.row("slot 4 1"), "day 5, period 2")
         self.assertEqual(labels.span((4, 1)), "")
 
     def test_names_and_times(self):
@@ -68,8 +66,6 @@ class Said(Folder):
         self.assertEqual(labels.curriculum("q1"), "Mathematics, first year (q1)")
         self.assertEqual(labels.short("course", "alg"), "LinAlg")
         self.assertEqual(labels.short("room", "A"), "A")
-        self.assertEqual(labels.row("course alg"), "course Linear Algebra (alg)")
-        self.assertEqual(labels.row("slot 0 1"), "Mon 10:15")
         self.assertEqual(labels.title, "Winter term")
         self.assertEqual(labels.zone, "Europe/Berlin")
         off = [day for day in range(1, 32) if labels.term.is_off(datetime.date(2026, 12, day))]

@@ -7,7 +7,6 @@ from typing import Dict, List, NamedTuple, Optional, Tuple
 
 from office.refused import CONTENT, Refused
 from office.timetable import Slot
-from office.words import words_of
 
 KINDS = ("course", "room", "teacher", "curriculum")
 # the kind of the one label that says what the whole timetable is called
@@ -111,13 +110,6 @@ class Labels:
 
     def curriculum(self, code: str) -> str:
         return self.said("curriculum", code)
-
-    def row(self, row: str) -> str:
-        """A row as the desk names it, as `course c0109` or `slot 4 1`."""
-        kind, *rest = words_of(row)
-        if kind == "slot":
-            return self.slot((int(rest[0]), int(rest[1])))
-        return f"{kind} {self.said(kind, rest[0])}"
 
     def find(self, kind: str, typed: str, codes: List[str]) -> str:
         """The code that a person means by a code or by a name."""

@@ -6,7 +6,8 @@ import os
 import sys
 from typing import Optional
 
-from office.arguments import Commands, add_at, add_command, planner
+from office.arguments import Commands, add_command, planner
+from office.data import add_data
 from office.folder import Day
 from office.past import add_past
 from office.refused import MACHINE, Refused
@@ -72,19 +73,6 @@ def add_others(commands: Commands) -> None:
     one.add_argument("--wait", metavar="SECONDS", type=float, default=60.0, help=wait)
 
 
-def add_tables(commands: Commands) -> None:
-    told = "make an instance, a start and labels of the tables of an office"
-    one = commands.add_parser(
-        "import", help=told, description=told[0].upper() + told[1:] + ".", allow_abbrev=False
-    )
-    one.add_argument("folder", metavar="FOLDER", help="the tables: courses.csv, rooms.csv ..")
-    into = {"dest": "into", "required": True}
-    one.add_argument("-o", "--output", metavar="DIR", help="the folder that is made", **into)
-    one = add_command(commands, "export", "write the tables of a day, with its timetable")
-    one.add_argument("-o", "--output", metavar="FOLDER", help="the folder that is made", **into)
-    add_at(one)
-
-
 def parser() -> argparse.ArgumentParser:
     """The words that the office takes."""
     top = argparse.ArgumentParser(
@@ -100,7 +88,7 @@ def parser() -> argparse.ArgumentParser:
     add_open(commands)
     add_others(commands)
     add_past(commands)
-    add_tables(commands)
+    add_data(commands)
     return top
 
 
@@ -133,16 +121,12 @@ def do(words: argparse.Namespace, top: argparse.ArgumentParser) -> int:
     """Does a command. Each takes in what it needs alone."""
     if words.unproved and words.command not in ("open", "import"):
         top.error("--unproved is for open and import alone: a day remembers its program")
+    if words.command == "open":
+        return open_by(words, top)
     if "do" in words:
         done: int = words.do(words)
         return done
-    if words.command == "import":
-        from office.importing import import_folder
-
-        return import_folder(words.folder, words.into, words.unproved)
     day = Day(words.day)
-    if words.command == "open":
-        return open_by(words, top)
     if words.command == "sit":
         from office.sitting import sit_down
 
@@ -153,13 +137,9 @@ def do(words: argparse.Namespace, top: argparse.ArgumentParser) -> int:
         from office.status import print_status
 
         return print_status(day)
-    if words.command == "close":
-        from office.closing import close_day
+    from office.closing import close_day
 
-        return close_day(day, words.wait)
-    from office.exporting import export_day
-
-    return export_day(day, words.at, words.into)
+    return close_day(day, words.wait)
 
 
 def main(typed: Optional[list[str]] = None) -> int:

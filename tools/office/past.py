@@ -4,6 +4,7 @@ from __future__ import annotations
 import argparse
 
 from office.arguments import Commands, add_at, add_command, planner
+from office.data import add_view
 from office.folder import Day
 
 WHOSE = ("teacher", "room", "course", "curriculum")
@@ -18,6 +19,7 @@ def add_past(commands: Commands) -> None:
     one.set_defaults(do=do_log)
     one = add_command(commands, "show", "print the timetable of a day, open or closed")
     add_at(one)
+    add_view(one)
     one.set_defaults(do=do_show)
     add_diff(commands)
     back = "take back what a draft did, by edits of an open draft; nothing is committed by it"
@@ -53,7 +55,11 @@ def do_log(words: argparse.Namespace) -> int:
 
 def do_show(words: argparse.Namespace) -> int:
     from office.show import print_show
+    from office.show_week import asked, print_week
 
+    one = asked(words)
+    if one is not None:
+        return print_week(Day(words.day), words, *one)
     return print_show(Day(words.day), words.at)
 
 

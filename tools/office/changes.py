@@ -1,0 +1,49 @@
+"""What differs between two timetables of a plan, and whose weeks are touched by it."""
+from __future__ import annotations
+
+from typing import Dict, Iterable, List, Set
+
+from office.instance import Instance
+from office.shifts import Shift
+from office.timetable import Lecture
+from office.week import View, weeks_of
+
+
+def by_course(lectures: Iterable[Lecture]) -> Dict[str, Set[Lecture]]:
+    found: Dict[str, Set[Lecture]] = {}
+    for lecture in lectures:
+        found.setdefault(lecture.course, set()).add(lecture)
+    return found
+
+
+def changes_between(before: Iterable[Lecture], after: Iterable[Lecture]) -> List[Shift]:
+    """What has become of the lectures that stand elsewhere, by courses. Lectures of a course are
+    alike, so the first that is gone is the first that is new."""
+    old, new = by_course(before), by_course(after)
+    found: List[Shift] = []
+    for course in sorted({*old, *new}):
+        gone = sorted(old.get(course, set()) - new.get(course, set()), key=lambda one: one.slot)
+        come = sorted(new.get(course, set()) - old.get(course, set()), key=lambda one: one.slot)
+        found += [Shift(was, now) for was, now in zip(gone, come)]
+        found += [Shift(was, None) for was in gone[len(come) :]]
+        found += [Shift(None, now) for now in come[len(gone) :]]
+    return found
+
+
+def views_of(instance: Instance, shift: Shift) -> List[View]:
+    """The weeks that a change touches, as far as there are such in the instance."""
+    lectures = [
+        one
+        for one in (shift.was, shift.now)
+        if one is not None and one.course in instance.courses and one.room in instance.rooms
+    ]
+    return list(dict.fromkeys(view for one in lectures for view in weeks_of(instance, one)))
+
+
+def by_view(instance: Instance, shifts: Iterable[Shift]) -> Dict[View, List[Shift]]:
+    """The changes in each week."""
+    found: Dict[View, List[Shift]] = {}
+    for shift in shifts:
+        for view in views_of(instance, shift):
+            found.setdefault(view, []).append(shift)
+    return found
