@@ -133,7 +133,7 @@ _office() {
             option=
         elif [[ $word == --* || $word == -o ]]; then
             given+="$word "
-            [[ $word =~ ^--(help|json|links|plain|unproved|web)$ ]] || option=$word
+            [[ $word =~ ^--(costs|csv|follow|help|html|ics|json|links|plain|unproved|web)$ ]] || option=$word
         elif [[ -z $command ]]; then
             command=$word
         else
@@ -148,12 +148,13 @@ _office() {
     web) options="--links --new-key $places" ;;
     sit) options='--name --plain' ;;
     close) options='--wait' ;;
-    show) options='--at' ;;
+    show) options='--at --costs --course --csv --curriculum --html --ics --room --teacher' ;;
     log) options='--json' ;;
     diff) options='--course --curriculum --room --teacher' ;;
     revert) options='--name --seat' ;;
     import) options='--output' ;;
     export) options='--at --output' ;;
+    publish) options='--follow --json' ;;
     esac
     if [[ -z $option && $typed == -* ]]; then
         for option in $options --help; do
@@ -167,12 +168,14 @@ _office() {
     *:--start) _timedesk_files "$typed" .sol ;;
     *:--instance | open:1) _timedesk_files "$typed" .ctt ;;
     *:--barred | *:--logins | *:--socket) _timedesk_files "$typed" '' ;;
-    diff:--course | diff:--curriculum | diff:--room | diff:--teacher)
+    diff:--course | diff:--curriculum | diff:--room | diff:--teacher | show:--course | \
+        show:--curriculum | show:--room | show:--teacher)
         _timedesk_names "$typed" "$option" "${day%:*}/instance.ctt"
         ;;
     *:--*) ;;
-    :0) _timedesk_words "$typed" close diff export import log open revert show sit status web ;;
+    :0) _timedesk_words "$typed" close diff export import log open publish revert show sit status web ;;
     *:0 | diff:1) _office_days "$typed" ;;
+    publish:1) _office_folders "$typed" ;;
     log:1)
         for option in --course --curriculum --room --teacher; do
             _timedesk_names "$typed" "$option" "$day/instance.ctt"

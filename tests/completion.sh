@@ -127,7 +127,7 @@ offers '' timedesk week cut.ctt monday.sol --curriculum ''
 mkdir monday tuesday
 touch monday/day.json
 cp small.ctt monday/instance.ctt
-offers $'close\ndiff\nexport\nimport\nlog\nopen\nrevert\nshow\nsit\nstatus\nweb' office ''
+offers $'close\ndiff\nexport\nimport\nlog\nopen\npublish\nrevert\nshow\nsit\nstatus\nweb' office ''
 offers $'show\nsit\nstatus' ./office s
 offers $'open' office --unproved o
 offers $'--help\n--unproved' office -
@@ -148,6 +148,8 @@ offers $'--links\n--login-header\n--logins' office web monday --l
 offers $'monday' office open wednesday small.ctt 2 --labels m
 offers $'monday' office import m
 offers $'new' office import monday -o n
+offers $'new' office publish monday n
+offers $'t1\nt2' office show monday --html --teacher t
 offers $'new' office export monday --output n
 offers $'--help\n--output' office import monday --
 offers $'--help\n--name' office sit monday 0 --plain -

@@ -1,33 +1,30 @@
 """What differs between two timetables of a plan, and whose weeks are touched by it."""
 from __future__ import annotations
 
-from typing import Dict, Iterable, List, Set
+from typing import Dict, Iterable, List
 
+from office.drafts import Row, row_shifts
 from office.instance import Instance
 from office.shifts import Shift
 from office.timetable import Lecture
 from office.week import View, weeks_of
 
 
-def by_course(lectures: Iterable[Lecture]) -> Dict[str, Set[Lecture]]:
-    found: Dict[str, Set[Lecture]] = {}
+def by_course(lectures: Iterable[Lecture]) -> Dict[str, Row]:
+    found: Dict[str, Row] = {}
     for lecture in lectures:
-        found.setdefault(lecture.course, set()).add(lecture)
+        found.setdefault(lecture.course, {})[lecture.slot] = lecture.room
     return found
 
 
 def changes_between(before: Iterable[Lecture], after: Iterable[Lecture]) -> List[Shift]:
-    """What has become of the lectures that stand elsewhere, by courses. Lectures of a course are
-    alike, so the first that is gone is the first that is new."""
+    """What has become of the lectures that stand elsewhere, course by course."""
     old, new = by_course(before), by_course(after)
-    found: List[Shift] = []
-    for course in sorted({*old, *new}):
-        gone = sorted(old.get(course, set()) - new.get(course, set()), key=lambda one: one.slot)
-        come = sorted(new.get(course, set()) - old.get(course, set()), key=lambda one: one.slot)
-        found += [Shift(was, now) for was, now in zip(gone, come)]
-        found += [Shift(was, None) for was in gone[len(come) :]]
-        found += [Shift(None, now) for now in come[len(gone) :]]
-    return found
+    return [
+        shift
+        for course in dict.fromkeys([*old, *new])
+        for shift in row_shifts(course, old.get(course, {}), new.get(course, {}))
+    ]
 
 
 def views_of(instance: Instance, shift: Shift) -> List[View]:
