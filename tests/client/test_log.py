@@ -1,4 +1,6 @@
 """What was committed: told, compared, and taken back, by commands."""
+import contextlib
+import io
 import json
 import re
 
@@ -6,6 +8,7 @@ from support import COMP07, COMP07_SOL, OfficeTest
 
 from office.commit_notes import CommitNote, keep_commit_note
 from office.folder import Day
+from office.main import main
 
 SWAP = "c0109 (day 5, period 2, r01) <-> c0078 (day 4, period 2, r06)"
 MOVE = "c0097: day 1, period 4, r18 -> day 3, period 4, r12"
@@ -21,9 +24,19 @@ class Comp07(OfficeTest):
         self.sit("day", 1, swap, "--name", "ben")
         self.sit("day", 0, "open\nmove c0097 0 3 r12 2 3\ncommit\n", "--name", "anna")
 
+    def command(self, *words):
+        """A command of the office in this process: status, what it prints, what it says."""
+        printed, said = io.StringIO(), io.StringIO()
+        with contextlib.redirect_stdout(printed), contextlib.redirect_stderr(said):
+            try:
+                status = main(list(words))
+            except SystemExit as left:
+                status = left.code
+        return status, printed.getvalue(), said.getvalue()
+
     def told(self, *words):
         """What a command prints, with its times as TIME."""
-        status, printed, said = self.office(*words)
+        status, printed, said = self.command(*words)
         self.assertEqual((status, said), (0, ""))
         return re.sub(r"\d{4}-\d\d-\d\d \d\d:\d\d:\d\d", "TIME", printed)
 
@@ -92,8 +105,8 @@ class Log(Comp07):
             (["3"], "there is no course, teacher, room, curriculum, planner or draft 3"),
             (["room", "c0109"], "there is no room c0109"),
         ]:
-            self.assertEqual(self.office("log", day, *words), (1, "", f"office: {said}\n"))
-        self.assertEqual(self.office("log", day, "some", "thing", "else")[0], 2)
+            self.assertEqual(self.command("log", day, *words), (1, "", f"office: {said}\n"))
+        self.assertEqual(self.command("log", day, "some", "thing", "else")[0], 2)
 
 
 class Differences(Comp07):
@@ -125,9 +138,9 @@ class Differences(Comp07):
             "day, after draft 1 of 2 -> day, after draft 1 of 2: 0 lectures differ\n"
             "cost 8615 -> 8615\n",
         )
-        found = self.office("diff", self.path("day"), self.path("day"), "--room", "c0109")
+        found = self.command("diff", self.path("day"), self.path("day"), "--room", "c0109")
         self.assertEqual(found, (1, "", "office: there is no room c0109\n"))
-        found = self.office("diff", self.path("day"), self.path("day:3"))
+        found = self.command("diff", self.path("day"), self.path("day:3"))
         self.assertEqual(found, (1, "", "office: day has 2 accepted drafts, and no draft 3\n"))
 
     def test_two_days(self):
@@ -169,7 +182,7 @@ class Reverts(Comp07):
 
     def test_changed_since(self):
         self.sit("day", 2, "open\nmove c0097 2 3 r18 0 3\ndrop c0078 4 1\ncommit\n", "--name", "dan")
-        status, printed, _ = self.office("revert", self.path("day"), "2")
+        status, printed, _ = self.command("revert", self.path("day"), "2")
         self.assertEqual(status, 1)
         self.assertEqual(
             printed.split("\n")[1:],
@@ -198,19 +211,19 @@ class Reverts(Comp07):
 
     def test_refused(self):
         day = self.path("day")
-        found = self.office("revert", day, "3")
+        found = self.command("revert", day, "3")
         self.assertEqual(found, (1, "", "office: day has 2 accepted drafts, and no draft 3\n"))
-        found = self.office("revert", day, "x")
+        found = self.command("revert", day, "x")
         self.assertEqual(found[0], 2)
         for planner in range(4):
             self.sit("day", planner, "open\n")
-        found = self.office("revert", day, "1")
+        found = self.command("revert", day, "1")
         self.assertEqual(
             found,
             (3, "", f"office: no seat of {day} is free: --seat names one, whose draft gets the edits\n"),
         )
         self.office("close", day, "--wait", "0")
         self.assertEqual(
-            self.office("revert", day, "1", "--seat", "0"),
+            self.command("revert", day, "1", "--seat", "0"),
             (3, "", f"office: no office is open in {day}\n"),
         )
