@@ -4,6 +4,7 @@ from __future__ import annotations
 import contextlib
 import fcntl
 import os
+import stat
 from typing import List, Sequence
 
 from office.folder import read_text
@@ -24,9 +25,10 @@ def add_line(path: str, fields: Sequence[str]) -> str:
     except OSError as fault:
         return fault.strerror or "the disk fails"
     try:
-        with contextlib.suppress(OSError):
-            # only who made the file may
-            os.fchmod(end, 0o660)
+        if stat.S_ISREG(os.fstat(end).st_mode):
+            with contextlib.suppress(OSError):
+                # only who made the file may
+                os.fchmod(end, 0o660)
         fcntl.flock(end, fcntl.LOCK_EX)
         size = os.fstat(end).st_size
         # a line that was cut, as by a full disk, ends first
