@@ -392,3 +392,99 @@ class Failing(OfficeTest):
         lines = "\n".join(map(said, anna.work.drafting.left()))
         self.assertNotIn("in the log", lines)
         self.assertIn("write them down", lines)
+
+
+class Variants(Two):
+    def test_put_aside_and_made_again(self):
+        anna, ben = self.boards()
+        anna.planning.edit(BEST)
+        anna.planning.edit("drop c0001 1 2")
+        text = self.type_keys(anna, "n", *"big room", "enter")
+        self.assertIn("Put aside as big room: 2 edits.", text)
+        self.assertFalse(anna.planning.is_open)
+        anna.planning.edit("reroom c0049 r04 0 0")
+        self.type_keys(anna, "n", *"other", "enter")
+        ben.planning.edit("drop c0109 4 1")
+        self.commit(ben)
+        anna.tick()
+        text = self.type_keys(anna, "N")
+        self.assertRegex(
+            text, r"> big room: 2 edits, 1 of them can be made now: cost -?\+?\d+, missing 2"
+        )
+        self.assertIn("other: 1 edit, 1 of them can be made now: cost -231, missing 1", text)
+        text = self.type_keys(anna, "d", "down", "d")
+        self.assertIn("big room -> other", text)
+        self.assertIn("c0001: placed on day 2, period 3", text)
+        self.assertIn("c0049: day 1, period 1, r09 -> r04", text)
+        text = self.type_keys(anna, "escape", "N", "enter")
+        self.assertIn("1 of 2 edits made again, none committed yet.", text)
+        self.assertEqual(anna.planning.edits(), ["drop c0001 1 2"])
+        # another one is made the draft only when this one is put aside or given up
+        anna.press("escape")
+        self.assertIn("puts them aside", self.type_keys(anna, "N", "down", "enter"))
+        self.assertEqual(anna.planning.edits(), ["drop c0001 1 2"])
+
+    def test_survives(self):
+        """Variants are there after a crash of the client, of the desk, and on the next day."""
+        anna, _ = self.boards()
+        anna.planning.edit(BEST)
+        self.type_keys(anna, "n", *"one", "enter")
+        # no farewell: the client is killed
+        leave, anna.planning.seat.log.noted = anna.planning.seat.log.noted, lambda text: None
+        anna.planning.seat.go()
+        self.assertIsNotNone(leave)
+        anna = Board(self.planning("day", 0, "anna"))
+        anna.begin()
+        self.assertEqual(anna.work.variants.kept, {"one": [BEST]})
+        anna.planning.seat.go()
+        self.end(self.office_process)
+        self.assertEqual(self.office("close", self.path("day"))[0], 0)
+        self.open("next", "--after", self.path("day"))
+        anna = Board(self.planning("next", 0, "anna"))
+        anna.begin()
+        self.assertEqual(anna.work.variants.kept, {"one": [BEST]})
+        self.type_keys(anna, "N", "enter")
+        self.assertEqual(anna.planning.edits(), [BEST])
+        self.type_keys(anna, "N", "x")
+        anna.planning.seat.go()
+        anna = Board(self.planning("next", 0, "anna"))
+        anna.begin()
+        self.assertEqual(anna.work.variants.kept, {})
+
+    def test_undone_is_done_again(self):
+        anna, _ = self.boards()
+        for edit in (BEST, "drop c0001 1 2"):
+            anna.planning.edit(edit)
+        self.type_keys(anna, "u", "u")
+        self.assertEqual(anna.planning.edits(), [])
+        anna.planning.seat.go()
+        anna = Board(self.planning("day", 0, "anna"))
+        anna.begin()
+        self.type_keys(anna, "U")
+        self.assertEqual(anna.planning.edits(), [BEST])
+        self.type_keys(anna, "U")
+        self.assertEqual(anna.planning.edits(), [BEST, "drop c0001 1 2"])
+        self.assertIn("Nothing was taken back", self.type_keys(anna, "U"))
+        # another edit in between ends it
+        self.type_keys(anna, "u")
+        anna.planning.edit("reroom c0049 r04 0 0")
+        self.assertIn("Nothing was taken back", self.type_keys(anna, "U"))
+
+
+class Findings(Two):
+    def test_worst_first(self):
+        anna, _ = self.boards()
+        text = self.type_keys(anna, "!")
+        self.assertIn("What to mend: 531 findings, 8847 points", text)
+        self.assertIn("> 257 too small: c0109 in r01, day 2, period 5", text)
+        text = self.type_keys(anna, *"c0109 5,", "enter")
+        self.assertIn("week of course c0109", text)
+        self.assertEqual(anna.cursor, (4, 1))
+        # of the draft, if one is open
+        anna.planning.edit(BEST)
+        self.assertIn("530 findings, 8590 points", self.type_keys(anna, "!"))
+        text = self.type_keys(anna, *"no points", "enter")
+        self.assertIn("Gaps in days of curricula", text)
+        text = self.type_keys(anna, "enter")
+        self.assertIn("week of curriculum q", text)
+        self.assertNotIn("read anew", text)

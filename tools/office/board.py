@@ -14,6 +14,7 @@ from office.overlays import Asked, Chooser, CommitBox, Overlay, Page, Typed
 from office.planning import Planning
 from office.text import fit, wrap
 from office.timetable import Lecture, Slot
+from office.variant_list import VariantList
 from office.week import Cell, View
 from office.wording import Wording
 from office.work import Work
@@ -63,6 +64,10 @@ class Board:
             "refresh": lambda: self.free(drafting.refresh),
             "redo": lambda: self.free(drafting.redo),
             "abandon": drafting.ask_abandon,
+            "undo undo": lambda: self.free(drafting.undo_undo),
+            "put aside": self.put_aside,
+            "variants": self.list_variants,
+            "findings": self.work.findings.question,
             "line": self.type_line,
             "help": self.show_help,
             "leave": self.work.leave,
@@ -87,9 +92,16 @@ class Board:
         if question is not None and question.choices:
             choices = [(self.wording.notice(told), act) for told, act in question.choices]
             title = self.wording.notice(question.title)
-            self.overlay = Chooser(title, choices, lambda act: self.ask(act()))
+            self.overlay = Chooser(title, choices, self.choose)
         elif question is not None:
             self.overlay = Asked(question, self.wording, self.ask)
+
+    def choose(self, act: Callable[[], Optional[Question]]) -> None:
+        """Does what was chosen of a list, and goes where it leads."""
+        self.ask(act())
+        if self.work.goal is not None:
+            self.set_cursor(self.work.goal)
+            self.work.goal = None
 
     # what is seen
 
@@ -299,9 +311,20 @@ class Board:
 
         box = drafting.box()
         if box is not None:
-            self.overlay = CommitBox(
-                box, lambda: self.planning.foretold, self.wording, commit
-            )
+            self.overlay = CommitBox(box, lambda: self.planning.foretold, self.wording, commit)
+
+    def put_aside(self) -> None:
+        self.work.carry = None
+        prompt = self.wording.notice(say("variant name"))
+        self.overlay = Typed(prompt, self.work.variants.put_aside)
+
+    def list_variants(self) -> None:
+        """Lists what was put aside."""
+        self.work.carry = None
+        if self.work.variants.kept:
+            self.overlay = VariantList(self.work.variants, self.wording, self.ask)
+        else:
+            self.planning.notice = say("no variants")
 
     def show_help(self) -> None:
         self.overlay = Page("Keys", help_lines())

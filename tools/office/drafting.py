@@ -83,6 +83,9 @@ class Drafting:
     def undo(self) -> None:
         self.planning.undo()
 
+    def undo_undo(self) -> None:
+        self.planning.undo_undo()
+
     def edits(self) -> Question:
         """The edits of the draft, and those that a redo could not make again."""
         planning = self.planning

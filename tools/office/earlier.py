@@ -1,7 +1,7 @@
 """Edits of an earlier day that were neither accepted nor given up, to be offered again."""
 from __future__ import annotations
 
-from typing import List, Optional, Tuple
+from typing import Iterator, List, Optional, Tuple
 
 from office.folder import Day
 from office.minutes import read_minutes
@@ -11,28 +11,35 @@ from office.refused import Refused
 from office.seatlog import read_past
 
 
-def unfinished_before(day: Day, planner: int) -> Tuple[str, List[str]]:
-    """The name of the last day before this one at which the seat was used, and what it left
-    unfinished."""
+def days_before(day: Day) -> Iterator[Day]:
+    """The days before a day, the last one first."""
     seen = {day.path}
     while True:
         try:
             before: Optional[str] = day.facts().get("after")
         except Refused:
-            return "", []
+            return
         if before is None or before in seen:
-            return "", []
+            return
         seen.add(before)
         day = Day(before)
+        yield day
+
+
+def unfinished_before(day: Day, planner: int) -> Tuple[str, List[str]]:
+    """The name of the last day before this one at which the seat was used, and what it left
+    unfinished."""
+    for before in days_before(day):
         try:
-            past = read_past(day.log(planner))
+            past = read_past(before.log(planner))
         except PermissionError:
-            return "", []
-        past.settle(read_minutes(day.minutes), planner)
+            break
+        past.settle(read_minutes(before.minutes), planner)
         if past.unfinished():
-            return day.name, past.unfinished()
+            return before.name, past.unfinished()
         if past.offer or past.story.accepted:
-            return "", []
+            break
+    return "", []
 
 
 class Earlier:

@@ -145,6 +145,8 @@ class Story:
     ended_made: list[str] = field(default_factory=list)
     # those that the redo by which the draft was opened could not make again
     left_out: list[tuple[int, str, str]] = field(default_factory=list)
+    # the edits that were taken back one after another, and can be made again
+    undone: list[str] = field(default_factory=list)
     accepted: list[int] = field(default_factory=list)
     has_left: bool = False
     is_full: bool = False
@@ -179,12 +181,13 @@ class Story:
             self._begin([])
         self.made.append(edit)
         self.edits = add_edit(self.edits, edit)
+        self.undone = self.undone[:-1] if self.undone[-1:] == [edit] else []
 
     def _begin(self, made: list[str]) -> None:
         self.is_open, self.made, self.edits = True, made, []
         for edit in made:
             self.edits = add_edit(self.edits, edit)
-        self.ended, self.ended_made, self.left_out = [], [], []
+        self.ended, self.ended_made, self.left_out, self.undone = [], [], [], []
 
     def _end(self, keeps: bool) -> None:
         if self.is_open:
@@ -193,10 +196,12 @@ class Story:
         elif not keeps:
             self.ended, self.ended_made = [], []
         self.is_open, self.made, self.edits, self.left_out = False, [], [], []
+        self.undone = []
 
     def _undo(self, answer: str) -> None:
         if answer.startswith("done "):
-            self.edits = take_back_edit(self.edits, answer[5:])
+            before, self.edits = self.edits, take_back_edit(self.edits, answer[5:])
+            self.undone += before[len(self.edits) :][:1]
             self.made.append(answer[5:])
 
     def _redo(self, answer: str) -> None:

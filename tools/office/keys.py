@@ -7,7 +7,7 @@ from typing import Dict, NamedTuple, Tuple
 
 class Action(NamedTuple):
     """Something that a planner can do: its name, its key, two words for a row of keys (empty if it
-    is in none), and a sentence for the help (empty if it is no key of the week)."""
+    is in none), and a sentence for the help (empty if that is said elsewhere)."""
 
     name: str
     key: str
@@ -103,6 +103,27 @@ ACTIONS = (
         "makes the edits of a stale draft again on the newest timetable, and commits nothing.",
     ),
     Action("abandon", "a", "abandon", "gives the draft up, when you have said yes."),
+    Action("undo undo", "U", "", "makes an edit again that was taken back."),
+    Action(
+        "put aside",
+        "n",
+        "put aside",
+        "puts the edits of the draft aside under a name, and begins anew.",
+    ),
+    Action(
+        "variants",
+        "N",
+        "",
+        "lists what was put aside, with what each would save now: Enter makes one the draft, d "
+        "compares two, x throws one away.",
+    ),
+    Action(
+        "findings",
+        "!",
+        "to mend",
+        "lists what breaks a rule or costs points, the worst first, and gaps. Letters narrow the "
+        "list, Enter goes there.",
+    ),
     Action("line", ":", "line", "types a line of the desk by hand, as `course c0109`."),
     Action("help", "?", "help", ""),
     Action(
@@ -114,24 +135,25 @@ ACTIONS = (
     Action("next", "tab", "", ""),
     Action("last", "backtab", "", ""),
     Action("lay down", "escape", "", ""),
-    # answers to questions
+)
+# what a question may be answered with, and what is done with a line of a list
+ANSWERS = (
     Action("make earlier", "y", "makes them again in a draft", ""),
     Action("decline", "n", "never asks again", ""),
     Action("give up", "y", "gives them up", ""),
     Action("make again", "r", "makes them again", ""),
     Action("go on", "y", "goes on all the same", ""),
+    Action("take up", "enter", "makes it the draft", ""),
+    Action("compare", "d", "compares it with another", ""),
+    Action("throw away", "x", "throws it away", ""),
     Action("unpin", "y", "takes it off", ""),
     Action("take back", "t", "takes it back in your draft", ""),
     Action("take over", "y", "goes on with them", ""),
     Action("leave to them", "q", "leaves them", ""),
 )
-BY_NAME: Dict[str, Action] = {action.name: action for action in ACTIONS}
+BY_NAME: Dict[str, Action] = {action.name: action for action in ACTIONS + ANSWERS}
 # the keys of the week, by the key
-WEEK_KEYS: Dict[str, str] = {
-    action.key: action.name
-    for action in ACTIONS
-    if action.help or action.key in ("tab", "backtab", "escape", "?")
-}
+WEEK_KEYS: Dict[str, str] = {action.key: action.name for action in ACTIONS}
 NAMED = {"enter": "Enter", "tab": "Tab", "backtab": "Shift-Tab", "escape": "Escape"}
 # the two rows of keys, free and with a lecture picked up
 FREE: Tuple[Tuple[str, ...], ...] = (

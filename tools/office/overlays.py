@@ -2,7 +2,7 @@
 line to type."""
 from __future__ import annotations
 
-from typing import Callable, Dict, Generic, List, Optional, Sequence, Tuple, TypeVar
+from typing import Callable, Dict, Generic, List, Mapping, Optional, Sequence, Tuple, TypeVar
 
 from office.drafting import Box
 from office.grid import Row
@@ -77,6 +77,36 @@ class Chooser(Overlay, Generic[Choice]):
         keys = "letters narrow the list, Enter chooses, Escape goes back"
         last = f" {len(found)} of {len(self.choices)}   {keys}"
         return rows + [[("", "")]] * (height - len(rows) - 1) + [[(fit(last, width), "head")]]
+
+
+class Listed(Overlay):
+    """A list, with keys for what is done with the line that is chosen."""
+
+    def __init__(
+        self, title: str, lines: List[str], acts: Mapping[str, Callable[[int], bool]]
+    ) -> None:
+        self.title, self.lines, self.acts = title, lines, acts
+        self.at = 0
+
+    def press(self, key: str) -> bool:
+        acts = {BY_NAME[name].key: act for name, act in self.acts.items()}
+        if key in ("up", "down"):
+            self.at = max(0, min(len(self.lines) - 1, self.at + (1 if key == "down" else -1)))
+        elif key in acts:
+            return acts[key](self.at)
+        return key == "escape"
+
+    def rows(self, height: int, width: int) -> List[Row]:
+        room = max(1, height - 3)
+        first = max(0, min(self.at - room // 2, len(self.lines) - room))
+        rows: List[Row] = [[(fit(f" {self.title}", width), "head")], [("", "")]]
+        for place, line in enumerate(self.lines[first : first + room], first):
+            is_at = place == self.at
+            text = f" {'>' if is_at else ' '} {shown(line)}"
+            rows.append([(fit(text, width), "cursor" if is_at else "")])
+        keys = [f"{key_of(name)} {BY_NAME[name].short}" for name in self.acts]
+        last = ", ".join([*keys, "Escape goes back"])
+        return rows + [[("", "")]] * (height - len(rows) - 1) + [[(fit(f" {last}", width), "head")]]
 
 
 class Page(Overlay):

@@ -93,6 +93,14 @@ class Planning(Reading):
         else:
             self.notice = answer_told(answer)
 
+    def undo_undo(self) -> None:
+        """Makes the edit again that was taken back last."""
+        undone = self.seat.story.undone
+        if undone:
+            self.edit(undone[-1])
+        else:
+            self.notice = say("nothing undone")
+
     def commit(self, why: str = "") -> None:
         """Wants the draft accepted, for a reason that others can read."""
         if not self.is_open:

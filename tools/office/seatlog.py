@@ -8,6 +8,8 @@ Nothing that a planner did is lost by it when his screen, the desk or the machin
 """
 from __future__ import annotations
 
+import contextlib
+import json
 import os
 from dataclasses import dataclass, field
 from typing import Optional
@@ -63,13 +65,19 @@ class SeatLog:
         """Notes an answer before it is shown."""
         self._write(HEARD, answer[:LONGEST_LOOK] if answer.startswith(LOOKS) else answer)
         if answer.startswith(TURNS) and not self.fault:
-            try:
-                os.fdatasync(self.end)
-            except OSError as fault:
-                self.fault = fault.strerror or "the disk fails"
+            self._sync()
 
-    def noted(self, text: str) -> None:
+    def noted(self, text: str, is_kept: bool = False) -> None:
+        """Notes something; what is to be kept is on the disk when this returns."""
         self._write(NOTED, text)
+        if is_kept and not self.fault:
+            self._sync()
+
+    def _sync(self) -> None:
+        try:
+            os.fdatasync(self.end)
+        except OSError as fault:
+            self.fault = fault.strerror or "the disk fails"
 
     def close(self) -> None:
         os.close(self.end)
@@ -92,6 +100,9 @@ class SeatPast:
     base: Optional[int] = None
     # who has worked on the last draft: who opened it, and who has taken it over
     drafters: list[str] = field(default_factory=list)
+    # the drafts that were put aside, by their names, and whether any ever was
+    variants: dict[str, list[str]] = field(default_factory=dict)
+    has_variants: bool = False
     # the reason that was given for the commit that is under way, and those of accepted drafts
     why: str = ""
     whys: dict[int, str] = field(default_factory=dict)
@@ -131,6 +142,8 @@ class SeatPast:
             self.drafters.append(self.name)
         elif word == "why":
             self.why = rest
+        elif word in ("aside", "unaside"):
+            self._take_variant(word, rest)
         elif word == "offer":
             self.offer = rest
         elif word == "base":
@@ -140,6 +153,15 @@ class SeatPast:
         elif word == "unsent" and self.waiting:
             # the last lines were never sent: their client died before
             del self.waiting[-int(rest) :]
+
+    def _take_variant(self, word: str, rest: str) -> None:
+        self.has_variants = True
+        with contextlib.suppress(ValueError, TypeError):
+            found = json.loads(rest)
+            if word == "aside":
+                self.variants[found[0]] = list(found[1])
+            else:
+                self.variants.pop(found, None)
 
     def settle(self, entries: list[Entry], planner: int) -> None:
         """A commit that was sent, and of which the answer was not heard when the desk died, was

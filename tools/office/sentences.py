@@ -113,9 +113,44 @@ OTHERS = {
     "moved here": "{who} moved {course} here, {time}{because}.",
     "moved away": "{who} took {course} away from here, {time}{because}.",
     "new room here": "{who} gave {course} this room, {time}{because}.",
-    "because": " ({why})",
     "not as seen": "Somebody has just changed {course}: look again.",
     "by draft": "draft {number}, {who}, {time}:",
+}
+# variants, and what was taken back
+VARIANTS = {
+    "nothing undone": "Nothing was taken back that can be made again.",
+    "nothing to put aside": "Your draft has no edits to put aside.",
+    "variant name": "Put aside as: ",
+    "put aside": "Put aside as {name}: {count:edit}. You begin anew; {key[variants]} lists what was "
+    "put aside.",
+    "put aside first": "Your draft has {count:edit}: {key[put aside]} puts them aside, "
+    "{key[abandon]} gives them up.",
+    "thrown away": "{name} is thrown away.",
+    "no variants": "Nothing was put aside: {key[put aside]} puts a draft aside.",
+    "variants": "What was put aside",
+    "variant": "{name}: {count:edit}, {made} of them can be made now",
+    "variant told": "{name}: {count:edit}, {made} of them can be made now: cost {price}, missing "
+    "{missing}",
+    "compared": "{name} -> {second}",
+    "same variants": "Both lead to the same timetable now.",
+}
+# what the program finds
+FINDINGS = {
+    "no findings": "Nothing is known of findings now: {fault}.",
+    "findings": "What to mend: {count:finding}, {points} points",
+    "see gaps": "gaps in the days of curricula, and the groups that are worst off (no points)",
+    "gaps title": "Gaps in days of curricula: {count}; they cost no points",
+    "worst off": "worst off: curriculum {curriculum}, {alone} alone on their day, {gaps} in gaps",
+    "gaps": "curriculum {curriculum}, {day}: {gaps} free between two lectures",
+    "found lectures": "missing or surplus: {course}, {placed} of {stated} placed",
+    "found conflict": "conflict: {course} and {other}, {slot}, {cause} {name}",
+    "found availability": "unavailable: {course}, {slot}",
+    "found occupancy": "room taken: {course} in {room}, {slot}",
+    "found barred": "barred: {course} in {room}, {slot}",
+    "found capacity": "{points} too small: {course} in {room}, {slot}",
+    "found days": "{points} days: {course} on {days} of {minimum}",
+    "found compactness": "{points} alone: {course} in curriculum {curriculum}, {slot}",
+    "found stability": "{points} rooms: {course} in {rooms} of them",
 }
 # titles and lines of what is read or asked
 LINES = {
@@ -136,6 +171,7 @@ LINES = {
     "box change": "Cost {price}: {parts}.",
     "box cost": "It costs {count} then.",
     "leaves missing": "It leaves lectures missing: {courses}.",
+    "stale by now": "stale by now: {row} has changed",
     "box fresh": "Nothing that it stands on has changed.",
     "box stale": "Stale by now: {row} has changed. Nothing is lost; it cannot be committed as it is.",
     "stale title": "Your draft is stale: nothing is lost",
@@ -148,4 +184,15 @@ LINES = {
     "log fault": "The log cannot be written ({fault}): edits are lost if the desk dies.",
     "closing": "The office closes in {seconds} s: commit now, or your edits are offered again.",
 }
-SENTENCES: Dict[str, str] = {**REASONS, **DESK, **DRAFT, **LECTURES, **OTHERS, **LINES, **PAST, **KNOWING}
+SENTENCES: Dict[str, str] = {
+    **REASONS,
+    **DESK,
+    **DRAFT,
+    **LECTURES,
+    **OTHERS,
+    **VARIANTS,
+    **FINDINGS,
+    **LINES,
+    **PAST,
+    **KNOWING,
+}

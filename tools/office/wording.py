@@ -147,6 +147,7 @@ class Wording:
             return self.notice(value)
         by_name: Dict[str, Callable[[Any], Any]] = {
             "slot": self.slot,
+            "day": lambda day: self.day(day) if isinstance(day, int) else self.safe(day),
             "row": self.row,
             "place": self.place,
             "shifts": self.shifts,

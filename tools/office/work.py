@@ -11,11 +11,13 @@ from typing import Dict, List, Optional
 
 from office.carry import MOVE, PLACE, SWAP, Carry, Offer
 from office.drafting import BLANK, Drafting, told_edits
+from office.findings import Findings
 from office.histories import History
 from office.knowing import Knowing
 from office.notice import NOTHING, Notice, Question, say
 from office.planning import Planning
 from office.timetable import Lecture, Slot
+from office.variants import Variants
 from office.week import Cell, View, all_views, cells_of, told_of_view, weeks_of
 from office.what import What
 
@@ -31,6 +33,10 @@ class Work:
         self.drafting = Drafting(planning)
         self.history = History(planning)
         self.knowing = Knowing(planning)
+        self.variants = Variants(planning)
+        self.findings = Findings(planning, self.go_to)
+        # where to look next, if something was chosen that stands at a slot
+        self.goal: Optional[Slot] = None
         # the planner leaves
         self.is_done = False
 
@@ -46,6 +52,7 @@ class Work:
         """Hears what was under way. A draft that somebody else has left is asked about; edits of an
         earlier day are offered."""
         self.planning.begin()
+        self.variants.begin()
         seat, planning = self.planning.seat, self.planning
         edits = planning.edits() or planning.ended()
         if not seat.owner or not edits:
@@ -80,6 +87,12 @@ class Work:
 
     def show(self, view: View) -> None:
         self.view = view
+
+    def go_to(self, view: View, slot: Optional[Slot]) -> None:
+        """Shows a week, and where to look in it."""
+        self.view, self.goal = view, slot
+        if slot is None:
+            self.goal = min((one.slot for one in self.lectures()), default=None)
 
     def drafts_of(self, lecture: Optional[Lecture]) -> Optional[Question]:
         """The drafts that have changed the course of a lecture, or without one the week."""

@@ -1,0 +1,158 @@
+"""What a timetable breaks and what costs points, as the program finds it; and, without points, gaps
+in the days of curricula and those that are worst off."""
+from __future__ import annotations
+
+import json
+from typing import Any, Callable, Dict, List, NamedTuple, Optional, Tuple
+
+from office.notice import Notice, Question, say
+from office.planning import Planning
+from office.program import Left
+from office.refused import Refused
+from office.timetable import Slot, Timetable
+from office.week import View, alone_points
+from office.words import encoded
+
+# the groups of the page, in its order
+GROUPS = (
+    "lectures",
+    "conflict",
+    "availability",
+    "occupancy",
+    "barred",
+    "capacity",
+    "days",
+    "compactness",
+    "stability",
+)
+Choice = Tuple[Notice, Callable[[], Optional[Question]]]
+
+
+class Place(NamedTuple):
+    """Where a finding is seen."""
+
+    view: View
+    slot: Optional[Slot]
+
+
+class Gaps(NamedTuple):
+    """A day of a curriculum with periods without a lecture between two with one."""
+
+    curriculum: str
+    day: int
+    slot: Slot
+    free: int
+
+
+def solution_of(timetable: Timetable) -> bytes:
+    return encoded("".join(f"{lecture.words()}\n" for lecture in timetable.lectures()))
+
+
+def place_of(finding: Dict[str, Any], timetable: Timetable) -> Place:
+    """Where one looks at a finding: the week of a room, a curriculum or a course."""
+    slot = (finding["day"], finding["period"]) if "period" in finding else None
+    if finding["kind"] == "occupancy":
+        return Place(View("room", finding["room"]), slot)
+    if finding["kind"] == "compactness":
+        return Place(View("curriculum", finding["curriculum"]), slot)
+    course = finding["course"]
+    if slot is None:
+        slot = next(iter(sorted(timetable.by_course[course])), None)
+    return Place(View("course", course), slot)
+
+
+def told(finding: Dict[str, Any]) -> Notice:
+    """A finding in its group."""
+    data = {name: value for name, value in finding.items() if name not in ("kind", "day", "period")}
+    if "period" in finding:
+        data["slot"] = finding["day"], finding["period"]
+    return say(f"found {finding['kind']}", **data)
+
+
+def gaps_of(timetable: Timetable) -> List[Gaps]:
+    """The gaps of all curricula, day by day."""
+    instance, found = timetable.instance, []
+    for curriculum, members in instance.curricula.items():
+        periods: Dict[int, List[int]] = {}
+        for course in members:
+            for day, period in timetable.by_course[course]:
+                periods.setdefault(day, []).append(period)
+        for day, held in sorted(periods.items()):
+            count = max(held) - min(held) + 1 - len(set(held))
+            if count > 0:
+                found.append(Gaps(curriculum, day, (day, min(held)), count))
+    return found
+
+
+def worst_off(timetable: Timetable, gaps: List[Gaps]) -> List[Tuple[str, int, int]]:
+    """The curricula with lectures that stand alone on their day or with gaps, the worst first: the
+    number of both."""
+    found = []
+    for curriculum, members in timetable.instance.curricula.items():
+        slots = [slot for course in members for slot in timetable.by_course[course]]
+        alone = sum(alone_points(timetable, [curriculum], slot) // 2 for slot in slots)
+        count = sum(gap.free for gap in gaps if gap.curriculum == curriculum)
+        if alone or count:
+            found.append((curriculum, alone, count))
+    return sorted(found, key=lambda one: -(one[1] + one[2]))
+
+
+class Findings:
+    """The findings of what a planner works on: of his draft, else of the newest timetable. `go`
+    shows where one is."""
+
+    def __init__(self, planning: Planning, go: Callable[[View, Optional[Slot]], None]) -> None:
+        self.planning, self.go = planning, go
+
+    def read(self) -> List[Dict[str, Any]]:
+        """All findings, by the program."""
+        day = self.planning.seat.day
+        words = ["check", day.instance, "-", "--explain", "--json", *day.barred_words()]
+        text = solution_of(self.planning.known.present())
+        try:
+            status, printed = Left(day, quiet=True).run(*words, text=text)
+            if status == 0:
+                return list(json.loads(printed.decode("utf-8", "surrogateescape"))["findings"])
+        except (OSError, ValueError, KeyError):
+            pass
+        raise Refused("the program does not tell what it finds")
+
+    def question(self) -> Optional[Question]:
+        """The findings by groups, the worst first, to be chosen from."""
+        try:
+            found = self.read()
+        except Refused as fault:
+            self.planning.notice = say("no findings", fault=fault.reason)
+            return None
+        found.sort(key=lambda one: (GROUPS.index(one["kind"]), -one.get("points", 0)))
+        timetable = self.planning.known.present()
+        choices = [self._choice(told(one), place_of(one, timetable)) for one in found]
+        choices.append((say("see gaps"), self.gaps))
+        points = sum(one.get("points", 0) for one in found)
+        return Question(say("findings", count=len(found), points=points), choices=choices)
+
+    def _choice(self, notice: Notice, place: Place) -> Choice:
+        def act() -> None:
+            self.go(*place)
+
+        return notice, act
+
+    def gaps(self) -> Question:
+        """Gaps in the days of curricula, and those that are worst off; they cost no points."""
+        timetable = self.planning.known.present()
+        gaps = gaps_of(timetable)
+        choices = [
+            self._choice(
+                say("worst off", curriculum=name, alone=alone, gaps=count),
+                Place(View("curriculum", name), None),
+            )
+            for name, alone, count in worst_off(timetable, gaps)
+        ]
+        choices += [
+            self._choice(
+                say("gaps", curriculum=gap.curriculum, day=gap.day, gaps=gap.free),
+                Place(View("curriculum", gap.curriculum), gap.slot),
+            )
+            for gap in sorted(gaps, key=lambda gap: -gap.free)
+        ]
+        return Question(say("gaps title", count=len(gaps)), choices=choices)
