@@ -59,7 +59,7 @@ class History(OfficeTest):
         self.at_geo()
         self.press("h", "enter", "t")
         told = text_of(self.board)
-        self.assertIn("2 edits made that take draft 2 back; none is committed yet.", told)
+        self.assertIn("Draft 2 is taken back by 2 edits; none is committed yet.", told)
         self.assertEqual(self.anna.edits(), ["move geo 1 2 A 0 1", "drop alg 1 1"])
         self.assertEqual(len(self.anna.minutes.entries), 2)
         self.anna.commit()

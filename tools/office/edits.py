@@ -16,7 +16,8 @@ WANTS = ("no memory", "no place")
 
 def is_edit(line: str) -> bool:
     """Whether a line is an edit by its first word."""
-    return words_of(line)[:1] in [[kind] for kind in LENGTHS]
+    words = words_of(line)
+    return bool(words) and words[0] in LENGTHS
 
 
 def courses_of(edit: str) -> list[str]:

@@ -1,7 +1,8 @@
 """Which drafts have changed what a planner looks at, and how one is taken back."""
 from __future__ import annotations
 
-from typing import List, Optional
+from functools import partial
+from typing import Callable, List, Optional, Tuple
 
 from office.costs import COSTS
 from office.drafts import Draft, exchanged, net
@@ -13,6 +14,7 @@ from office.shifts import Shift
 from office.taking_back import take_back
 from office.what import What
 
+Act = Callable[[], Optional[Question]]
 # so many lectures of a draft are said in a list of drafts
 FEW = 2
 
@@ -24,16 +26,19 @@ class History:
         self.planning = planning
         self._shifts: List[List[Shift]] = []
 
-    def drafts(self) -> List[Draft]:
-        """All in their order."""
-        news, found = self.planning.news, []
-        for one in news.accepted[len(self._shifts) :]:
+    def shifts(self) -> List[List[Shift]]:
+        """What each draft did, in their order."""
+        for one in self.planning.news.accepted[len(self._shifts) :]:
             self._shifts.append(net(one.all()))
-        for one, shifts in zip(news.accepted, self._shifts):
-            entry = one.entry
-            edits = entry.edits()
-            found.append(Draft(entry.number, entry.planner, *news.told(one), edits, shifts))
-        return found
+        return self._shifts
+
+    def draft(self, place: int) -> Draft:
+        """The draft at a place in their order."""
+        news = self.planning.news
+        accepted = news.accepted[place]
+        entry = accepted.entry
+        told, shifts = news.told(accepted), self.shifts()[place]
+        return Draft(entry.number, entry.planner, *told, entry.edits(), shifts)
 
     def who(self, draft: Draft) -> Notice:
         return say("named", name=draft.name) if draft.name else say("seat", planner=draft.planner)
@@ -41,13 +46,12 @@ class History:
     def of(self, what: What) -> Optional[Question]:
         """The drafts that have changed something, newest first, to be chosen from."""
         instance, row = self.planning.instance, f"{what.kind} {what.name}"
-        choices = []
-        for draft in reversed(self.drafts()):
-            touched = what.touched(instance, draft)
+        choices: List[Tuple[Notice, Act]] = []
+        for place, shifts in reversed(list(enumerate(self.shifts()))):
+            touched = [one for one in shifts if what.is_touched(instance, one)]
             if touched:
-                choices.append(
-                    (self.line(draft, touched), lambda draft=draft: self.shown(draft))
-                )
+                draft = self.draft(place)
+                choices.append((self.line(draft, touched), partial(self.shown, draft)))
         if not choices:
             self.planning.notice = say("never changed", row=row)
             return None
@@ -82,12 +86,12 @@ class History:
 
     def cost(self, draft: Draft) -> Notice:
         """What the timetable cost before and after a draft."""
-        entries = self.planning.minutes.entries[: draft.number]
+        planning, number = self.planning, draft.number
+        edits = [entry.edits() for entry in planning.minutes.entries[:number]]
         try:
-            found = play_costs(self.planning.seat.day, [entry.edits() for entry in entries])
+            before, after = play_costs(planning.seat.day, edits, number - 1)
         except Refused:
             return say("cost not known")
-        before, after = found[-2:]
         parts = [
             say("cost part", part=part, price=after[part] - before[part])
             for part in COSTS
@@ -99,7 +103,8 @@ class History:
     def take_back(self, draft: Draft) -> Optional[Question]:
         """Makes the inverse of a draft in the planner's own; says what stays as it is."""
         planning = self.planning
-        taken = take_back(planning, draft, self.drafts()[draft.number :])
+        later = map(self.draft, range(draft.number, len(self.shifts())))
+        taken = take_back(planning, draft, later)
         if taken is None:
             return None
         code = "draft taken back" if taken.made else "nothing taken back"

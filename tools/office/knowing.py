@@ -50,7 +50,7 @@ class Knowing:
         """The draft of a seat, as far as its client tells of it."""
         work = sitter.work
         if work is None:
-            return say("no draft known")
+            return say("no draft known") if sitter.is_there else NOTHING
         courses = list(dict.fromkeys(lecture.course for lecture in work.lectures))
         return say(
             "draft since",

@@ -2,7 +2,7 @@
 the timetable after any of them, as the program answers."""
 from __future__ import annotations
 
-from typing import Dict, Iterable, List, NamedTuple
+from typing import Dict, Iterable, List, NamedTuple, Sequence
 
 from office.costs import Costs, read_costs
 from office.folder import Day
@@ -49,10 +49,11 @@ def answers(day: Day, lines: List[str]) -> List[str]:
     return found
 
 
-def play_costs(day: Day, drafts: Iterable[Edits]) -> List[Costs]:
-    """What the timetable cost at the start, and after each of the first drafts of a day."""
-    lines = ["show cost"]
-    for edits in drafts:
+def play_costs(day: Day, drafts: Sequence[Edits], first: int = 0) -> List[Costs]:
+    """What the timetable cost after so many of the first drafts of a day, 0 for the start, and
+    after each of those that follow."""
+    lines = [line for edits in drafts[:first] for line in draft_lines(edits)] + ["show cost"]
+    for edits in drafts[first:]:
         lines += [*draft_lines(edits), "show cost"]
     found = answers(day, lines)
     return [read_costs(answer) for line, answer in zip(lines, found) if line == "show cost"]

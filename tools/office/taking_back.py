@@ -1,13 +1,14 @@
 """A draft is taken back: its inverse is made in the draft of a planner."""
 from __future__ import annotations
 
-from typing import Iterable, List, NamedTuple, Optional
+from typing import Dict, Iterable, List, NamedTuple, Optional
 
 from office.drafts import Draft
 from office.inverse import Kept, invert
 from office.notice import Notice, say
 from office.planning import Planning
 from office.shifts import Shift, all_shifts
+from office.timetable import Lecture
 
 
 class TakenBack(NamedTuple):
@@ -29,7 +30,7 @@ def take_back(planning: Planning, draft: Draft, later: Iterable[Draft]) -> Optio
     if inverse.edits and not planning.open():
         return None
     made: List[List[Shift]] = []
-    kept = [Kept(shift, by_whom(shift, why, later)) for shift, why in inverse.kept]
+    kept = by_whom(inverse.kept, later)
     for edit, shifts in zip(inverse.edits, all_shifts(inverse.edits, now)):
         if planning.edit(edit):
             made.append(shifts)
@@ -38,12 +39,19 @@ def take_back(planning: Planning, draft: Draft, later: Iterable[Draft]) -> Optio
     return TakenBack(made, kept)
 
 
-def by_whom(shift: Shift, why: Notice, later: Iterable[Draft]) -> Notice:
-    """Why a lecture stays, with the draft that has moved it on, if that is known."""
-    if why.code != "changed since":
-        return why
-    for draft in later:
-        if any(shift.was == one.was for one in draft.shifts):
-            who = draft.name or f"seat {draft.planner}"
-            return say("changed by", number=draft.number, who=who)
-    return why
+def by_whom(kept: List[Kept], later: Iterable[Draft]) -> List[Kept]:
+    """What stays, where others have changed it with the draft that did, if that is known."""
+    moved = [one.shift.was for one in kept if one.why.code == "changed since"]
+    found: Dict[Optional[Lecture], Draft] = {}
+    for draft in later if moved else ():
+        for shift in draft.shifts:
+            if shift.was in moved:
+                found.setdefault(shift.was, draft)
+    return [
+        Kept(one.shift, changed_by(found[one.shift.was])) if one.shift.was in found else one
+        for one in kept
+    ]
+
+
+def changed_by(draft: Draft) -> Notice:
+    return say("changed by", number=draft.number, who=draft.name or f"seat {draft.planner}")

@@ -53,6 +53,7 @@ class Work:
         earlier day are offered."""
         self.planning.begin()
         self.variants.begin()
+        self.history.shifts()
         seat, planning = self.planning.seat, self.planning
         edits = planning.edits() or planning.ended()
         if not seat.owner or not edits:
