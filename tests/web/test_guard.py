@@ -45,7 +45,7 @@ class Guarded(Shared):
             self.refused(421, method="GET", path="/", headers=[], host=host)
         port = self.address().split(":")[1]
         self.assertEqual(self.request("GET", "/", host=f"localhost:{port}")[0], 200)
-        self.assertIn(b"400", self.raw(b"GET / HTTP/1.1\r\n\r\n").split(b"\r\n")[0])
+        self.assertIn(b"421", self.raw(b"GET / HTTP/1.1\r\n\r\n").split(b"\r\n")[0])
 
     def test_origin(self):
         for origin in ("http://evil.example", "null", f"http://{self.address()}.evil", "http://"):
@@ -259,7 +259,7 @@ class Nights(WebTest):
         self.assertIn("served already", said)
 
     def test_socket(self):
-        """A socket by default, which is gone when the server ends; no header of a login at a port."""
+        """A socket by default, which goes with the server; no header of a login at a port."""
         self.open("day", SMALL, "1")
         server = self.serve("day", "--socket", self.path("s"))
         self.assertEqual(os.stat(self.path("s")).st_mode & 0o777, 0o660)
@@ -294,4 +294,4 @@ class Lacking(WebTest):
         self.assertEqual(status, 3)
         self.assertIn("apt-get install python3-tornado", said)
         self.assertFalse(os.path.exists(self.path("other")))
-        self.assertEqual(self.sit("day", 0, "show cost\n")[0], "costs 0 25 0 0")
+        self.assertEqual(self.sit("day", 0, "show cost\n")[0], "costs 0 20 0 0")

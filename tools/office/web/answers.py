@@ -266,6 +266,8 @@ class Picture:
             "room": carry.lecture.room if carry.lecture else None,
             "room_said": self.wording.short("room", carry.lecture.room) if carry.lecture else "",
             "best": best[0] if best else None,
+            # the place of the cheapest offer in its slot
+            "place": carry.at(best[0]).index(best[1]) if best else 0,
             "slots": [self.slot(carry, slot) for slot in self.planning.instance.slots()],
         }
 

@@ -1,7 +1,7 @@
 // What each key, button and drag does: it is asked of the office, with what was seen.
 import * as boxes from "./boxes.js";
 import { announce, find } from "./dom.js";
-import { heldSaid, heldShort } from "./held.js";
+import { chosen, heldSaid, heldShort } from "./held.js";
 import { openMenu } from "./menu.js";
 import { same } from "./numbers.js";
 import { toast } from "./toasts.js";
@@ -55,6 +55,7 @@ class Acts {
   }
 
   pickUp(slot, lecture = this.week.seen(slot), kind = "move") {
+    this.look.place = null;
     this.week.setCursor(slot, true);
     return this.hold("pick_up", { lecture, kind });
   }
@@ -62,8 +63,8 @@ class Acts {
   async place(course) {
     await this.turn("pick_up_missing", { course });
     const isDragging = document.body.classList.contains("dragging");
-    if (this.held?.best && !isDragging) this.week.setCursor(this.held.best, true);
-    this.look.drawTray();
+    if (this.held?.best && !isDragging) this.look.goTo(this.held.best, this.held.place);
+    else this.look.drawTray();
   }
 
   swap(slot, lecture) {
@@ -81,7 +82,8 @@ class Acts {
 
   drop(slot) {
     const offer = this.offerAt(slot);
-    return offer && this.putDown(slot, same(slot, this.held.at) ? null : offer.offers[0]);
+    const place = same(slot, this.week.cursor) ? this.look.place : null;
+    return offer && this.putDown(slot, chosen(this.held, offer, place));
   }
 
   async putDown(slot, offer) {
@@ -98,7 +100,7 @@ class Acts {
   }
 
   best() {
-    if (this.held?.best) this.look.goTo(this.held.best);
+    if (this.held?.best) this.look.goTo(this.held.best, this.held.place);
     else if (!this.held) return this.turn("best");
     return null;
   }

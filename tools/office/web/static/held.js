@@ -4,16 +4,13 @@ import { counted, kindOf, priceSaid, same, signed } from "./numbers.js";
 
 const preposition = (held) => (held.kind === "swap" ? "with" : "in");
 
-function more(count, word) {
+function more(count, ...label) {
   if (count <= 0) return null;
-  return el(
-    "button",
-    { type: "button", cls: "more", tabindex: "-1", "aria-label": `${count} more by price` },
-    `+${count}`,
-    el("span", { cls: "word" }, ` ${word}`),
-    " ▾"
-  );
+  const told = { type: "button", cls: "more", tabindex: "-1" };
+  return el("button", { ...told, "aria-label": `${count} more by price` }, label, " ▾");
 }
+
+const others = (count, word) => [`+${count}`, el("span", { cls: "word" }, ` ${word}`)];
 
 // what stands in the slot now
 function here(one, [kind]) {
@@ -28,20 +25,25 @@ function here(one, [kind]) {
   );
 }
 
+// where it comes from: it stays, unless the cheapest of all is another room there
 function homeParts(held, offer) {
   const count = offer.offers.filter(([, code]) => code !== held.room).length;
   const isSwap = held.kind === "swap";
   const word = isSwap ? "to swap rooms" : count === 1 ? "other room" : "other rooms";
+  const [price, , said] = offer.offers[held.place] || [];
+  const isBest = same(held.best, offer.at);
+  const label = isBest ? [signed(price), " ", name(said)] : others(count, word);
   return [
     el("div", { cls: "price same" }, isSwap ? "from here" : "stays"),
     el("div", { cls: "in" }, name(held.room_said)),
-    more(count, word),
+    more(count, ...label),
   ].filter(Boolean);
 }
 
 export function heldParts(cell, one, held, offer, view) {
   if (same(offer.at, held.at)) {
     cell.classList.add("home", "can");
+    cell.classList.toggle("best", same(held.best, offer.at));
     return homeParts(held, offer);
   }
   if (!offer.offers.length) {
@@ -58,18 +60,25 @@ export function heldParts(cell, one, held, offer, view) {
     ...(isSwap ? [] : here(one, view)),
     el("div", { cls: `price ${kindOf(price)}` }, signed(price)),
     el("div", { cls: "in" }, isSwap ? "with " : null, name(said)),
-    more(count, isSwap ? "more" : count > 1 ? "rooms" : "room"),
+    more(count, ...others(count, isSwap ? "more" : count > 1 ? "rooms" : "room")),
   ].filter(Boolean);
 }
 
-// the same in a sentence
-export function heldSaid(held, offer) {
-  if (same(offer.at, held.at)) return `${held.said} stays here`;
-  if (!offer.offers.length) return `not possible: ${offer.why}`;
-  const [price, , said] = offer.offers[0];
+// which offer of a slot is meant: none where it stays
+export function chosen(held, offer, place) {
+  if (place !== null) return offer.offers[place];
+  return same(offer.at, held.at) ? null : offer.offers[0];
+}
+
+// the same in a sentence; place is that of the offer that is meant, if one was chosen
+export function heldSaid(held, offer, place = null) {
+  const one = chosen(held, offer, place);
+  if (!one && same(offer.at, held.at)) return `${held.said} stays here`;
+  if (!one) return `not possible: ${offer.why}`;
+  const [price, , said] = one;
   const count = offer.offers.length - 1;
-  const others = count ? `, ${counted(count, "other choice")}` : "";
-  return `${priceSaid(price)}, ${preposition(held)} ${said}${others}`;
+  const rest = count ? `, ${counted(count, "other choice")}` : "";
+  return `${priceSaid(price)}, ${preposition(held)} ${said}${rest}`;
 }
 
 // the same beside the hand: its kind and a few letters

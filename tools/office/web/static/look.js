@@ -12,7 +12,8 @@ const legend = (cls, sign, text) => el("span", {}, el("span", { cls: `sign ${cls
 
 export class Look {
   constructor(app, week) {
-    Object.assign(this, { app, week, later: null });
+    // place is that of the offer that is meant in the cursor's slot, if one was chosen
+    Object.assign(this, { app, week, later: null, place: null });
   }
 
   get held() {
@@ -25,7 +26,8 @@ export class Look {
     if (this.week.isInside(slot)) this.goTo(slot);
   }
 
-  goTo(slot) {
+  goTo(slot, place = null) {
+    this.place = place;
     this.week.setCursor(slot, true);
     if (this.held) this.drawTray();
     else this.choose();
@@ -33,6 +35,7 @@ export class Look {
 
   // a mouse or a finger is over a slot
   hover(slot) {
+    this.place = null;
     this.week.setCursor(slot, false);
     if (this.held) this.drawTray();
   }
@@ -82,7 +85,7 @@ export class Look {
     fill(
       find("tray"),
       el("strong", {}, name(week.said(week.cursor))),
-      el("span", { cls: can ? "" : "no" }, name(heldSaid(held, offer))),
+      el("span", { cls: can ? "" : "no" }, name(heldSaid(held, offer, this.place))),
       el("span", { cls: "keys-hint" }, key("Enter"), " puts it down, ", key("Esc"), " leaves it")
     );
   }

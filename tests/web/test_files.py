@@ -1,0 +1,66 @@
+"""The files of the page: plain modules, short, and without anything from elsewhere."""
+import os
+import re
+import shutil
+import subprocess
+import unittest
+
+from served import HERE
+
+STATIC = os.path.join(HERE, "tools/office/web/static")
+PACKAGE = os.path.join(HERE, "tools/office/web")
+
+
+def lines_of(path):
+    with open(path, encoding="utf-8") as file:
+        return file.read().split("\n")
+
+
+class Files(unittest.TestCase):
+    def files(self, folder, ending):
+        return [os.path.join(folder, one) for one in os.listdir(folder) if one.endswith(ending)]
+
+    def test_short(self):
+        """So many lines and columns at most."""
+        for folder, ending, most in (
+            (STATIC, ".js", 250),
+            (STATIC, ".css", 350),
+            (STATIC, ".html", 350),
+            (PACKAGE, ".py", 350),
+        ):
+            found = self.files(folder, ending)
+            self.assertTrue(found)
+            for path in found:
+                lines = lines_of(path)
+                self.assertLess(len(lines), most + 2, path)
+                for number, line in enumerate(lines, 1):
+                    self.assertLessEqual(len(line), 100, f"{path}:{number}")
+                    self.assertEqual(line, line.rstrip(), f"{path}:{number}")
+                    self.assertNotIn("\t", line)
+
+    def test_nothing_from_elsewhere(self):
+        """No address of another host, no text set as markup, no script or style inside a page."""
+        for path in self.files(STATIC, ".js") + self.files(STATIC, ".html"):
+            text = "\n".join(lines_of(path))
+            self.assertIsNone(re.search(r"https?://(?!www\.w3\.org)", text), path)
+            for word in ("innerHTML", "outerHTML", "document.write", "eval(", "insertAdjacent"):
+                self.assertNotIn(word, text, path)
+        for path in self.files(STATIC, ".html"):
+            text = "\n".join(lines_of(path))
+            self.assertIsNone(re.search(r"<style|<script>|\sstyle=|\son[a-z]+=", text), path)
+
+    def test_imports(self):
+        """Each module takes in what there is, and each is needed."""
+        modules = {os.path.basename(path): path for path in self.files(STATIC, ".js")}
+        needed = {"seat.js", "reader.js"}
+        for path in modules.values():
+            for name in re.findall(r'from "\./([a-z]+\.js)"', "\n".join(lines_of(path))):
+                self.assertIn(name, modules, path)
+                needed.add(name)
+        self.assertEqual(needed, set(modules))
+
+    @unittest.skipUnless(shutil.which("node"), "node is not installed, so no module was parsed")
+    def test_parsed(self):
+        for path in self.files(STATIC, ".js"):
+            done = subprocess.run(["node", "--check", path], capture_output=True, text=True)
+            self.assertEqual((done.returncode, done.stderr), (0, ""))
