@@ -22,6 +22,10 @@ HELP = {
     "lay down": "leaves a lecture where it was, and goes back from a box.",
     "missing": "goes to the missing lectures: choose one, and put it down as one that was picked "
     "up.",
+    "variants": "lists what was put aside, with what each would save now; each can be made the "
+    "draft, compared with another, or thrown away.",
+    "findings": "lists what breaks a rule or costs points, the worst first, and gaps; each leads "
+    "where it is.",
     "next": "lists the rooms of a slot by price, of a swap the lectures to change places with.",
 }
 BUTTONS = {
@@ -36,6 +40,10 @@ BUTTONS = {
     "take over": "Go on with them",
     "leave to them": "Leave them",
     "pin": "Pin it",
+    "put aside": "Put them aside",
+    "take up": "Make it my draft",
+    "throw away": "Throw it away",
+    "compare": "Compare with…",
     "go on": "Go on all the same",
     "unpin": "Take the pin off",
 }
@@ -64,6 +72,8 @@ def keys_of(name: str) -> List[str]:
 def said_key(key: str) -> str:
     """A key as it is printed on a keyboard."""
     named = {"Escape": "Esc", " ": "Space"}
+    if len(key) == 1 and key.isupper():
+        return f"Shift {key}"
     return named.get(key, key.upper() if len(key) == 1 else key)
 
 

@@ -14,7 +14,7 @@ from office.planning import Planning
 from office.text import counted, shown
 from office.timetable import Lecture, Slot
 from office.web.actions import button
-from office.web.verbs import Shown
+from office.web.asking import Shown
 from office.week import Cell, View, by_slot, courses_of_view, of_view, weeks_of
 from office.wording import Wording
 from office.work import Work
@@ -115,7 +115,10 @@ class Picture:
 
     def data(self) -> Data:
         carry = self.work.carry
+        goal, self.work.goal = self.work.goal, None
         return {
+            # where to look, if something was chosen that stands there
+            "goal": goal,
             "state": self.state(),
             "week": self.week(),
             "held": self.held(carry) if carry else None,

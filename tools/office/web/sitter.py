@@ -15,7 +15,8 @@ from office.seat import DEAD, DeskEnded, NoAnswer, Seat, read_sitter
 from office.web.actions import key_table
 from office.web.answers import Frame, Picture, news_data, notice_data, question_data
 from office.web.guard import Fault
-from office.web.verbs import CHANGES, VERBS, Shown, Told, Turn
+from office.web.asking import WHY, Shown
+from office.web.verbs import CHANGES, VERBS, Told, Turn
 from office.web.windows import Window, Windows
 from office.work import Work
 
@@ -126,7 +127,8 @@ class Sitter:
         planning = Planning(seat, self.frame.instance)
         seat.waits = self._tell_waiting
         try:
-            self.first = Work(planning).begin()
+            work = Work(planning)
+            self.first, self.variants = work.begin(), work.variants
         except BaseException:
             seat.go()
             raise
@@ -148,6 +150,8 @@ class Sitter:
         assert self.planning is not None
         if window.shown is None or window.shown.planning is not self.planning:
             window.shown = Shown(self.planning)
+            # what was put aside is put aside at the seat
+            window.shown.work.variants = self.variants
         shown: Shown = window.shown
         return shown
 
@@ -183,7 +187,11 @@ class Sitter:
         elif self.first is not None and not self.first.can_wait:
             raise Fault(409, "first answer what is asked")
         if verb == "answer":
-            shown.ask(shown.answer(told))
+            answer, choice = told.data.get("answer"), told.data.get("choice")
+            typed = told.text("why", WHY)
+            question = shown.answer(told.number("question"), answer, choice, typed)
+            if question is not None:
+                shown.ask(question)
             return
         shown.ask(None)
         if verb != "close":

@@ -2,22 +2,22 @@
 that it has seen; edits are made of them here, of known names and ranges alone."""
 from __future__ import annotations
 
-from functools import partial
-from typing import Any, Callable, Dict, List, NamedTuple, Optional
+from typing import Any, Callable, Dict, List, Optional
 
 from office.carry import MOVE, SWAP, Offer
-from office.drafting import Box
 from office.instance import Instance
 from office.notice import Question, say
-from office.planning import Planning
 from office.timetable import Lecture, Slot
+from office.web.asking import Asking, Shown
 from office.web.guard import Fault
 from office.week import KINDS, View
 from office.work import Work
 
 Data = Dict[str, Any]
-# letters of a line that is typed by hand, and of a reason
-LINE, WHY = 500, 200
+# letters of a line that is typed by hand
+LINE = 500
+# actions beside which a lecture may be held
+LOOKS = ("edits", "history", "pin", "who", "findings")
 
 
 class Told:
@@ -81,52 +81,6 @@ class Told:
         if not isinstance(room, str) or room not in self.instance.rooms:
             raise Fault(400, "no room of this name")
         return Lecture(self.course(found.get("course")), room, *self._slot(found.get("at")))
-
-
-class Line(NamedTuple):
-    """A line that is to be typed for a question: what it is called, the answer with which it goes,
-    and what is done with it. What is confirmed before a commit is a box."""
-
-    label: str
-    answer: str
-    take: Callable[[str], Optional[Question]]
-    box: Optional[Box] = None
-
-
-class Shown:
-    """What a window has of a planner's work: a week, what is held, and what is asked."""
-
-    def __init__(self, planning: Planning) -> None:
-        self.planning = planning
-        self.work = Work(planning)
-        # what is asked, and what is to be typed for it, and the number under which it is
-        self.question: Optional[Question] = None
-        self.line: Optional[Line] = None
-        self.asked = 0
-        self.pictures = 0
-
-    def ask(self, question: Optional[Question], line: Optional[Line] = None) -> None:
-        """Keeps what is asked now, or that nothing is."""
-        self.question, self.line = question, line
-        self.asked += 1
-
-    def answer(self, told: Told) -> Optional[Question]:
-        """The answer to what is asked now; none to what was asked before."""
-        question, line, name = self.question, self.line, told.data.get("answer")
-        if question is None or told.number("question") != self.asked:
-            raise Fault(409, "this was asked before: look again")
-        choice = told.data.get("choice")
-        if line is not None and name == line.answer:
-            why = told.text("why", WHY)
-            act: Callable[[], Optional[Question]] = partial(line.take, why)
-        elif isinstance(name, str) and name in question.answers:
-            act = question.answers[name]
-        elif type(choice) is int and 0 <= choice < len(question.choices):
-            act = question.choices[choice][1]
-        else:
-            raise Fault(400, "no answer to this")
-        self.ask(None)
-        return act()
 
 
 class Turn:
@@ -200,14 +154,18 @@ class Turn:
 
     def act(self) -> Optional[Question]:
         """An action of the draft, by its name."""
-        drafting = self.work.drafting
+        drafting, asking = self.work.drafting, Asking(self.shown)
         acts: Dict[str, Callable[[], Optional[Question]]] = {
             "undo": drafting.undo,
             "history": lambda: self.work.drafts_of(self.told.lecture()),
-            "pin": self.pin,
+            "pin": lambda: asking.pin(self.told.lecture()),
             "who": self.work.knowing.who_is_where,
+            "undo undo": drafting.undo_undo,
+            "put aside": asking.put_aside,
+            "variants": asking.list_variants,
+            "findings": self.work.findings.question,
             "edits": drafting.edits,
-            "commit": self.show_box,
+            "commit": asking.show_box,
             "refresh": drafting.refresh,
             "redo": drafting.redo,
             "abandon": drafting.ask_abandon,
@@ -215,36 +173,9 @@ class Turn:
         name = self.told.data.get("name")
         if not isinstance(name, str) or name not in acts:
             raise Fault(400, "nothing of this name is done here")
-        if name not in ("edits", "history", "pin", "who"):
+        if name not in LOOKS:
             self.work.carry = None
         return acts[name]()
-
-    def show_box(self) -> None:
-        """Shows what a commit would publish, if there is anything to commit."""
-        drafting = self.work.drafting
-        box = drafting.box()
-        if box is not None:
-            label = "Why? (the others see it; it may stay empty)"
-            edits = box.edits
-            line = Line(label, "commit", lambda why: drafting.commit(edits, why), box)
-            self.shown.ask(Question(say("blank"), box.lines()), line)
-
-    def pin(self) -> Optional[Question]:
-        """Pins a lecture that was seen, or takes its pin off."""
-        lecture, knowing = self.told.lecture(), self.work.knowing
-        if lecture is None or not knowing.can_pin(lecture):
-            knowing.can_pin(lecture)
-            return None
-        question = knowing.ask_unpin(lecture)
-        if question is None:
-            pinned = lecture
-
-            def take(why: str) -> None:
-                knowing.pin(pinned, why)
-
-            title = say("edit words", shifts=[Shift(lecture, lecture)])
-            self.shown.ask(Question(title), Line("Why is it pinned?", "pin", take))
-        return question
 
 
 VERBS: Dict[str, Callable[[Turn], Optional[Question]]] = {

@@ -83,6 +83,7 @@ function take(found) {
     app.picture = found.picture;
     sessionStorage.setItem(VIEW, JSON.stringify(app.picture.week.view));
     app.waits = "";
+    if (found.picture.goal) week.setCursor(found.picture.goal, false);
     drawWeek();
     drawState();
     look.choose();
