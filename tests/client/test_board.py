@@ -4,6 +4,7 @@ import random
 import subprocess
 import sys
 import threading
+import unittest.mock
 
 from support import COMP07, COMP07_SOL, HERE, PROGRAM, SMALL, SMALL_SOL, OfficeTest, said
 
@@ -16,6 +17,7 @@ from office.edits import is_edit, read_prices  # noqa: E402
 from office.week import View  # noqa: E402
 from office.instance import read_instance, read_solution  # noqa: E402
 from office.minutes import read_minutes  # noqa: E402
+from office.overlays import CommitBox  # noqa: E402
 from office.text import cut, fit, shown, width, wrap  # noqa: E402
 from office.timetable import Timetable  # noqa: E402
 
@@ -45,6 +47,15 @@ KEYS += [
     "pageup",
     "pagedown",
     "\u6570",
+    "h",
+    "t",
+    "i",
+    "p",
+    "N",
+    "U",
+    "d",
+    "!",
+    "q",
     "resize",
     "",
 ]
@@ -86,6 +97,30 @@ class Drawn(OfficeTest):
         for row in rows:
             self.assertLessEqual(sum(width(text) for text, _ in row), max(columns, 21))
 
+    def watch_commits(self, board):
+        """No line `commit` is sent but by Enter in the box, with the edits that it showed."""
+        ask = board.planning.seat.ask
+
+        def watched(line):
+            if line.strip() == "commit":
+                self.assertIsNotNone(self.box)
+                self.assertEqual(self.box.box.edits, board.planning.edits())
+            return ask(line)
+
+        press, self.box = CommitBox.press, None
+
+        def press_box(box, key):
+            self.box = box if key == "enter" else None
+            try:
+                return press(box, key)
+            finally:
+                self.box = None
+
+        board.planning.seat.ask = watched
+        patch = unittest.mock.patch.object(CommitBox, "press", press_box)
+        patch.start()
+        self.addCleanup(patch.stop)
+
     def play(self, seed):
         """A day of two planners who press any keys."""
         draw = random.Random(seed)
@@ -94,12 +129,14 @@ class Drawn(OfficeTest):
         boards = [Board(self.planning("day", planner)) for planner in (0, 1)]
         for board in boards:
             board.begin()
+            self.watch_commits(board)
         for _ in range(STEPS):
             board = draw.choice(boards)
             if draw.random() < 0.05:
                 board.tick()
             else:
                 board.press(draw.choice(KEYS))
+            board.work.is_done = False
             self.check_rows(board, draw)
             self.assertEqual(said(board.planning.alarm), "")
         # no look of the screen is a call
@@ -223,19 +260,25 @@ class Shown(OfficeTest):
             ("drop geo 1 2", "done"),
             ("cost", "costs 15 0 2 1"),
             ("frob", "bad line"),
-            ("place geo A 1 2", "done"),
-            ("commit", "committed 1"),
+            ("place geo B 1 2", "done"),
         ]:
             for key in [":", *line, "enter"]:
                 board.press(key)
             self.assertIn(f"{line}: {answer}", text_of(board))
             self.assertEqual(said(board.planning.alarm), "")
+        # a commit has its box, also when it is typed
+        for key in [":", *"commit", "enter"]:
+            board.press(key)
+        self.assertIn("Why?", text_of(board))
+        self.assertEqual(board.planning.minutes.read_on(), [])
+        board.press("enter")
+        self.assertIn("Committed as draft 1: 2 edits", text_of(board))
         for key in [":", *"leave", "enter"]:
             board.press(key)
         self.assertTrue(board.is_done)
         board.planning.seat.go()
         self.assertEqual(
-            self.sit("day", 0, "show course geo\n"), ["lectures 2 geo A 0 1 geo A 1 2"]
+            self.sit("day", 0, "show course geo\n"), ["lectures 2 geo A 0 1 geo B 1 2"]
         )
 
     def test_asks_before_it_gives_up(self):

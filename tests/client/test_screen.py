@@ -61,7 +61,7 @@ class Screens(OfficeTest):
         self.assertEqual((status, line), (0, "day: 2 drafts accepted, the audit agrees"))
         self.assertRegex(
             self.office("log", self.path("day"))[1],
-            r"draft 1, ben at seat 1, [-0-9 :]+\n    c0014 .* <-> .*\n    cost .*\n"
+            r"draft 1, ben at seat 1, [-0-9 :]+: swap\n    c0014 .* <-> .*\n    cost .*\n"
             rf"draft 2, anna at seat 0, [-0-9 :]+\n    {SAID}\n    cost .*\n",
         )
 
@@ -70,7 +70,12 @@ class Screens(OfficeTest):
         anna.press("x")
         self.sees(anna, "missing 1", "draft open: 2 edits")
         anna.press("u")
-        self.sees(anna, "missing 0", "draft open: 1 edit,", "Taken back: c0109: taken out of day 5, period 4, r04.")
+        self.sees(
+            anna,
+            "missing 0",
+            "draft open: 1 edit,",
+            "Taken back: c0109: taken out of day 5, period 4, r04.",
+        )
         anna.press("e")
         self.sees(anna, "The edits of your draft: 1", f"1. {SAID}")
         anna.press("q")
@@ -141,7 +146,7 @@ class Screens(OfficeTest):
             "The desk has ended",
             "Your accepted drafts are on the disk: 1.",
             "  c0109: taken out of day 5, period 4",
-            "offered again",
+            "again after the next opening",
         )
         anna.press("c", "q")
         self.sees(anna, "office: the desk has ended; committed drafts are on the disk", "ended 3")
@@ -150,7 +155,11 @@ class Screens(OfficeTest):
         self.assertEqual(self.office("close", self.path("day"))[0], 0)
         self.open("next", "--after", self.path("day"))
         anna = self.sit_down("next", 0)
-        self.sees(anna, "1 edit of day not accepted: make them again?", "c0109: taken out of day 5, period 4")
+        self.sees(
+            anna,
+            "1 edit of day not accepted: make them again?",
+            "c0109: taken out of day 5, period 4",
+        )
         anna.press("y")
         self.sees(
             anna, "1 of 1 edits made again, none committed yet.", "draft open: 1 edit", "missing 1"
@@ -220,6 +229,49 @@ class Screens(OfficeTest):
             if "Not written" in anna.wait_settled():
                 break
         self.sees(anna, "Not written: the disk is full, or fails.")
+
+    def test_office_closes_over_a_draft(self):
+        """The farewell says what is true then: the next day offers the edits."""
+        self.open("day", SMALL, "1", "--start", SMALL_SOL)
+        anna = self.sit_down("day", 0)
+        self.sees(anna, "no draft open")
+        anna.press(":", "drop geo 1 2", "Enter")
+        self.sees(anna, "draft open: 1 edit")
+        closing = self.start("close", self.path("day"), "--wait", "3")
+        self.sees(anna, "1 edit not committed: the next day offers them", "--after", "ended 0")
+        self.assertNotIn("stays as it is", anna.text())
+        self.assertEqual(closing.wait(30), 0)
+
+    def test_alt(self):
+        """Alt with a key does nothing."""
+        self.open("day", SMALL, "1", "--start", SMALL_SOL)
+        anna = self.sit_down("day", 0)
+        self.sees(anna, "no draft open")
+        anna.press(":", "drop geo 1 2", "Enter")
+        self.sees(anna, "draft open: 1 edit")
+        anna.press("M-c", "M-x", "M-u", "M-q", "M-a")
+        self.assertIn("draft open: 1 edit", anna.wait_settled())
+        self.assertNotIn("Why?", anna.text())
+        anna.press("c")
+        self.sees(anna, "Why?")
+        anna.press("Escape")
+        self.sees(anna, "draft open: 1 edit")
+
+    def test_desk_does_not_answer(self):
+        """It is said, with the time, and one can leave."""
+        self.open("day", COMP07, "1", "--start", COMP07_SOL)
+        anna = self.sit_down("day", 0)
+        self.sees(anna, "no draft open")
+        desk = self.desk_of("day")
+        os.kill(desk, signal.SIGSTOP)
+        try:
+            anna.press(*TO_BEST)
+            self.sees(anna, "The desk has not answered for 2 s; q leaves")
+            anna.press("x", "q")
+            self.sees(anna, "office: you went away", "ended 0")
+        finally:
+            os.kill(desk, signal.SIGCONT)
+        self.assertEqual(self.sit("day", 0, "show missing\n")[-1], "missing 0")
 
     def test_seat_is_taken(self):
         self.open("day", SMALL, "1")

@@ -298,6 +298,8 @@ class Board:
         words = line.split()
         if words == ["leave"]:
             self.work.leave()
+        elif words == ["commit"]:
+            self.ask(self.free(self.show_box))
         elif words:
             self.ask(self.free(lambda: self.work.drafting.type_line(" ".join(words))))
 

@@ -10,6 +10,7 @@ from office.notice import Notice, Question, say
 from office.planning import Planning
 from office.seatlog import settle
 from office.shifts import Shift, shifts_of
+from office.words import words_of
 
 BLANK = say("blank")
 
@@ -178,7 +179,10 @@ class Drafting:
         self.planning.abandon()
 
     def type_line(self, line: str) -> Optional[Question]:
-        """Sends a line of the desk."""
+        """Sends a line of the desk. A commit has its box in each face."""
+        if words_of(line) == ["commit"]:
+            self.planning.notice = say("commit by its key")
+            return None
         self.planning.type_line(line)
         return self.explain_stale()
 

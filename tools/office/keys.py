@@ -75,7 +75,7 @@ ACTIONS = (
         "pins the lecture at the cursor, with a reason: others are asked before they pick it up; "
         "or takes the pin off. The desk refuses nothing for it.",
     ),
-    Action("who", "i", "", "lists who sits where, on what he works, and since when."),
+    Action("who", "i", "who", "lists who sits where, on what he works, and since when."),
     Action("undo", "u", "undo", "takes the last edit of the draft back."),
     Action(
         "edits",
@@ -107,7 +107,7 @@ ACTIONS = (
     Action(
         "put aside",
         "n",
-        "put aside",
+        "aside",
         "puts the edits of the draft aside under a name, and begins anew.",
     ),
     Action(
@@ -144,7 +144,7 @@ ANSWERS = (
     Action("make again", "r", "makes them again", ""),
     Action("go on", "y", "goes on all the same", ""),
     Action("take up", "enter", "makes it the draft", ""),
-    Action("compare", "d", "compares it with another", ""),
+    Action("compare", "d", "compares it", ""),
     Action("throw away", "x", "throws it away", ""),
     Action("unpin", "y", "takes it off", ""),
     Action("take back", "t", "takes it back in your draft", ""),
@@ -158,7 +158,7 @@ NAMED = {"enter": "Enter", "tab": "Tab", "backtab": "Shift-Tab", "escape": "Esca
 # the two rows of keys, free and with a lecture picked up
 FREE: Tuple[Tuple[str, ...], ...] = (
     ("pick up", "swap", "missing", "take out", "view", "weeks", "history"),
-    ("undo", "edits", "commit", "refresh", "redo", "abandon", "line", "help", "leave"),
+    ("undo", "edits", "commit", "refresh", "put aside", "findings", "who", "help", "leave"),
 )
 
 

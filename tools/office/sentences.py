@@ -60,6 +60,7 @@ DRAFT = {
     "refused": "Refused: {shifts}: {reason}.",
     "nothing to undo": "No draft is open: nothing to undo.",
     "taken back": "Taken back: {shifts}.",
+    "commit by its key": "A commit is seen before it is made: {key[commit]} shows it.",
     "nothing to commit": "No draft is open: nothing to commit.",
     "no edits": "Your draft has no edits: nothing to commit.",
     "committed": "Committed as draft {number}: {count:edit}, on the disk.{kept}",
