@@ -82,7 +82,7 @@ DRAFT = {
     "given up": "The draft is given up: {count:edit}.",
     "is open": "Your draft is open: if {key[commit]} or {key[refresh]} finds it stale, {key[redo]} "
     "makes its edits again.",
-    "made again": "{made} of {count:edit} made again, none committed yet.",
+    "made again": "{made} of {count} edits made again, none committed yet.",
     "left out": "{number}. {shifts}: {reason}",
     "as you left it": "Your draft is as you left it: {count:edit}.",
 }
