@@ -2,106 +2,19 @@
 of the wording alone."""
 from __future__ import annotations
 
-from typing import Any, Dict, List, Optional
+from typing import Any, Dict, List
 
 from office.carry import SWAP, Carry, Offer
-from office.costs import COSTS, read_costs
-from office.drafting import Box
-from office.instance import Instance
-from office.news import Accepted
-from office.notice import NOTHING, Notice, say
+from office.costs import read_costs
+from office.notice import NOTHING, say
 from office.planning import Planning
-from office.text import counted, shown
+from office.text import counted
 from office.timetable import Lecture, Slot
-from office.web.actions import button
-from office.web.asking import Shown
+from office.web.frame import Frame
 from office.week import Cell, View, by_slot, courses_of_view, of_view, weeks_of
-from office.wording import Wording
 from office.work import Work
 
 Data = Dict[str, Any]
-# hues that are told apart, in an order in which the first few lie far from each other
-HUES = (215, 30, 150, 275, 345, 95, 185, 55, 310, 245, 125, 0)
-
-
-def isolated(name: str) -> str:
-    """A name that does not turn round the words beside it, whichever way it is written."""
-    name = shown(name)
-    return name if name.isascii() else f"\N{FIRST STRONG ISOLATE}{name}\N{POP DIRECTIONAL ISOLATE}"
-
-
-def hues_of(instance: Instance) -> Dict[str, int]:
-    """A hue for each course, one that as few as can be of its teacher's and curricula's others
-    have, so that the cards of a week differ."""
-    hues: Dict[str, int] = {}
-    used = [0] * len(HUES)
-    for name in instance.courses:
-        near = [hues[mate] for mate in instance.mates[name] if mate in hues]
-        best = min(range(len(HUES)), key=lambda place: (near.count(HUES[place]), used[place]))
-        hues[name] = HUES[best]
-        used[best] += 1
-    return hues
-
-
-class Frame:
-    """What is said alike at each seat: the instance, its colours, and the words."""
-
-    def __init__(self, instance: Instance, wording: Wording) -> None:
-        self.instance, self.wording = instance, wording
-        self.hues = hues_of(instance)
-
-    def told(self) -> Data:
-        """Days, periods, slots and names, with which a window begins."""
-        instance, wording = self.instance, self.wording
-        days, periods = range(instance.days), range(instance.periods)
-        named = {
-            "curriculum": instance.curricula,
-            "teacher": instance.teachers,
-            "room": instance.rooms,
-            "course": instance.courses,
-        }
-        return {
-            "days": [wording.day(day) for day in days],
-            "periods": [wording.period(period) for period in periods],
-            "slots": [[wording.slot((day, period)) for period in periods] for day in days],
-            "named": {
-                kind: [[code, wording.name(kind, code)] for code in codes]
-                for kind, codes in named.items()
-            },
-        }
-
-    def course(self, code: str) -> Data:
-        course = self.instance.courses[code]
-        return {
-            "course": code,
-            "said": self.wording.short("course", code),
-            "hue": self.hues[code],
-            "teacher_said": self.wording.short("teacher", course.teacher),
-            "students": course.students,
-        }
-
-    def lecture(self, lecture: Lecture) -> Data:
-        return {
-            **self.course(lecture.course),
-            "room": lecture.room,
-            "room_said": self.wording.short("room", lecture.room),
-        }
-
-    def brief(self, lecture: Lecture) -> str:
-        """A lecture in two words."""
-        course, room = lecture.course, lecture.room
-        return f"{self.wording.short('course', course)} {self.wording.short('room', room)}"
-
-    def about(self, view: View) -> str:
-        """Whose week it is, in a few words."""
-        instance, wording = self.instance, self.wording
-        if view.kind == "room":
-            return counted(instance.rooms[view.name], "seat")
-        if view.kind == "course":
-            course = instance.courses[view.name]
-            teacher = wording.name("teacher", course.teacher)
-            return f"{counted(course.students, 'student')}, teacher {teacher}"
-        return counted(len(courses_of_view(instance, view)), "course")
 
 
 class Picture:
@@ -285,60 +198,3 @@ class Picture:
     def offer(self, carry: Carry, offer: Offer) -> List[Any]:
         kind = "course" if carry.kind == SWAP else "room"
         return [offer.price, offer.about, self.wording.short(kind, offer.about)]
-
-
-def notice_data(wording: Wording, notice: Notice) -> Data:
-    return {"code": notice.code, "text": wording.notice(notice), "isBad": notice.is_bad}
-
-
-def question_data(wording: Wording, shown: Shown) -> Optional[Data]:
-    """What is to be read, answered, chosen or typed, with a button an answer."""
-    question, line = shown.question, shown.line
-    if question is None:
-        return None
-    lines = [one for one in question.lines if one.code != "box change"]
-    answers = [*question.answers, *([line.answer] if line else [])]
-    found: Data = {
-        "number": shown.asked,
-        "title": wording.notice(question.title),
-        "lines": [{"code": one.code, "text": wording.notice(one)} for one in lines],
-        "answers": [{"name": name, "said": button(name)} for name in answers],
-        "choices": wording.lines([told for told, _ in question.choices]),
-        "canWait": question.can_wait,
-    }
-    if line is not None:
-        found["why"] = {"label": line.label}
-    if line is not None and line.box is not None:
-        found["title"] = f"Commit {counted(len(line.box.edits), 'edit')}?"
-        found["costs"] = cost_rows(line.box)
-    return found
-
-
-def cost_rows(box: Box) -> List[Data]:
-    """The costs before and after a commit, part by part, and their sums."""
-    before = box.before or None
-    rows = [
-        {"label": part, "was": before[part] if before else None, "now": box.after[part]}
-        for part in COSTS
-    ]
-    was = sum(before.values()) if before else None
-    return [*rows, {"label": "total", "was": was, "now": sum(box.after.values())}]
-
-
-def news_data(planning: Planning, wording: Wording, accepted: Accepted) -> Data:
-    """An accepted draft."""
-    news, entry = planning.news, accepted.entry
-    told = news.told(accepted)
-    who = wording.notice(news.who(accepted))
-    edits = [wording.shifts(shifts) for shifts in accepted.shifts]
-    slots = {slot for shift in accepted.all() for slot in shift.slots()}
-    return {
-        "number": entry.number,
-        "seat": entry.planner,
-        "who": who,
-        "when": told.time[11:16],
-        "why": wording.safe(told.why),
-        "edits": edits,
-        "slots": sorted(slots),
-        "text": f"{who} committed draft {entry.number}: {'; '.join(edits)}",
-    }

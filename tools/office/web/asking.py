@@ -2,10 +2,10 @@
 from __future__ import annotations
 
 from functools import partial
-from typing import Any, Callable, Dict, List, NamedTuple, Optional
+from typing import Any, Callable, Dict, List, NamedTuple, Optional, Tuple
 
 from office.drafting import Box
-from office.notice import Question, say
+from office.notice import Notice, Question, say
 from office.planning import Planning
 from office.shifts import shifts_of
 from office.timetable import Lecture
@@ -13,6 +13,8 @@ from office.variants import Variant
 from office.web.guard import Fault
 from office.work import Work
 
+Act = Callable[[], Optional[Question]]
+Choice = Tuple[Notice, Act]
 # letters of a reason, and of a name of what is put aside
 WHY = 200
 
@@ -50,7 +52,7 @@ class Shown:
         if question is None or number != self.asked:
             raise Fault(409, "this was asked before: look again")
         if line is not None and name == line.answer:
-            act: Callable[[], Optional[Question]] = partial(line.take, typed)
+            act: Act = partial(line.take, typed)
         elif isinstance(name, str) and name in question.answers:
             act = question.answers[name]
         elif type(choice) is int and 0 <= choice < len(question.choices):
@@ -116,24 +118,24 @@ class Asking:
             self.work.notice = say("no variants")
             return None
         found = variants.listed()
-        choices = [(one.told(), partial(self.variant, one, found)) for one in found]
+        choices: List[Choice] = [(one.told(), partial(self.variant, one, found)) for one in found]
         return Question(say("variants"), choices=choices)
 
     def variant(self, one: Variant, found: List[Variant]) -> Question:
         """What can be done with something that was put aside."""
         variants = self.work.variants
         lines = [say("edit line", shifts=shifts_of(edit)) for edit in one.edits]
-        answers: Dict[str, Callable[[], Optional[Question]]] = {
+        answers: Dict[str, Act] = {
             "take up": partial(variants.take_up, one.name),
             "throw away": partial(self.throw_away, one.name),
         }
-        others = [
+        others: List[Choice] = [
             (other.told(), partial(variants.compare, one, other))
             for other in found
             if other is not one
         ]
         if others:
-            answers["compare"] = lambda: Question(say("variants"), choices=list(others))
+            answers["compare"] = lambda: Question(say("variants"), choices=others)
         return Question(one.told(), lines, answers)
 
     def throw_away(self, name: str) -> None:

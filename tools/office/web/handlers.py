@@ -96,7 +96,7 @@ class Page(Handler):
         self.set_header("Cache-Control", "no-cache")
         self.write(file.body)
 
-    head = get  # type: ignore[assignment]
+    head = get
 
 
 class Asking(Handler):

@@ -7,7 +7,7 @@ from office.folder import Day
 from office.instance import Instance, read_solution
 from office.minutes import Minutes
 from office.timetable import Timetable
-from office.web.answers import Frame
+from office.web.frame import Frame
 from office.web.guard import Fault
 from office.web.verbs import Told
 from office.web.windows import Window, Windows

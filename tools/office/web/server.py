@@ -21,7 +21,7 @@ from office.folder import Day
 from office.label_files import read_labels
 from office.refused import Refused
 from office.web.actions import KeyNames
-from office.web.answers import Frame, isolated
+from office.web.frame import Frame, PageWording, isolated
 from office.web.guard import BODY, HEAD, Guard, read_logins
 from office.web.handlers import application
 from office.web.keys import READER, file_of, links_of, lock_server, read_keys
@@ -30,7 +30,6 @@ from office.web.pages import read_pages
 from office.web.readers import Readers
 from office.web.sitter import Sitter
 from office.web.windows import Window
-from office.wording import Wording
 
 # seconds in which a head and a body have to come, and between two looks for news
 COMES, TICK = 10.0, 0.25
@@ -66,7 +65,7 @@ class Listener(tornado.httpserver.HTTPServer):
 
     connections: Connections
 
-    def handle_stream(self, stream: IOStream, address: Any) -> None:  # type: ignore[override]
+    def handle_stream(self, stream: IOStream, address: Any) -> None:
         self.connections.begin(stream)
         super().handle_stream(stream, address)
 
@@ -78,7 +77,7 @@ class Office:
         self.day, self.guard = day, guard
         self.pages = read_pages()
         self.connections = Connections()
-        wording = Wording(KeyNames(), read_labels(day.path), isolated)
+        wording = PageWording(KeyNames(), read_labels(day.path), isolated)
         frame = Frame(instance_of(day), wording)
         self.readers = Readers(day, frame)
         self.sitters = [Sitter(day, planner, frame) for planner in range(day.facts()["planners"])]

@@ -13,9 +13,11 @@ from office.planning import Planning
 from office.refused import Refused
 from office.seat import DEAD, DeskEnded, NoAnswer, Seat, read_sitter
 from office.web.actions import key_table
-from office.web.answers import Frame, Picture, news_data, notice_data, question_data
-from office.web.guard import Fault
+from office.web.answers import Picture
 from office.web.asking import WHY, Shown
+from office.web.frame import Frame
+from office.web.guard import Fault
+from office.web.telling import news_data, notice_data, question_data
 from office.web.verbs import CHANGES, VERBS, Told, Turn
 from office.web.windows import Window, Windows
 from office.work import Work
@@ -170,7 +172,7 @@ class Sitter:
         if shown.work.is_done:
             self._go()
             return {"left": True, "others": [(one, {"left": True}) for one in self._others(window)]}
-        found = {
+        found: Data = {
             "notice": self._notice(cost),
             "question": question_data(self.frame.wording, shown),
             "picture": self._picture(shown),

@@ -48,7 +48,7 @@ function draftSaid(draft, ended) {
   if (ended.length) return pill("draft not accepted", "bad");
   if (!draft) return pill("no draft open");
   return [
-    draft.foretold ? pill(draft.foretold, "bad") : null,
+    draft.foretold ? pill("stale by now", "bad") : null,
     pill(`your draft: ${counted(draft.edits.length, "edit")}`, "open"),
     draft.behind ? pill(`${draft.behind} accepted since`) : null,
   ];

@@ -1,0 +1,102 @@
+"""What is said alike at each seat: the words, the colours of courses, and what has a name."""
+from __future__ import annotations
+
+from typing import Any, Dict, Iterable, Sequence
+
+from office.instance import Instance
+from office.shifts import Shift
+from office.text import counted, shown
+from office.timetable import Lecture
+from office.week import View, courses_of_view
+from office.wording import Wording
+
+Data = Dict[str, Any]
+# hues that are told apart, in an order in which the first few lie far from each other
+HUES = (215, 30, 150, 275, 345, 95, 185, 55, 310, 245, 125, 0)
+
+
+def isolated(name: str) -> str:
+    """A name that does not turn round the words beside it, whichever way it is written."""
+    name = shown(name)
+    return name if name.isascii() else f"\N{FIRST STRONG ISOLATE}{name}\N{POP DIRECTIONAL ISOLATE}"
+
+
+class PageWording(Wording):
+    """Words with arrows at which no line is broken."""
+
+    def shifts(self, shifts: Sequence[Shift]) -> str:
+        return super().shifts(shifts).replace(" -> ", " → ").replace(" <-> ", " ⇄ ")
+
+
+def hues_of(instance: Instance) -> Dict[str, int]:
+    """A hue for each course, one that as few as can be of its teacher's and curricula's others
+    have, so that the cards of a week differ."""
+    hues: Dict[str, int] = {}
+    used = [0] * len(HUES)
+    for name in instance.courses:
+        near = [hues[mate] for mate in instance.mates[name] if mate in hues]
+        best = min(range(len(HUES)), key=lambda place: (near.count(HUES[place]), used[place]))
+        hues[name] = HUES[best]
+        used[best] += 1
+    return hues
+
+
+class Frame:
+    """What is said alike at each seat: the instance, its colours, and the words."""
+
+    def __init__(self, instance: Instance, wording: Wording) -> None:
+        self.instance, self.wording = instance, wording
+        self.hues = hues_of(instance)
+
+    def told(self) -> Data:
+        """Days, periods, slots and names, with which a window begins."""
+        instance, wording = self.instance, self.wording
+        days, periods = range(instance.days), range(instance.periods)
+        named: Dict[str, Iterable[str]] = {
+            "curriculum": instance.curricula,
+            "teacher": instance.teachers,
+            "room": instance.rooms,
+            "course": instance.courses,
+        }
+        return {
+            "days": [wording.day(day) for day in days],
+            "periods": [wording.period(period) for period in periods],
+            "slots": [[wording.slot((day, period)) for period in periods] for day in days],
+            "named": {
+                kind: [[code, wording.name(kind, code)] for code in codes]
+                for kind, codes in named.items()
+            },
+        }
+
+    def course(self, code: str) -> Data:
+        course = self.instance.courses[code]
+        return {
+            "course": code,
+            "said": self.wording.short("course", code),
+            "hue": self.hues[code],
+            "teacher_said": self.wording.short("teacher", course.teacher),
+            "students": course.students,
+        }
+
+    def lecture(self, lecture: Lecture) -> Data:
+        return {
+            **self.course(lecture.course),
+            "room": lecture.room,
+            "room_said": self.wording.short("room", lecture.room),
+        }
+
+    def brief(self, lecture: Lecture) -> str:
+        """A lecture in two words."""
+        course, room = lecture.course, lecture.room
+        return f"{self.wording.short('course', course)} {self.wording.short('room', room)}"
+
+    def about(self, view: View) -> str:
+        """Whose week it is, in a few words."""
+        instance, wording = self.instance, self.wording
+        if view.kind == "room":
+            return counted(instance.rooms[view.name], "seat")
+        if view.kind == "course":
+            course = instance.courses[view.name]
+            teacher = wording.name("teacher", course.teacher)
+            return f"{counted(course.students, 'student')}, teacher {teacher}"
+        return counted(len(courses_of_view(instance, view)), "course")
