@@ -8,6 +8,7 @@ import re
 import signal
 import socket
 import sys
+import time
 import unittest
 
 HERE = os.path.dirname(os.path.dirname(os.path.dirname(os.path.abspath(__file__))))
@@ -53,11 +54,14 @@ class WebTest(OfficeTest):
     """A test with days that are served. What takes longer hangs."""
 
     def run(self, result=None):
+        begun = time.monotonic()
         signal.alarm(PATIENCE)
         try:
             return super().run(result)
         finally:
             signal.alarm(0)
+            if os.environ.get("VERBOSE"):
+                print(f"{time.monotonic() - begun:5.1f} s  {self.id()}", flush=True)
 
     def serve(self, day, *words):
         """Serves the seats of a day, and answers their links by what they are of."""

@@ -25,7 +25,10 @@ from office.work import Work
 # so many requests of a seat may wait for their turn; a seat without a window is left after so many
 # seconds; so many drafts are told when a window begins; letters of a name
 WAIT, IDLE, DRAFTS, NAME = 16, 30.0, 40, 40
-FAREWELL = "The office has closed: what you have committed is on the disk."
+FAREWELL = (
+    "The office has closed: what you have committed is on the disk, and open edits are offered "
+    "again on the next day."
+)
 Data = Dict[str, Any]
 
 

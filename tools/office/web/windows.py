@@ -21,7 +21,7 @@ class Window:
         self.windows, self.name = windows, name
         # what the face of the model keeps for this window
         self.shown: Any = None
-        self.is_listening = False
+        self.is_listening = self.is_ending = False
         self.met = time.monotonic()
         self._events: Deque[Data] = deque()
         self._woken = asyncio.Event()
@@ -36,13 +36,21 @@ class Window:
 
     async def next_event(self, seconds: float) -> Optional[Data]:
         """The next event; nothing after so many seconds; None if the window has gone."""
-        if not self._events:
+        if not self._events and not self.is_ending:
             try:
                 await asyncio.wait_for(self._woken.wait(), seconds)
             except asyncio.TimeoutError:
                 return {}
         self._woken.clear()
-        return self._events.popleft() if self._events else None
+        if self._events:
+            return self._events.popleft()
+        return None if self.is_ending or not self.is_listening else {}
+
+    def end_soon(self) -> None:
+        """The window is let go when it has heard what there is to be heard."""
+        self.is_ending = True
+        self._woken.set()
+        self.windows.forget(self)
 
     def end(self) -> None:
         """The window has gone, or listens no more."""
@@ -100,7 +108,7 @@ class Windows:
 
     def end_all(self) -> None:
         for window in self.all():
-            window.end()
+            window.end_soon()
 
     def idle_for(self) -> float:
         """For how many seconds nobody listens here."""

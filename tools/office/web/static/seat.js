@@ -29,8 +29,9 @@ const app = {
   recent: new Map(),
   closes: null,
   isOver: false,
-  // why nothing can be done now
+  // why nothing can be done now, and what the office said of it
   lost: "",
+  fault: "",
   waits: "",
 };
 const LEFT = "You have left the seat: load this page anew to sit down.";
@@ -127,7 +128,7 @@ function queue(act) {
 function hear(event) {
   if (event.people) side.drawPeople(event.people, app.day);
   if (event.closes !== undefined) app.closes = event.closes;
-  if (event.fault) app.lost = event.fault;
+  if (event.fault) app.lost = app.fault = event.fault;
   if (event.waits) app.waits = event.waits;
   if (event.over) app.isOver = true;
   if (event.left) leave();
@@ -152,7 +153,7 @@ function tellNews(one) {
 }
 
 function lost(fault) {
-  app.lost = fault.message;
+  app.lost = app.fault || fault.message;
   document.body.classList.add("lost");
   drawBanner();
 }
@@ -177,7 +178,7 @@ async function begin() {
     found = await ask("hello", told);
   }
   const isFirst = app.day === null;
-  Object.assign(app, { day: found, news: found.news, closes: found.closes, lost: "" });
+  Object.assign(app, { day: found, news: found.news, closes: found.closes, lost: "", fault: "" });
   app.picture = null;
   document.body.classList.remove("lost");
   if (isFirst) build(found);
