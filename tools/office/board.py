@@ -252,12 +252,11 @@ class Board:
     def pin(self) -> Optional[Question]:
         """Pins a lecture, or takes its pin off."""
         lecture, knowing = self.seen(), self.work.knowing
-        if lecture is None or not knowing.can_pin(lecture):
-            knowing.can_pin(lecture)
+        if not knowing.can_pin(lecture) or lecture is None:
             return None
-        question = knowing.ask_unpin(lecture)
+        question, seen = knowing.ask_unpin(lecture), lecture
         if question is None:
-            self.overlay = Typed("Why is it pinned? ", lambda why: knowing.pin(lecture, why))
+            self.overlay = Typed("Why is it pinned? ", lambda why: knowing.pin(seen, why))
         return question
 
     def begin_carry(self, question: Optional[Question]) -> Optional[Question]:

@@ -11,7 +11,6 @@ from office.notice import NOTHING, Notice, say
 from office.processes import now
 from office.reading import Reading
 from office.reasons import reason
-from office.seatlog import read_past
 from office.shifts import shifts_of
 from office.words import words_of
 
@@ -136,8 +135,7 @@ class Planning(Reading):
 
     def keep_notes(self) -> None:
         """Writes what a client that died has not written of its commits."""
-        past = read_past(self.seat.day.log(self.seat.planner))
-        notes = read_commit_notes(self.seat.day)
+        past, notes = self.seat.past, read_commit_notes(self.seat.day)
         for number, (time, name) in past.commits.items():
             if number not in notes and past.whys.get(number):
                 self._keep_note(number, time, name, past.whys[number])

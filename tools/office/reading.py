@@ -18,7 +18,6 @@ from office.notice import NOTHING, Notice, say
 from office.processes import now
 from office.refused import Refused
 from office.seat import Seat
-from office.seatlog import read_past
 from office.shifts import Shift, all_shifts, shifts_of, take_back
 from office.timetable import Lecture, Timetable, read_lectures
 from office.words import words_of
@@ -195,7 +194,7 @@ class Reading:
     def _resume(self) -> None:
         """Takes up a draft that was left open."""
         self.take_up_draft()
-        self.base_total = read_past(self.seat.day.log(self.seat.planner)).base
+        self.base_total = self.seat.past.base
         self.notice = say("as you left it", count=len(self.edits()))
 
     def ask(self, line: str) -> str:

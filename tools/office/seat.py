@@ -76,7 +76,8 @@ class Seat:
         self._lock = self._take_lock()
         self._lines, self.answers = self._open_pipes()
         self.log = SeatLog(day.log(planner))
-        past = read_past(day.log(planner))
+        # what the log said when this client had heard what was under way
+        self.past = past = read_past(day.log(planner))
         self.story, self.waiting, self.offer = past.story, past.waiting, past.offer
         # whose draft is here, if it is somebody else's
         self.owner = past.owner() if past.owner() != self.name else ""
@@ -210,6 +211,8 @@ class Seat:
             raise NoAnswer
         for line in heard:
             self.take(line)
+        if heard:
+            self.past = read_past(self.day.log(self.planner))
         if self.waiting:
             self.log.noted(f"unsent {len(self.waiting)}")
             self.waiting.clear()

@@ -49,7 +49,7 @@ class Variants:
     def begin(self) -> None:
         """Reads what was put aside at this seat, today or on the last day that has any."""
         seat = self.planning.seat
-        past = read_past(seat.day.log(seat.planner))
+        past = seat.past
         self.kept = past.variants
         if past.has_variants:
             return

@@ -157,9 +157,8 @@ class Work:
         if lecture is None:
             self.notice = say("no lecture")
         elif self.is_there(lecture):
-            return self.knowing.ask_pinned(
-                lecture, lambda: self._carry(kind, lecture.course, lecture)
-            )
+            seen = lecture
+            return self.knowing.ask_pinned(seen, lambda: self._carry(kind, seen.course, seen))
         return None
 
     def pick_up_missing(self, course: str) -> Optional[Question]:
@@ -236,7 +235,8 @@ class Work:
         if self.carry or lecture is None:
             self.notice = say("lecture first")
         elif self.is_there(lecture):
-            return self.knowing.ask_pinned(lecture, lambda: self._drop(lecture))
+            seen = lecture
+            return self.knowing.ask_pinned(seen, lambda: self._drop(seen))
         return None
 
     def _drop(self, lecture: Lecture) -> None:
