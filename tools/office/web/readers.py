@@ -1,6 +1,7 @@
 """Those who read: the timetable as it stands, without seats, logs or reasons."""
 from __future__ import annotations
 
+import contextlib
 from typing import Any, Dict, Optional
 
 from office.folder import Day
@@ -45,10 +46,12 @@ class Readers:
         told = Told(self.instance, data)
         if verb not in ("hello", "show"):
             raise Fault(403, "who reads changes nothing")
-        if verb == "show" or data.get("view") is not None:
-            window.shown = told.view()
         if verb == "show":
+            window.shown = told.view()
             return {"picture": self.picture(window)}
+        # a page that comes back may be one of another day
+        with contextlib.suppress(Fault):
+            window.shown = told.view()
         return {**self.frame.told(), "picture": self.picture(window)}
 
     def picture(self, window: Window) -> Data:

@@ -3,9 +3,11 @@ else. All windows of a seat share its draft."""
 from __future__ import annotations
 
 import asyncio
+import contextlib
 from concurrent.futures import ThreadPoolExecutor
 from typing import Any, Callable, Dict, List, Optional
 
+from office.carry import MOVE, PLACE, SWAP
 from office.costs import COSTS
 from office.folder import Day, is_locked
 from office.notice import NOTHING, Question, say
@@ -98,10 +100,11 @@ class Sitter:
             self._sit(name)
         shown = self._shown(window)
         planning = shown.planning
-        if data.get("view") is not None:
+        # a page that comes back may be one of another day
+        with contextlib.suppress(Fault):
             shown.work.show(told.view())
-        if data.get("held") is not None:
-            self._hold_again(shown, Told(self.frame.instance, data["held"]))
+        with contextlib.suppress(Fault):
+            self._hold_again(shown, data.get("held"))
         if self.first is not None:
             shown.ask(self.first)
         news = planning.news.accepted[-DRAFTS:]
@@ -118,14 +121,15 @@ class Sitter:
             "notice": self._notice(),
         }
 
-    def _hold_again(self, shown: Shown, told: Told) -> None:
+    def _hold_again(self, shown: Shown, held: Any) -> None:
         """What was held when this server was another one is held again."""
-        kind = told.data.get("kind")
-        if kind == "place":
-            shown.work.pick_up_missing(told.course(told.data.get("course")))
-        elif kind in ("move", "swap"):
-            seen = Told(told.instance, {"lecture": told.data}).lecture()
-            shown.work.pick_up(seen, kind)
+        if not isinstance(held, dict) or shown.work.carry is not None:
+            return
+        told = Told(self.frame.instance, {"lecture": held})
+        if held.get("kind") == PLACE:
+            shown.work.pick_up_missing(told.course(held.get("course")))
+        elif held.get("kind") in (MOVE, SWAP):
+            shown.work.pick_up(told.lecture(), held["kind"])
 
     def _sit(self, name: str) -> None:
         seat = Seat(self.day, self.planner, name)

@@ -179,8 +179,10 @@ export function makeActs(parts) {
     hover: (slot) => raw.look.hover(slot),
     go: (days, periods) => raw.look.go(days, periods),
     goTo: (slot) => raw.look.goTo(slot),
-    // at once, so that a box is never open in vain
-    closeQuestion: (question) => raw.turn("close", { question }),
+    closeQuestion: (question) => {
+      raw.app.question = null;
+      return raw.queue(() => raw.turn("close", { question }));
+    },
   };
   for (const name of QUEUED) acts[name] = (...told) => raw.queue(() => raw[name](...told));
   acts.more = (slot) => acts.rooms(slot, raw.week.seen(slot));

@@ -43,7 +43,7 @@ function field(id, label, more, go) {
 }
 
 // who sits down; a promise of the name
-export function askName({ seat, last }) {
+export function askName({ seat, last }, proposed) {
   return new Promise((done) => {
     const go = () => {
       const given = find("name").value.trim();
@@ -51,7 +51,8 @@ export function askName({ seat, last }) {
       close();
       done(given);
     };
-    const more = { maxlength: "40", value: last, autofocus: true, autocomplete: "name" };
+    const value = last || proposed;
+    const more = { maxlength: "40", value, autofocus: true, autocomplete: "name" };
     const told =
       `This link is seat ${seat} of the day. ` +
       "Your name is shown to the other planners, and is in the log.";

@@ -21,9 +21,9 @@ export class Look {
   }
 
   go(days, periods) {
-    const [day, period] = this.week.cursor;
-    const slot = [day + days, period + periods];
-    if (this.week.isInside(slot)) this.goTo(slot);
+    const { cursor, days: all, periods: rows } = this.week;
+    const inside = (at, count) => Math.max(0, Math.min(count - 1, at));
+    this.goTo([inside(cursor[0] + days, all.length), inside(cursor[1] + periods, rows.length)]);
   }
 
   goTo(slot, place = null) {

@@ -169,11 +169,13 @@ function where() {
 }
 
 async function begin() {
-  const told = { name: localStorage.getItem(NAME) || "", ...where() };
+  const told = { name: sessionStorage.getItem(NAME) || "", ...where() };
   let found = await ask("hello", told);
   while (found.wants) {
     drawBanner();
-    told.name = await boxes.askName(found);
+    told.name = await boxes.askName(found, localStorage.getItem(NAME) || "");
+    // for the next time that this tab comes back, and as what another one proposes
+    sessionStorage.setItem(NAME, told.name);
     localStorage.setItem(NAME, told.name);
     found = await ask("hello", told);
   }
