@@ -258,11 +258,12 @@ class InABrowser(Publishing):
                 self.assertEqual((found["loaded"], found["items"]), (0, 8))
         # typing narrows it, also without an accent, and Enter goes to the first
         Pages.go(index, 400)
-        typed = "const field = document.querySelector('input'); field.value = 'muller';"
-        Pages.run(typed + "field.dispatchEvent(new Event('input'))")
+        field = "document.querySelector('input')"
+        Pages.run(f"{field}.value = 'muller'; {field}.dispatchEvent(new Event('input'))")
         self.assertEqual(Pages.run("document.querySelectorAll('li:not([hidden])').length"), 1)
         self.assertEqual(Pages.run("document.querySelectorAll('section:not([hidden])').length"), 1)
-        Pages.run("field.dispatchEvent(new KeyboardEvent('keydown', {key: 'Enter'}))")
+        enter = "new KeyboardEvent('keydown', {key: 'Enter'})"
+        Pages.run(f"{field}.dispatchEvent({enter})")
         until = time.monotonic() + PATIENCE
         while "Karl" not in (Pages.run("document.title") or "") and time.monotonic() < until:
             time.sleep(0.05)
