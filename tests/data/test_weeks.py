@@ -8,12 +8,14 @@ import subprocess
 import unittest
 
 from browser import Pages, read_calendar, with_browser, with_reader
-from support import COMP07, COMP07_SOL, PROGRAM, SMALL, SMALL_SOL, OfficeTest
+from support import COMP07, COMP07_SOL, PROGRAM, SMALL, SMALL_SOL, OfficeTest, said
 
+from office.board import Board
 from office.folder import Day
 from office.ics import folded
 from office.instance import read_instance, read_solution
 from office.refused import Refused
+from office.week import View
 from office.zones import changes, check_zone, offsets
 
 LABELS = """kind,code,name
@@ -147,6 +149,29 @@ class OfDrafts(Weeks):
         self.office("close", self.path("day"), "--wait", "0")
         self.assertEqual(office.wait(60), 0)
         self.assertEqual(self.show(self.path("day"), "--course", "geo").decode(), then)
+
+
+class OnTheScreen(Weeks):
+    def test_what_is_seen_is_written(self):
+        self.open("day", SMALL, "1", "--start", SMALL_SOL)
+        board = Board(self.planning("day", 0))
+        board.begin()
+        board.work.show(View("teacher", "t2"))
+        board.work.drafting.type_line("open")
+        board.work.drafting.type_line("move geo 1 2 A 1 1")
+        here = os.getcwd()
+        os.chdir(self.room)
+        self.addCleanup(os.chdir, here)
+        board.press("P")
+        self.assertIn("day-teacher-t2.html", said(board.planning.notice))
+        with open("day-teacher-t2.html", encoding="utf-8") as file:
+            page = file.read()
+        self.assertIn("<h1>t2</h1>", page)
+        self.assertIn("day, at its start, with 1 edit of a draft", page)
+        self.assertEqual(page.count("<article "), 2)
+        # the move of the draft is seen, period 2 of day 2
+        self.assertIn('<article style="grid-area: 3 / 3">', page)
+        self.assertEqual(os.stat("day-teacher-t2.html").st_mode & 0o777, 0o600)
 
 
 class Csv(Weeks):

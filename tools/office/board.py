@@ -12,6 +12,7 @@ from office.label_files import read_labels
 from office.notice import NOTHING, Question, say
 from office.overlays import Asked, Chooser, CommitBox, Overlay, Page, Typed
 from office.planning import Planning
+from office.print_week import print_week
 from office.text import fit, wrap
 from office.timetable import Lecture, Slot
 from office.variant_list import VariantList
@@ -68,6 +69,7 @@ class Board:
             "put aside": self.put_aside,
             "variants": self.list_variants,
             "findings": self.work.findings.question,
+            "print": self.print_week,
             "line": self.type_line,
             "help": self.show_help,
             "leave": self.work.leave,
@@ -102,6 +104,9 @@ class Board:
         if self.work.goal is not None:
             self.set_cursor(self.work.goal)
             self.work.goal = None
+
+    def print_week(self) -> None:
+        self.work.notice = print_week(self.planning, self.work.view)
 
     # what is seen
 

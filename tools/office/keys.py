@@ -124,6 +124,13 @@ ACTIONS = (
         "lists what breaks a rule or costs points, the worst first, and gaps. Letters narrow the "
         "list, Enter goes there.",
     ),
+    Action(
+        "print",
+        "P",
+        "",
+        "writes the week that is seen, with your draft in it, as a page to print, into the folder "
+        "in which you sat down.",
+    ),
     Action("line", ":", "line", "types a line of the desk by hand, as `course c0109`."),
     Action("help", "?", "help", ""),
     Action(

@@ -89,6 +89,8 @@ DRAFT = {
 LECTURES = {
     "no lecture": "No lecture stands here: {key[missing]} lists those that are missing.",
     "no lecture here": "No lecture stands here.",
+    "printed": "Written: {path}.",
+    "not printed": "No page: {why}.",
     "lecture first": "Go to a lecture first.",
     "pick up first": "Pick a lecture up first, by {key[pick up]}.",
     "changed by others": "Somebody has changed {course}: it is not picked up any more.",

@@ -13,8 +13,8 @@ KEYS = {
     "view": ["v", "/"],
     "take out": ["x", "Delete"],
 }
-# what has no key there: one leaves by closing the window
-NONE = ("leave", "last")
+# what has no key there: one leaves by closing the window, and prints by the browser
+NONE = ("leave", "last", "print")
 HELP = {
     "cheapest": "goes to the slot with the cheapest price.",
     "history": "lists the drafts that have changed the course at the cursor, or the week if "

@@ -1,0 +1,46 @@
+"""The week that a planner sees, as a page to print."""
+from __future__ import annotations
+
+import os
+
+from office.at import At
+from office.folder import write_whole
+from office.label_files import read_labels
+from office.notice import Notice, say
+from office.one_week import OneWeek
+from office.planning import Planning
+from office.refused import Refused
+from office.site import file_name
+from office.text import counted, shown
+from office.week import View
+from office.week_page import week_page
+
+
+def seen(planning: Planning) -> At:
+    """The timetable that a planner sees, with his draft."""
+    count, present = len(planning.minutes.entries), planning.known.present()
+    return At(
+        planning.seat.day,
+        count,
+        count,
+        planning.instance,
+        present.lectures(),
+        planning.costs(),
+        planning.missing(),
+    )
+
+
+def print_week(planning: Planning, view: View) -> Notice:
+    """Writes a week into the folder in which one sat down, and says where."""
+    at = seen(planning)
+    told = shown(at.title())
+    if planning.edits():
+        told += f", with {counted(len(planning.edits()), 'edit')} of a draft"
+    path = f"{at.day.name}-{view.kind}-{file_name(view.name)}.html"
+    week = OneWeek(at, read_labels(at.day.path), view)
+    page = week_page(week, False, foot=told)
+    try:
+        write_whole(path, page.encode("utf-8", "surrogateescape"), 0o600)
+    except Refused as refused:
+        return say("not printed", why=refused.reason)
+    return say("printed", path=os.path.abspath(path))
