@@ -22,6 +22,7 @@ from drawn import PIECES, draw_instance, draw_solution  # noqa: E402
 from rules import Instance as Rules  # noqa: E402
 
 SHEETS = os.path.join(HERE, "tests/data/sheets")
+COLLEGE = os.path.join(HERE, "examples/college")
 DIALECTS = sorted(os.listdir(SHEETS))
 DRAWN = 21
 INSTANCE = """Name: college
@@ -123,6 +124,11 @@ class Dialects(Tables):
                 unread = printed.count("the column Remarks is not read")
                 self.assertEqual(unread, 8 if dialect == "excel-english" else 0)
                 shutil.rmtree(self.path("plan"))
+
+    def test_the_example(self):
+        shutil.copytree(COLLEGE, self.path("college"))
+        self.imported()
+        self.assertEqual(self.read("plan/instance.ctt"), INSTANCE)
 
     def test_from_spreadsheets_to_an_open_day(self):
         self.tables()

@@ -23,6 +23,10 @@ what was done, and taken back:
   office log monday c0109
   office diff monday tuesday --teacher t005
   office revert tuesday monday:9
+from spreadsheets, to a teacher, and to a web server:
+  office import tables -o plan
+  office show monday --teacher t005 --ics
+  office publish monday site
 
 A day is a folder, with all that belongs to it. Close it also after a crash:
 what was committed is on the disk. `office COMMAND --help` explains a command,
