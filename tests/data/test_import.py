@@ -136,13 +136,35 @@ class Dialects(Tables):
             os.remove(self.path(f"college/{file}.csv"))
         status, printed, said = self.office("import", self.path("college"), "-o", self.path("plan"))
         self.assertEqual((status, said), (0, ""))
-        command = printed.splitlines()[-1].split(": ", 1)[1].split()
-        self.assertEqual(command[:3], ["office", "open", "DAY"])
-        words = [{"DAY": self.path("day"), "PLANNERS": "1"}.get(word, word) for word in command[1:]]
-        office = self.start(*words)
+        last = f"to open a day: office open DAY {self.path('plan')} PLANNERS"
+        self.assertEqual(printed.splitlines()[-1], last)
+        office = self.start("open", self.path("day"), self.path("plan"), "1")
         self.assertIn("open, seats 0 to 0", office.stderr.readline())
         answers = self.sit("day", 0, "open\nplace Analysis Hall-2 0 0\n")
         self.assertEqual(answers, ["opened", "done"])
+        labels = read_labels(self.path("day"))
+        self.assertEqual(labels.slot((0, 1)), "Mon 10:15")
+
+    def test_a_day_has_all_that_was_imported(self):
+        self.tables()
+        self.imported()
+        office = self.open("day", self.path("plan"), "1")
+        lines = "open\nplace Linear-Algebra Cellar 0 2\nshow course Analysis\n"
+        answers = self.sit("day", 0, lines)
+        self.assertEqual(answers[1:], ["refused barred", "lectures 1 Analysis Hall-2 0 0"])
+        self.office("close", self.path("day"), "--wait", "0")
+        self.assertEqual(office.wait(60), 0)
+        # a changed plan for the next day: what it has no place for is set aside
+        self.change("rooms.csv", "Hall 2,150", "Hall 3,150")
+        self.change("lectures.csv", "Linear Algebra,Hall 2", "Linear Algebra,Hall 3")
+        self.change("lectures.csv", "Analysis,Hall 2", "Analysis,Hall 3")
+        self.imported(to="changed")
+        words = "--after", self.path("day"), "--instance", self.path("changed")
+        next_day = self.start("open", self.path("next"), *words)
+        said = [next_day.stderr.readline() for _ in range(4)]
+        self.assertIn("office: 2 lectures set aside", said[2])
+        self.assertIn("open, seats 0 to 0", said[3])
+        self.assertEqual(read_labels(self.path("next")).room("Hall-3"), "Hall 3 (Hall-3)")
 
 
 class Codes(Tables):

@@ -96,7 +96,8 @@ class Files(Publishing):
         self.assertEqual(count, 26)
 
     def test_names_of_files(self):
-        codes = ["alg", "a/b", "..", "x.y", "Übung", "x" * 300, "x" * 299 + "y", "a~2fb", "ü" * 200]
+        codes = ["alg", "a/b", "..", "x.y", "Übung", "a~2fb"]
+        codes += ["x" * 300, "x" * 299 + "y", "ü" * 200]
         names = [file_name(code) for code in codes]
         self.assertEqual(len(set(names)), len(codes))
         for name in names:

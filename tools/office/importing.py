@@ -7,6 +7,7 @@ import shlex
 from typing import Dict, List, Tuple
 
 from office.codes import NO_NAME
+from office.imported import BARRED, INSTANCE, START
 from office.instance import Instance
 from office.label_files import LABELS_COLUMNS
 from office.labels import KINDS, PLAN
@@ -17,8 +18,6 @@ from office.refused import MACHINE, Refused, Silent
 from office.tables import read_bytes, write_table
 from office.text import counted
 from office.words import encoded
-
-INSTANCE, START, BARRED = "instance.ctt", "start.sol", "barred"
 
 
 def instance_text(instance: Instance) -> bytes:
@@ -90,7 +89,7 @@ def validate(program: List[str], folder: str, has: Dict[str, bytes]) -> None:
         raise Silent(status or MACHINE)
 
 
-def say_what(tables: Tables, instance: Instance, has: Dict[str, bytes], folder: str) -> None:
+def say_what(tables: Tables, instance: Instance, folder: str) -> None:
     """Says what was imported, and how a day begins with it."""
     lectures = sum(course.lectures for course in instance.courses.values())
     parts = [
@@ -105,11 +104,7 @@ def say_what(tables: Tables, instance: Instance, has: Dict[str, bytes], folder: 
         print(note)
     if tables.start is not None:
         print(f"placed at the start: {len(tables.start)} of {counted(lectures, 'lecture')}")
-    path = {name: shlex.quote(os.path.join(folder, name)) for name in has}
-    start = f" --start {path[START]}" if START in has else ""
-    barred = f" --barred {path[BARRED]}" if BARRED in has else ""
-    labels = f" --labels {shlex.quote(folder)}"
-    print(f"to open a day: office open DAY {path[INSTANCE]} PLANNERS{start}{barred}{labels}")
+    print(f"to open a day: office open DAY {shlex.quote(folder)} PLANNERS")
 
 
 def import_folder(source: str, folder: str, unproved: bool) -> int:
@@ -123,5 +118,5 @@ def import_folder(source: str, folder: str, unproved: bool) -> int:
     with new_folder(folder) as made:
         write_files(made, files)
         validate(program, made, files)
-    say_what(tables, instance, files, folder)
+    say_what(tables, instance, folder)
     return 0

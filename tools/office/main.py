@@ -25,6 +25,7 @@ what was done, and taken back:
   office revert tuesday monday:9
 from spreadsheets, to a teacher, and to a web server:
   office import tables -o plan
+  office open monday plan 8
   office show monday --teacher t005 --ics
   office publish monday site
 
@@ -35,7 +36,7 @@ and docs/OFFICE.md has a whole day."""
 
 def add_open(commands: Commands) -> None:
     one = add_command(commands, "open", "open a day, and keep it until it is closed")
-    instance = "the instance, if the day does not follow another one"
+    instance = "the instance, or what an import has made; not if the day follows another one"
     one.add_argument("instance", metavar="INSTANCE", nargs="?", help=instance)
     count = "how many planners, 1 to 64"
     one.add_argument("planners", metavar="PLANNERS", nargs="?", type=int, help=count)
@@ -97,8 +98,10 @@ def parser() -> argparse.ArgumentParser:
 
 
 def open_by(words: argparse.Namespace, top: argparse.ArgumentParser) -> int:
+    from office.imported import take_imported
     from office.opening import Plan, open_day, plan_after
 
+    take_imported(words)
     day = Day(words.day)
     if words.after is not None:
         if words.instance is not None or words.start is not None:
