@@ -215,6 +215,10 @@ class Reverts(Comp07):
         self.assertEqual(found, (1, "", "office: day has 2 accepted drafts, and no draft 3\n"))
         found = self.command("revert", day, "x")
         self.assertEqual(found[0], 2)
+        self.sit("day", 1, "open\ndrop c0001 1 2\n", "--name", "ben")
+        found = self.command("revert", day, "1", "--seat", "1", "--name", "dean")
+        said = "office: seat 1 has a draft of ben: first say there what becomes of it\n"
+        self.assertEqual(found, (3, "", said))
         for planner in range(4):
             self.sit("day", planner, "open\n")
         found = self.command("revert", day, "1")

@@ -59,11 +59,14 @@ def sit_at(day: Day, planner: Optional[int], name: Optional[str]) -> Planning:
     seat = Seat(day, free_seat(day) if planner is None else planner, name)
     planning = Planning(seat)
     planning.begin()
+    why = ""
     if planning.ended() and not planning.is_open:
+        why = "a draft that is stale"
+    elif seat.owner and planning.edits():
+        why = f"a draft of {seat.owner}"
+    if why:
         seat.go()
-        raise Refused(
-            f"seat {seat.planner} has a draft that is stale: first say there what becomes of it"
-        )
+        raise Refused(f"seat {seat.planner} has {why}: first say there what becomes of it")
     return planning
 
 

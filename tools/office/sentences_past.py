@@ -36,7 +36,8 @@ KNOWING: Dict[str, str] = {
     "pinned lecture": "{course} on {slot} is pinned: go on all the same?",
     "commit first": "{course} is not committed there: commit it first, then pin it.",
     "take pin off": "{course} on {slot} is pinned: take the pin off?",
-    "pinned now": "{course} on {slot} is pinned. The desk does not know it: others are asked first.",
+    "pinned now": "{course} on {slot} is pinned: others are asked first; the desk does not know "
+    "it.",
     "unpinned": "{course} on {slot} is not pinned any more.",
     "no pin": "The pin cannot be written: {fault}.",
 }
