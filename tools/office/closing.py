@@ -8,9 +8,10 @@ import signal
 import time
 
 from office.at_work import end_work
+from office.costs import costs_in_words
 from office.folder import Day, write_whole
 from office.pipes import remove_pipes
-from office.program import Left, costs_in_words
+from office.program import Left
 from office.refused import CONTENT, Refused
 from office.text import counted
 

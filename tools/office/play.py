@@ -39,7 +39,7 @@ def draft_lines(edits: Edits) -> List[str]:
 def answers(day: Day, lines: List[str]) -> List[str]:
     """What a desk that begins as the day did answers to the lines of a script."""
     text = encoded("".join(f"{line}\n" for line in lines))
-    status, printed = Left(day).run("run", day.instance, "-", *day.start_words(), text=text)
+    status, printed = Left(day, quiet=True).run("run", day.instance, "-", *day.start_words(), text=text)
     found = decoded(printed).split("\n")[:-1]
     if status != 0 or len(found) != len(lines):
         raise Refused(f"the program does not play the minutes of {day.path}", CONTENT)

@@ -6,7 +6,6 @@ import shutil
 import subprocess
 from typing import Optional
 
-from office.costs import COSTS
 from office.folder import Day, write_whole
 from office.refused import MACHINE, Refused, Silent
 
@@ -87,9 +86,3 @@ class Left:
             raise Silent(status or MACHINE)
         lines = (line.split(" ", 1) for line in text.decode().split("\n") if " " in line)
         return {kind: told for kind, told in lines}
-
-
-def costs_in_words(report: dict[str, str]) -> str:
-    """What a timetable costs, with its four parts by name."""
-    parts = ", ".join(f"{kind} {report[kind]}" for kind in COSTS)
-    return f"{report['total']} ({parts})"

@@ -4,16 +4,15 @@ from __future__ import annotations
 from typing import List, Optional
 
 from office.at import At, read_at
-from office.costs import COSTS
+from office.costs import costs_in_words
 from office.folder import Day
 from office.label_files import read_labels
 
 
 def cost_lines(at: At) -> List[str]:
     """What a timetable costs, and how many lectures are missing."""
-    parts = ", ".join(f"{kind} {at.costs[kind]}" for kind in COSTS)
     return [
-        f"cost {sum(at.costs.values())} ({parts})",
+        f"cost {costs_in_words(at.costs)}",
         f"missing lectures {sum(at.missing.values())}",
     ]
 

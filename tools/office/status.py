@@ -3,15 +3,16 @@ folder has; the desk is not asked."""
 from __future__ import annotations
 
 import os
-import tempfile
 from typing import Optional
 
+from office.at import read_at
+from office.costs import costs_in_words
 from office.folder import Day, is_locked
 from office.history import read_pasts
 from office.label_files import read_labels
 from office.minutes import read_minutes
 from office.pins import read_pins
-from office.program import Left, costs_in_words
+from office.play import play_costs
 from office.refused import Refused
 from office.seat import read_sitter
 from office.seatlog import SeatPast
@@ -68,20 +69,14 @@ def print_table(lines: list[list[str]]) -> None:
 
 def cost_lines(day: Day) -> list[str]:
     """What the timetable cost at the start and costs now, by the program."""
-    left = Left(day, quiet=True)
-    with tempfile.TemporaryDirectory() as folder:
-        journal, solution = os.path.join(folder, "journal"), os.path.join(folder, "solution")
-        try:
-            left.write_journal(journal)
-            left.write_list(journal, solution)
-            before = left.report(day.start if os.path.exists(day.start) else None)
-            now = left.report(solution)
-        except Refused:
-            return ["cost not known: the program does not read the minutes"]
+    try:
+        (before,), now = play_costs(day, []), read_at(day)
+    except Refused:
+        return ["cost not known: the program does not read the minutes"]
     return [
         f"cost at the start {costs_in_words(before)}",
-        f"cost now          {costs_in_words(now)}",
-        f"missing lectures {now['lectures']}",
+        f"cost now          {costs_in_words(now.costs)}",
+        f"missing lectures {sum(now.missing.values())}",
     ]
 
 
