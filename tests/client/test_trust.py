@@ -311,7 +311,7 @@ class TakenOver(Two):
         self.commit(carla, "it was agreed")
         notes = read_commit_notes(Day(self.path("day")))
         self.assertEqual((notes[1].name, notes[1].why), ("carla", "it was agreed"))
-        self.assertRegex(self.office("log", self.path("day"))[1], r"1 planner 0 carla")
+        self.assertRegex(self.office("log", self.path("day"))[1], r"draft 1, carla at seat 0")
 
     def test_own_draft(self):
         anna, _ = self.boards()
