@@ -31,7 +31,7 @@ def without_times(text):
     text = re.sub(r"\d\d\d\d-\d\d-\d\d \d\d:\d\d:\d\d", "2026-11-30 10:15:00", text)
     text = re.sub(r"\d\d\d\d-\d\d-\d\d \d\d:\d\d", "2026-11-30 08:00", text)
     text = re.sub(r"\d\d:\d\d:\d\d", "10:15:00", text)
-    text = re.sub(r"(draft \d+, \w+), \d\d:\d\d:", r"\1, 10:15:", text)
+    text = re.sub(r"(draft \d+, \w+), \d\d:\d\d\b", r"\1, 10:15", text)
     return re.sub(r"(anna|ben)( +)\d\d:\d\d ", r"\g<1>\g<2>08:05 ", text)
 
 

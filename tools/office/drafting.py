@@ -6,7 +6,7 @@ from typing import Dict, List, NamedTuple, Optional
 from office.costs import Costs
 from office.earlier import Earlier
 from office.edits import is_edit
-from office.notice import Notice, Question, say
+from office.notice import NOTHING, Notice, Question, say
 from office.planning import Planning
 from office.seatlog import settle
 from office.shifts import Shift, shifts_of
@@ -157,8 +157,10 @@ class Drafting:
         """Who changed a row since the draft was opened, and how."""
         planning, lines = self.planning, []
         for accepted in planning.changes_of(row):
-            who, time = planning.news.who(accepted), planning.news.told(accepted).time
-            lines.append(say("by draft", number=accepted.entry.number, who=who, time=time))
+            who, told = planning.news.who(accepted), planning.news.told(accepted)
+            because = say("because", why=told.why) if told.why else NOTHING
+            number = accepted.entry.number
+            lines.append(say("by draft", number=number, who=who, time=told.time, because=because))
             lines += [say("edit line", shifts=shifts) for shifts in accepted.shifts]
         return lines
 

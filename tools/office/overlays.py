@@ -228,7 +228,5 @@ class CommitBox(Overlay):
         rows += [[(fit(f" {line}", width), "")] for line in lines]
         rows += [[("", "")]] * (height - len(rows) - 2)
         rows.append([(fit(f" Why? {why}_", width), "cursor")])
-        keys = (
-            "letters say why, for the others (it may stay empty)   Enter commits, Escape goes back"
-        )
+        keys = "letters say why (it may stay empty)   Enter commits, Escape goes back"
         return rows + [[(fit(f" {keys}", width), "head")]]

@@ -18,7 +18,7 @@ from office.notice import say
 from office.planning import Planning
 from office.processes import Alarm
 from office.refused import MACHINE
-from office.seat import DEAD, DeskEnded, Gone, NoAnswer, Seat
+from office.seat import DEAD, DEAD_DESK, DeskEnded, Gone, NoAnswer, Seat
 from office.text import counted, fit, width
 
 # how many milliseconds a key is waited for, before news are looked for
@@ -232,7 +232,7 @@ def say_goodbye(seat: Seat, lines: List[str], is_dead: bool, is_closed: bool) ->
     """Goes away from a seat, and says what becomes of the draft; the terminal may be gone."""
     edits, fault = seat.story.unfinished(), seat.log.fault
     if is_dead:
-        lines = [DEAD]
+        lines = [DEAD_DESK if fault and edits else DEAD]
     if fault and edits:
         lines.append(f"the log cannot be written ({fault}): your edits are on no disk")
     elif is_closed and edits:

@@ -30,10 +30,8 @@ class NoAnswer(Exception):
     """The desk has not answered in time."""
 
 
-DEAD = (
-    "the desk has ended; committed drafts are on the disk, and open edits are offered again after "
-    "the next opening"
-)
+DEAD_DESK = "the desk has ended; committed drafts are on the disk"
+DEAD = f"{DEAD_DESK}, and open edits are offered again after the next opening"
 # a desk that says nothing for so many seconds is not waited for; after the first ones it is said
 # how long it has been
 PATIENCE = 30.0

@@ -117,7 +117,7 @@ OTHERS = {
     "moved away": "{who} took {course} away from here, {time}{because}.",
     "new room here": "{who} gave {course} this room, {time}{because}.",
     "not as seen": "Somebody has just changed {course}: look again.",
-    "by draft": "draft {number}, {who}, {time}:",
+    "by draft": "draft {number}, {who}, {time}{because}:",
 }
 # variants, and what was taken back
 VARIANTS = {

@@ -1,7 +1,7 @@
 """What an edit does to each lecture: where it was, and where it is then."""
 from __future__ import annotations
 
-from typing import Iterable, List, NamedTuple, Optional
+from typing import List, NamedTuple, Optional, Sequence
 
 from office.timetable import Lecture, Slot, Timetable
 from office.words import words_of
@@ -53,10 +53,13 @@ def shifts_of(edit: str, timetable: Optional[Timetable] = None) -> List[Shift]:
     ]
 
 
-def all_shifts(edits: Iterable[str], timetable: Timetable) -> List[List[Shift]]:
+def all_shifts(edits: Sequence[str], timetable: Timetable) -> List[List[Shift]]:
     """The shifts of edits one after another, each on what those before it leave. The timetable is
     left as it is."""
-    now, found = timetable.copy(), []
+    found: List[List[Shift]] = []
+    if not edits:
+        return found
+    now = timetable.copy()
     for edit in edits:
         found.append(shifts_of(edit, now))
         now.try_edit(edit)

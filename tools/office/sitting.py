@@ -87,11 +87,17 @@ class PlainSitting:
         for answer in self.seat.catch_up():
             self.show(answer)
         if sys.stdin.isatty():
+            self.tell_owner()
             self.tell_earlier()
             say(
                 f"seat {self.seat.planner} of {self.seat.day.path}; "
                 "Ctrl-D goes away for a while, `leave` ends the seat"
             )
+
+    def tell_owner(self) -> None:
+        """Tells whose draft is here, if somebody else has left it."""
+        if self.seat.owner:
+            say(f"{self.seat.owner} has left a draft here; a commit is logged for who makes it")
 
     def tell_earlier(self) -> None:
         """Tells which edits of an earlier day were neither accepted nor given up."""
