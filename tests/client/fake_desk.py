@@ -201,8 +201,8 @@ class FakeDesk:
         calls = "".join(f"{call}\n{answer}\n" for call, answer in draft.calls)
         entry = f"entry {planner} {len(draft.calls)}\n{calls}"
         try:
-            if FAULT == "late":
-                threading.Timer(0.3, self.write, [entry]).start()
+            if FAULT in ("late", "later"):
+                threading.Timer(0.3 if FAULT == "late" else 3.0, self.write, [entry]).start()
             else:
                 self.write(entry)
         except OSError:

@@ -3,7 +3,8 @@ import os
 import random
 import re
 
-from support import COMP07, COMP07_SOL, PROGRAM, SMALL, SMALL_SOL, OfficeTest, said
+from support import COMP07, COMP07_SOL, FAKE, PROGRAM, SMALL, SMALL_SOL
+from support import OfficeTest, said, wait_until
 from test_day import LIMITED
 
 from office.board import Board
@@ -374,10 +375,29 @@ class Failing(OfficeTest):
             ben.show_view(View("course", course))
         self.check(ben)
         ben.planning.seat.go()
-        os.remove(self.path("day/failing"))
         ben = Board(self.planning("day", 1))
         ben.begin()
         self.check(ben)
+
+    def test_slow_disk(self):
+        """Minutes that come late were not failing."""
+        self.environment["TIMEDESK"] = FAKE
+        self.environment["FAULT"] = "later"
+        self.open("day", SMALL, "2", "--start", SMALL_SOL)
+        anna, ben = [Board(self.planning("day", planner)) for planner in (0, 1)]
+        for board in (anna, ben):
+            board.begin()
+            text_of(board)
+        anna.planning.edit("drop geo 1 2")
+        self.commit(anna)
+        ben.show_view(View("course", "geo"))
+        text_of(ben)
+        self.assertTrue(wait_until(ben.tick))
+        text = text_of(ben)
+        self.assertNotIn("Nothing can be committed", text)
+        self.assertEqual(len(ben.work.lectures()), 1)
+        self.assertTrue(ben.planning.edit("drop geo 0 1"))
+        self.assertEqual(said(ben.planning.alarm), "")
 
     def test_no_log_either(self):
         anna, _ = self.fill()

@@ -39,6 +39,9 @@ class Minutes:
         except OSError:
             return self._at
 
+    def is_readable(self) -> bool:
+        return os.access(self.path, os.R_OK)
+
     def has_grown(self) -> bool:
         return self.size() > self._at
 

@@ -256,23 +256,24 @@ class Reading:
     def read_newest(self) -> None:
         """Compares the newest timetable of the desk with that of the minutes, which are on the
         disk. They differ for a moment when somebody is accepted. If they go on to differ, the
-        minutes fail, and what is on the disk is shown."""
+        minutes fail, and what is on the disk is shown until they grow."""
         until = time.monotonic() + LATE
         while not self.is_failing:
             self.read_minutes()
             told = self.read_all("show")
             if told.same_as(self.known.newest):
                 return
-            if not self.is_sound:
+            if not self.is_sound or not self.minutes.is_readable():
                 self.known.newest = told
                 return
             if time.monotonic() > until:
-                self.fail()
+                self.is_failing = True
+                self._cache.clear()
             time.sleep(0.02)
 
     def fail(self) -> None:
-        """Notes that the minutes fail: nothing that is committed from now on is on the disk. The
-        other seats hear of it by a file of the day, if that can be made."""
+        """Notes that the minutes fail, as the desk has said: nothing that is committed from now on
+        is on the disk. The other seats hear of it by a file of the day, if that can be made."""
         self.is_failing = True
         self._cache.clear()
         with contextlib.suppress(OSError):
@@ -299,7 +300,8 @@ class Reading:
         whether there is news."""
         is_new = self.courtesies.read_on()
         if not self.is_failing and os.path.exists(self.seat.day.failing):
-            self.fail()
+            self.is_failing = True
+            self._cache.clear()
             return True
         if not self.minutes.has_grown() or not self.read_minutes():
             return is_new
@@ -312,6 +314,7 @@ class Reading:
         entries = self.minutes.read_on()
         if entries:
             self._cache.clear()
+            self.is_failing = self.is_failing and os.path.exists(self.seat.day.failing)
         if not all([self._accept(entry) for entry in entries]):
             self.is_sound = False
             self.known.newest = self.read_all("show")
