@@ -13,6 +13,8 @@ from office.text import counted, shown
 # what spreadsheets part cells with
 SEPARATORS = ";,\t"
 BLANKS = "\t\n\v\f\r "
+# stands for the letter 0, which some readers of tables refuse; no text of bytes has it
+NUL = "\ud800"
 # the greatest number that a file of the desk has
 MOST = 999_999_999
 
@@ -130,9 +132,10 @@ def read_cells(file: str, data: bytes, faults: Faults) -> List[List[str]]:
     else:
         separator = separator_of(text)
     rows: List[List[str]] = []
+    lines = io.StringIO(text.replace("\0", NUL), newline="")
     try:
-        for cells in csv.reader(io.StringIO(text, newline=""), delimiter=separator, strict=True):
-            rows.append([tidied(cell) for cell in cells])
+        for cells in csv.reader(lines, delimiter=separator, strict=True):
+            rows.append([tidied(cell).replace(NUL, "\0") for cell in cells])
     except csv.Error:
         faults.add(file, len(rows) + 1, "a quote is not closed, or something stands behind one")
     return rows
