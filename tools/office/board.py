@@ -10,7 +10,7 @@ from office.help import help_lines
 from office.keys import WEEK_KEYS, KeyNames
 from office.label_files import read_labels
 from office.notice import NOTHING, Question, say
-from office.overlays import Asked, Chooser, CommitBox, Overlay, Page, Typed
+from office.overlays import Asked, Chooser, CommitBox, Overlay, Page, Typed, Worded
 from office.planning import Planning
 from office.print_week import print_week
 from office.text import fit, wrap
@@ -92,7 +92,7 @@ class Board:
     def ask(self, question: Optional[Question]) -> None:
         """Shows what is to be read or answered."""
         if question is not None and question.choices:
-            choices = [(self.wording.notice(told), act) for told, act in question.choices]
+            choices = Worded(question.choices, self.wording)
             title = self.wording.notice(question.title)
             self.overlay = Chooser(title, choices, self.choose)
         elif question is not None:

@@ -3,6 +3,7 @@ in the days of curricula and those that are worst off."""
 from __future__ import annotations
 
 import json
+from functools import partial
 from typing import Any, Callable, Dict, List, NamedTuple, Optional, Tuple
 
 from office.notice import Notice, Question, say
@@ -126,10 +127,13 @@ class Findings:
             return None
         found.sort(key=lambda one: (GROUPS.index(one["kind"]), -one.get("points", 0)))
         timetable = self.planning.known.present()
-        choices = [self._choice(told(one), place_of(one, timetable)) for one in found]
+        choices: List[Choice] = [(told(one), partial(self._see, one, timetable)) for one in found]
         choices.append((say("see gaps"), self.gaps))
         points = sum(one.get("points", 0) for one in found)
         return Question(say("findings", count=len(found), points=points), choices=choices)
+
+    def _see(self, finding: Dict[str, Any], timetable: Timetable) -> None:
+        self.go(*place_of(finding, timetable))
 
     def _choice(self, notice: Notice, place: Place) -> Choice:
         def act() -> None:

@@ -2,12 +2,12 @@
 line to type."""
 from __future__ import annotations
 
-from typing import Callable, Dict, Generic, List, Mapping, Optional, Sequence, Tuple, TypeVar
+from typing import Any, Callable, Dict, Generic, List, Mapping, Optional, Sequence, Tuple, TypeVar
 
 from office.drafting import Box
 from office.grid import Row
 from office.keys import BY_NAME, key_of
-from office.notice import Question
+from office.notice import Notice, Question
 from office.text import counted, cut_front, fit, shown, wrap
 from office.wording import Wording
 
@@ -24,6 +24,25 @@ class Overlay:
         raise NotImplementedError
 
 
+class Worded(Sequence[Tuple[str, Choice]]):
+    """Choices of which each is put into words when it is looked at: there may be many."""
+
+    def __init__(self, choices: Sequence[Tuple[Notice, Choice]], wording: Wording) -> None:
+        self.choices, self.wording = choices, wording
+        self._texts: Dict[int, str] = {}
+
+    def __len__(self) -> int:
+        return len(self.choices)
+
+    def __getitem__(self, at: Any) -> Any:
+        if isinstance(at, slice):
+            return [self[each] for each in range(*at.indices(len(self)))]
+        told, choice = self.choices[at]
+        if at not in self._texts:
+            self._texts[at] = self.wording.notice(told)
+        return self._texts[at], choice
+
+
 class Chooser(Overlay, Generic[Choice]):
     """A list that narrows as one types."""
 
@@ -33,9 +52,11 @@ class Chooser(Overlay, Generic[Choice]):
         self.title, self.choices, self.choose = title, choices, choose
         self.typed, self.at = "", 0
 
-    def found(self) -> List[Tuple[str, Choice]]:
+    def found(self) -> Sequence[Tuple[str, Choice]]:
         """The choices that have each word that was typed; those that begin with them come first."""
         words = self.typed.lower().split()
+        if not words:
+            return self.choices
         found = [one for one in self.choices if all(word in one[0].lower() for word in words)]
         return sorted(found, key=lambda one: not all(self.begins(one[0], word) for word in words))
 

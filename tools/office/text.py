@@ -6,6 +6,8 @@ import unicodedata
 
 def shown(text: str) -> str:
     """A text without what a terminal would take as a command."""
+    if text.isprintable():
+        return text
     return "".join(
         letter if letter.isprintable() else "\N{REPLACEMENT CHARACTER}" for letter in text
     )

@@ -48,6 +48,22 @@ class Wording:
     ) -> None:
         self.actions, self.safe = actions, safe
         self.labels = labels or Labels()
+        # how data are said, by what they are
+        self._by_name: Dict[str, Callable[[Any], Any]] = {
+            "slot": self.slot,
+            "day": lambda day: self.day(day) if isinstance(day, int) else self.safe(day),
+            "row": self.row,
+            "place": self.place,
+            "shifts": self.shifts,
+            "price": signed,
+            "count": Count,
+            "made": Count,
+            "students": Count,
+            "time": lambda time: time[11:16] or "time not known",
+            "courses": self.courses,
+            "parts": parts_text,
+            "reasons": lambda reasons: "; ".join(self.lines(reasons)),
+        }
 
     # names and slots
 
@@ -145,23 +161,8 @@ class Wording:
         """A piece of data in words, by what it is."""
         if isinstance(value, Notice):
             return self.notice(value)
-        by_name: Dict[str, Callable[[Any], Any]] = {
-            "slot": self.slot,
-            "day": lambda day: self.day(day) if isinstance(day, int) else self.safe(day),
-            "row": self.row,
-            "place": self.place,
-            "shifts": self.shifts,
-            "price": signed,
-            "count": Count,
-            "made": Count,
-            "students": Count,
-            "time": lambda time: time[11:16] or "time not known",
-            "courses": self.courses,
-            "parts": parts_text,
-            "reasons": lambda reasons: "; ".join(self.lines(reasons)),
-        }
         if name in NAMES:
             return self.name(NAMES[name], value)
-        if name in by_name:
-            return by_name[name](value)
+        if name in self._by_name:
+            return self._by_name[name](value)
         return self.safe(value) if isinstance(value, str) else value
