@@ -43,10 +43,10 @@ class Changes(OfficeTest):
         changed = self.changed(("Constraints: 1", "Constraints: 2"), ("geo 0 0", "geo 0 0 alg 1 0"))
         said, start = self.follow(changed, "--start", SMALL_SOL)
         aside = self.path("tuesday/aside")
-        line = "timedesk: set aside alg B 1 0 unavailable\n"
+        line = "office: set aside alg, day 2, period 1, B: alg is unavailable then\n"
         self.assertEqual(said, [line, f"office: 1 lecture set aside, in {aside}\n"])
         with open(aside) as file:
-            self.assertEqual(file.read(), line)
+            self.assertEqual(file.read(), "timedesk: set aside alg B 1 0 unavailable\n")
         with open(SMALL_SOL) as file:
             self.assertEqual(start.split(), file.read().replace("alg B 1 0", "").split())
         self.assertEqual(self.sit("tuesday", 0, "show missing\n"), ["missing 1 alg 1"])
@@ -57,10 +57,10 @@ class Changes(OfficeTest):
         self.assertEqual(
             said,
             [
-                "office: set aside alg A 0 0: no such room\n",
-                "office: set aside alg B 1 0: no such slot\n",
-                "office: set aside geo A 0 1: no such course\n",
-                "office: set aside geo A 1 2: no such course\n",
+                "office: set aside alg, day 1, period 1, A: there is no room A\n",
+                "office: set aside alg, day 2, period 1, B: there is no day 2, period 1\n",
+                "office: set aside geo, day 1, period 2, A: there is no course geo\n",
+                "office: set aside geo, day 2, period 3, A: there is no course geo\n",
                 f"office: 4 lectures set aside, in {self.path('tuesday/aside')}\n",
             ],
         )
@@ -81,8 +81,8 @@ class Changes(OfficeTest):
         self.assertEqual(
             said[:3],
             [
-                "timedesk: set aside geo A 0 1 barred\n",
-                "timedesk: set aside geo A 1 2 barred\n",
+                "office: set aside geo, day 1, period 2, A: A is barred for geo\n",
+                "office: set aside geo, day 2, period 3, A: A is barred for geo\n",
                 f"office: 2 lectures set aside, in {self.path('tuesday/aside')}\n",
             ],
         )

@@ -10,10 +10,15 @@ from typing import Optional
 from office import processes
 from office.folder import Day, write_whole
 from office.instance import Instance, read_barred, read_instance, read_solution
+from office.label_files import read_labels
+from office.notice import say
 from office.processes import Signals
+from office.reasons import reason
 from office.refused import Silent
 from office.text import counted
-from office.words import encoded
+from office.timetable import Lecture
+from office.wording import Wording
+from office.words import decoded, encoded, words_of
 
 
 def missing_part(instance: Instance, lecture: tuple[str, str, int, int]) -> Optional[str]:
@@ -44,9 +49,24 @@ def keep_barred(day: Day, source: str) -> None:
     write_whole(day.barred, encoded(f"Barred: {len(pairs)}\n{''.join(pairs)}END.\n"))
 
 
+def told(line: str, instance: Instance, wording: Wording) -> str:
+    """A line about a lecture that was set aside, as people read it; another line as it is."""
+    _, is_aside, rest = line.partition(": set aside ")
+    if not is_aside:
+        return line
+    course, room, day, period, *why = words_of(rest)
+    lecture, fault = Lecture(course, room, int(day), int(period.rstrip(":"))), " ".join(why)
+    if fault.startswith("no such "):
+        notice = say(fault, course=course, room=room, slot=lecture.slot)
+    else:
+        notice = reason(instance, f"place {lecture.words()}", fault)
+    where = f"{wording.course(course)}, {wording.place(lecture)}"
+    return f"office: set aside {where}: {wording.notice(notice)}"
+
+
 def mend(signals: Signals, program: list[str], day: Day, solution: str) -> None:
-    """Makes the start of a day of a solution under its instance, and lists what is set aside, on
-    standard error and in the day's folder."""
+    """Makes the start of a day of a solution under its instance, and lists what is set aside: in
+    words on standard error, as the program does in the day's folder."""
     instance, left, lines = read_instance(day.instance), [], []
     for lecture in read_solution(solution):
         why = missing_part(instance, lecture)
@@ -65,8 +85,10 @@ def mend(signals: Signals, program: list[str], day: Day, solution: str) -> None:
         said = aside.read()
     os.remove(before)
     count = said.count(b"set aside ")
+    wording = Wording({}, read_labels(day.path))
     with contextlib.suppress(OSError):
-        sys.stderr.write(said.decode(errors="replace"))
+        for line in decoded(said).split("\n")[:-1]:
+            print(told(line, instance, wording), file=sys.stderr)
         if status == 0:
             print(f"office: {counted(count, 'lecture')} set aside, in {day.aside}", file=sys.stderr)
         sys.stderr.flush()
