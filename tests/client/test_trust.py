@@ -491,6 +491,44 @@ class Variants(Two):
         self.assertIn("Nothing was taken back", self.type_keys(anna, "U"))
 
 
+class Labelled(OfficeTest):
+    def test_names_and_times(self):
+        """The screen says names, weekdays and times, if a day has them."""
+        os.mkdir(self.path("labels"))
+        hours = ["8:15", "10:15", "12:15", "14:15", "16:15", "18:15"]
+        days = ["Monday", "Tuesday", "Wednesday", "Thursday", "Friday"]
+        rows = [
+            f"{day},{period},{days[day - 1]},{hours[period - 1]},{hours[period]}"
+            for day in range(1, 6)
+            for period in range(1, 6)
+        ]
+        self.write("labels/times.csv", "\n".join(["day,period,weekday,from,to", *rows]))
+        names = ["kind,code,name,short name", "course,c0109,Linear Algebra,LinAlg"]
+        names += ["room,r04,Hall 2,H2", "teacher,t067,Noether,N"]
+        self.write("labels/labels.csv", "\n".join(names))
+        words = ["--start", COMP07_SOL, "--labels", self.path("labels")]
+        self.open("day", COMP07, "1", *words)
+        board = Board(self.planning("day", 0))
+        board.begin()
+        for key in ["v", *"algebra", "enter"]:
+            board.press(key)
+        text = text_of(board, 24, 120)
+        self.assertIn("week of course Linear Algebra (c0109)", text)
+        self.assertIn("teacher Noether (t067)", text)
+        self.assertRegex(text, r"\n14:15 .*r06")
+        self.assertRegex(text, r"  Mon +Tue +Wed +Thu +Fri")
+        board.set_cursor((4, 1))
+        board.press("enter")
+        text = text_of(board, 24, 120)
+        self.assertIn("Cheapest: -257 in Hall 2 (r04), Fri 14:15: b goes there.", text)
+        self.assertIn("-257 H2", text)
+        for key in ["b", "enter", "c"]:
+            board.press(key)
+        text = text_of(board, 24, 120)
+        wanted = "1. Linear Algebra (c0109): Fri 10:15, r01 -> Fri 14:15, Hall 2 (r04)"
+        self.assertIn(wanted, text)
+
+
 class Findings(Two):
     def test_worst_first(self):
         anna, _ = self.boards()

@@ -1,4 +1,4 @@
-"""What is done with the draft. Each act answers what is to be read or asked then, if anything is."""
+"""What is done with the draft. Each act answers what is to be read or asked then, if anything."""
 from __future__ import annotations
 
 from typing import Dict, List, NamedTuple, Optional

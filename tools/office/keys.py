@@ -65,8 +65,8 @@ ACTIONS = (
         "history",
         "h",
         "history",
-        "lists the drafts that have changed the course at the cursor, or the week if nothing stands "
-        "there: Enter shows one, and t takes it back by edits of your draft.",
+        "lists the drafts that have changed the course at the cursor, or the week if nothing "
+        "stands there: Enter shows one, and t takes it back by edits of your draft.",
     ),
     Action(
         "pin",
@@ -87,8 +87,8 @@ ACTIONS = (
         "commit",
         "c",
         "commit",
-        "shows what a commit would publish, and asks why: Enter commits, Escape goes back. The draft "
-        "is accepted if nothing that it stands on has changed.",
+        "shows what a commit would publish, and asks why: Enter commits, Escape goes back. The "
+        "draft is accepted if nothing that it stands on has changed.",
     ),
     Action(
         "refresh",

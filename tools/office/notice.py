@@ -33,8 +33,8 @@ def say(code: str, **data: Any) -> Notice:
 class Question(NamedTuple):
     """What is to be read, or to be answered. The answers are named as actions are; one without any
     is read alone. An answer may lead to the next question. Choices are a list that narrows as one
-    types; the one that is chosen leads on, too. A question that cannot wait has to be answered before
-    anything else is done."""
+    types; the one that is chosen leads on, too. A question that cannot wait has to be answered
+    before anything else is done."""
 
     title: Notice
     lines: List[Notice] = []

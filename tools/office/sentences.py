@@ -71,8 +71,8 @@ DRAFT = {
     "not written": "Not written: the disk is full, or fails. {kept} Tell the office.",
     "kept in the log": "Your edits are in the log.",
     "kept nowhere": "Your edits are on no disk ({fault}): write them down.",
-    "minutes fail": "Nothing can be committed any more: the disk is full, or fails. You see what is "
-    "on the disk. Tell the office.",
+    "minutes fail": "Nothing can be committed any more: the disk is full, or fails. You see what "
+    "is on the disk. Tell the office.",
     "empty draft": "{row} has changed, and your draft had no edits left: it is closed, and you see "
     "the newest timetable.",
     "newest": "No draft is open: you see the newest timetable.",
@@ -124,8 +124,8 @@ VARIANTS = {
     "nothing undone": "Nothing was taken back that can be made again.",
     "nothing to put aside": "Your draft has no edits to put aside.",
     "variant name": "Put aside as: ",
-    "put aside": "Put aside as {name}: {count:edit}. You begin anew; {key[variants]} lists what was "
-    "put aside.",
+    "put aside": "Put aside as {name}: {count:edit}. You begin anew; {key[variants]} lists what "
+    "was put aside.",
     "put aside first": "Your draft has {count:edit}: {key[put aside]} puts them aside, "
     "{key[abandon]} gives them up.",
     "thrown away": "{name} is thrown away.",
@@ -176,7 +176,8 @@ LINES = {
     "leaves missing": "It leaves lectures missing: {courses}.",
     "stale by now": "stale by now: {row} has changed",
     "box fresh": "Nothing that it stands on has changed.",
-    "box stale": "Stale by now: {row} has changed. Nothing is lost; it cannot be committed as it is.",
+    "box stale": "Stale by now: {row} has changed. Nothing is lost; it cannot be committed as it "
+    "is.",
     "stale title": "Your draft is stale: nothing is lost",
     "give up": "Give up these edits?",
     "on the disk": "Your accepted drafts are on the disk: {numbers}.",
