@@ -83,7 +83,7 @@ class Others(OfficeTest):
     def test_pin(self):
         self.pin()
         told = text_of(self.board)
-        self.assertIn("geo on day 1, period 2 is pinned.", told)
+        self.assertIn("geo on day 1, period 2 is pinned: others are asked first", told)
         self.assertIn("pin", told)
         # the other one sees it, and is asked before he picks it up
         board = Board(self.ben)
