@@ -55,13 +55,17 @@ class WebTest(OfficeTest):
 
     def run(self, result=None):
         begun = time.monotonic()
+        faults = len(result.failures + result.errors) if result else 0
         signal.alarm(PATIENCE)
         try:
             return super().run(result)
         finally:
             signal.alarm(0)
             if os.environ.get("VERBOSE"):
+                found = (result.failures + result.errors)[faults:] if result else []
                 print(f"{time.monotonic() - begun:5.1f} s  {self.id()}", flush=True)
+                for _, text in found:
+                    print(text, flush=True)
 
     def serve(self, day, *words):
         """Serves the seats of a day, and answers their links by what they are of."""

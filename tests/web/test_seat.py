@@ -61,7 +61,7 @@ class Seats(BrowserTest):
         anna.sees("ben", "#box")
         self.has_focus(anna)
         anna.press("Enter")
-        anna.sees("0 of 1 edit made again", "#box")
+        anna.sees("made again, none committed yet", "#box")
         anna.press("Escape")
         anna.wait(f"return !({BOX[7:]})")
         self.has_focus(anna)
@@ -198,43 +198,6 @@ class Seats(BrowserTest):
         for one in (anna, ben):
             self.is_clean(one)
 
-    def test_price_that_was_not_shown(self):
-        """A put-down at another price than the one that was shown is refused, and so is a lecture
-        that was not seen there."""
-        self.ask("hello", {"name": "anna"})
-        seen = {"course": "c0109", "room": "r01", "at": FROM}
-        found = self.ask("pick_up", {"lecture": seen, "kind": "move"})[1]
-        best = next(one for one in found["picture"]["held"]["slots"] if one["at"] == list(BEST))
-        price, about, _ = best["offers"][0]
-        for forged in ({"price": price - 1, "about": about}, {"price": price, "about": "r00"}):
-            self.ask("pick_up", {"lecture": seen, "kind": "move"})
-            found = self.ask("put_down", {"to": BEST, **forged})[1]
-            self.assertTrue(found["notice"]["isBad"], found["notice"])
-            self.assertIsNone(found["picture"]["state"]["draft"])
-        wrong = {**seen, "room": "r02"}
-        found = self.ask("pick_up", {"lecture": wrong, "kind": "move"})[1]
-        self.assertIsNone(found["picture"]["held"])
-        found = self.ask("take_out", {"lecture": wrong})[1]
-        self.assertIsNone(found["picture"]["state"]["draft"])
-        self.ask("pick_up", {"lecture": seen, "kind": "move"})
-        found = self.ask("put_down", {"to": BEST, "price": price, "about": about})[1]
-        self.assertEqual(len(found["picture"]["state"]["draft"]["edits"]), 1)
-
-    def test_price_has_changed(self):
-        """Others change the price between its showing and the put-down: it is not made."""
-        self.ask("hello", {"name": "anna"})
-        seen = {"course": "c0109", "room": "r01", "at": FROM}
-        found = self.ask("pick_up", {"lecture": seen, "kind": "move"})[1]
-        best = next(one for one in found["picture"]["held"]["slots"] if one["at"] == list(BEST))
-        price, about, _ = best["offers"][0]
-        # the server does not look for news meanwhile, so that the put-down comes first
-        self.server.send_signal(signal.SIGSTOP)
-        self.sit("day", 1, "open\nreroom c0109 r06 4 1\ncommit\n", "--name", "ben")
-        self.server.send_signal(signal.SIGCONT)
-        found = self.ask("put_down", {"to": BEST, "price": price, "about": about})[1]
-        self.assertIsNone(found["picture"]["state"]["draft"])
-        self.assertNotEqual(found["notice"]["text"], "")
-
     def test_two_windows(self):
         """Two windows of a seat are one: an edit of one is in the other, and a commit carries what
         its box has shown."""
@@ -259,18 +222,6 @@ class Seats(BrowserTest):
         two.sees("no draft open", "#costs")
         for each in (one, two):
             self.is_clean(each)
-
-    def test_answer_to_an_old_box(self):
-        """An answer to what is asked no more is refused."""
-        self.ask("hello", {"name": "anna"})
-        seen = {"course": "c0109", "room": "r01", "at": FROM}
-        self.ask("take_out", {"lecture": seen})
-        question = self.ask("act", {"name": "commit"})[1]["question"]
-        told = {"question": question["number"], "answer": question["answers"][0]["name"]}
-        self.ask("close", {})
-        self.assertEqual(self.ask("answer", told)[0], 409)
-        with open(self.path("day/minutes")) as file:
-            self.assertEqual(file.read(), "")
 
     def test_terminal_and_window(self):
         """A terminal and a window at one seat refuse each other by name; the page comes in by

@@ -8,8 +8,8 @@ from typing import Any, Deque, Dict, List, Optional
 
 from office.web.guard import Fault
 
-# events that may wait for a window, windows of one seat, and the seconds after which one that does
-# not listen is forgotten
+# events that may wait for a window, windows of one seat, and the seconds after which one that
+# neither listens nor asks is forgotten
 WAIT, MOST, SILENT = 32, 4, 30.0
 Data = Dict[str, Any]
 
@@ -80,7 +80,9 @@ class Windows:
         """A window that has begun here."""
         if name not in self.by_name:
             raise Fault(410, "this window is not known here: it begins anew")
-        return self.by_name[name]
+        window = self.by_name[name]
+        window.met = time.monotonic()
+        return window
 
     def listen(self, name: str) -> Window:
         """A window listens; if it did before, that was broken off."""
@@ -93,7 +95,7 @@ class Windows:
         return window
 
     def drop_silent(self) -> None:
-        """Forgets those that were met and do not listen."""
+        """Forgets those that neither listen nor ask."""
         for window in self.all():
             if not window.is_listening and time.monotonic() > window.met + SILENT:
                 self.forget(window)
