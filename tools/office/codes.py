@@ -17,11 +17,24 @@ def word_of(name: str, otherwise: str) -> str:
     return "-".join(letters.split())[:LONGEST].rstrip("-") or otherwise
 
 
-def called(name: str, names: Dict[str, Name]) -> List[str]:
-    """The codes that a code or a name means."""
-    if name in names:
-        return [name]
-    return [code for code, known in names.items() if known.name == name]
+class Names(Dict[str, Name]):
+    """What codes are called, with the codes that a name means."""
+
+    def __init__(self, names: Optional[Dict[str, Name]] = None) -> None:
+        super().__init__(names or {})
+        self.codes: Dict[str, List[str]] = {}
+        for code, name in self.items():
+            self.codes.setdefault(name.name, []).append(code)
+
+    def add(self, code: str, name: Name) -> None:
+        """A code that is there keeps its name."""
+        if code not in self:
+            self.codes.setdefault(name.name, []).append(code)
+        self[code] = name
+
+    def meant(self, typed: str) -> List[str]:
+        """The codes that a code or a name means."""
+        return [typed] if typed in self else self.codes.get(typed, [])
 
 
 class Codes:
@@ -29,8 +42,9 @@ class Codes:
 
     def __init__(self, kind: str, labels: Labels) -> None:
         self.kind = kind
-        self.earlier = {code: name for (of, code), name in labels.names.items() if of == kind}
-        self.names: Dict[str, Name] = {}
+        of_kind = {code: name for (of, code), name in labels.names.items() if of == kind}
+        self.earlier = Names(of_kind)
+        self.names = Names()
         self.rows: Dict[str, int] = {}
         # codes that stand in the table, so that none is made like them
         self.written: Set[str] = set()
@@ -44,7 +58,7 @@ class Codes:
             return None
         if not code:
             is_code = name in self.names or name in self.earlier
-            found = [name] if is_code else called(name, self.names) or called(name, self.earlier)
+            found = [name] if is_code else self.names.meant(name) or self.earlier.meant(name)
             if len(found) > 1:
                 row.fault(f"several are called {name}: {', '.join(found)}; the code is needed")
                 return None
@@ -54,7 +68,7 @@ class Codes:
         if code in self.names and name != self.names[code].name:
             row.fault(f"{code} is called {self.names[code].name or code} in row {self.rows[code]}")
             return None
-        self.names[code] = Name(name, short or known.short)
+        self.names.add(code, Name(name, short or known.short))
         self.rows.setdefault(code, row.number)
         return code
 
@@ -70,7 +84,7 @@ class Codes:
     def find(self, row: Row, column: str) -> Optional[str]:
         """The code that a cell means; None is a fault."""
         typed = row.needed(column)
-        found = called(typed, self.names) if typed else []
+        found = self.names.meant(typed) if typed else []
         if len(found) > 1:
             row.fault(f"several are called {typed}: {', '.join(found)}; the code is needed")
         elif typed and not found and self.is_read:

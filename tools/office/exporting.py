@@ -4,11 +4,11 @@ from __future__ import annotations
 from typing import Dict, Iterable, Optional, Tuple
 
 from office.at import At, read_at
-from office.codes import called
+from office.codes import NO_NAME, Names
 from office.folder import Day
 from office.instance import Instance
 from office.label_files import LABELS_COLUMNS, TIMES_COLUMNS, read_labels
-from office.labels import KINDS, PLAN, Labels, Name, clock
+from office.labels import KINDS, PLAN, Labels, clock
 from office.new_folder import new_folder, write_files
 from office.plan_tables import COLUMNS
 from office.tables import read_bytes, write_table
@@ -24,14 +24,14 @@ class Export:
         self.instance = instance
         self.labels = labels
         codes = (instance.courses, instance.rooms, instance.teachers, instance.curricula)
-        self.names: Dict[str, Dict[str, Name]] = {
-            kind: {code: labels.names.get((kind, code), Name("", "")) for code in of_kind}
+        self.names = {
+            kind: Names({code: labels.names.get((kind, code), NO_NAME) for code in of_kind})
             for kind, of_kind in zip(KINDS, codes)
         }
 
     def named(self, kind: str, code: str) -> str:
         name = self.names[kind][code].name
-        return name if name and called(name, self.names[kind]) == [code] else code
+        return name if name and self.names[kind].meant(name) == [code] else code
 
     def slot(self, slot: Slot) -> Tuple[str, str]:
         """The day and the period, by weekday and time if they are known."""
