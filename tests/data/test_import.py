@@ -484,6 +484,28 @@ class ThereAndBack(Tables):
                 )
                 self.check_labels(day, plan, wanted)
 
+    def test_of_a_draft(self):
+        """The newest timetable, or that after a draft."""
+        self.tables()
+        self.imported()
+        office = self.open("day", self.path("plan"), "1")
+        self.sit("day", 0, "open\ndrop Analysis 0 0\ncommit\n")
+        for words, lectures in (([], 2), (["--at", "0"], 3), (["--at", "1"], 2)):
+            tables = self.path("_".join(["tables", *words[1:]]))
+            status, printed, _ = self.office("export", self.path("day"), *words, "-o", tables)
+            self.assertEqual(status, 0)
+            with open(os.path.join(tables, "lectures.csv"), encoding="utf-8-sig") as file:
+                self.assertEqual(len(file.readlines()), 1 + lectures)
+            self.assertIn("term.csv", printed)
+        again = self.office("export", self.path("day"), "-o", tables)
+        self.assertEqual(again[0], 3)
+        self.assertIn("is there already, and is not written over", again[2])
+        # names, weekdays and times are written, and not codes and numbers
+        with open(os.path.join(tables, "lectures.csv"), encoding="utf-8-sig") as file:
+            self.assertIn("Linear Algebra,Hall 2,Mon,10:15\n", file.read())
+        self.office("close", self.path("day"), "--wait", "0")
+        self.assertEqual(office.wait(60), 0)
+
     def check_labels(self, day, plan, instance):
         """All is said as before."""
         old, new = read_labels(day.path), read_labels(plan)
