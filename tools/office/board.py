@@ -317,7 +317,7 @@ class Board:
 
         box = drafting.box()
         if box is not None:
-            self.overlay = CommitBox(box, lambda: self.planning.foretold, self.wording, commit)
+            self.overlay = CommitBox(box, drafting.renewed, self.wording, commit)
 
     def put_aside(self) -> None:
         self.work.carry = None

@@ -26,6 +26,8 @@ class Box(NamedTuple):
     after: Costs
     missing: Dict[str, int]
     stale: str
+    # who has changed that row
+    who: List[Notice] = []
 
     def lines(self) -> List[Notice]:
         told = [
@@ -36,7 +38,7 @@ class Box(NamedTuple):
         if self.missing:
             told.append(say("leaves missing", courses=self.missing))
         if self.stale:
-            told.append(say("box stale", row=self.stale))
+            told += [say("box stale", row=self.stale), *self.who]
         else:
             told.append(say("box fresh"))
         return told
@@ -114,14 +116,21 @@ class Drafting:
             for course in planning.instance.courses
             if draft.missing(course) > base.missing(course)
         }
-        return Box(
-            planning.edits(),
-            planning.shifts(),
-            planning.base_costs,
-            planning.costs(),
-            missing,
-            planning.foretold,
+        return self.renewed(
+            Box(
+                planning.edits(),
+                planning.shifts(),
+                planning.base_costs,
+                planning.costs(),
+                missing,
+                planning.foretold,
+            )
         )
+
+    def renewed(self, box: Box) -> Box:
+        """A box with what others have changed by now."""
+        row = self.planning.foretold
+        return box._replace(stale=row, who=self.who_changed(row) if row else [])
 
     def commit(self, edits: List[str], why: str) -> Optional[Question]:
         """Commits the edits that were confirmed, with the reason that was given, which may be

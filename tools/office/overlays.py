@@ -220,11 +220,11 @@ class CommitBox(Overlay):
     def __init__(
         self,
         box: Box,
-        stale: Callable[[], str],
+        renewed: Callable[[Box], Box],
         wording: Wording,
         commit: Callable[[List[str], str], None],
     ) -> None:
-        self.box, self.stale, self.wording, self.commit = box, stale, wording, commit
+        self.box, self.renewed, self.wording, self.commit = box, renewed, wording, commit
         self.why = ""
 
     def press(self, key: str) -> bool:
@@ -237,7 +237,7 @@ class CommitBox(Overlay):
         return key in ("enter", "escape")
 
     def rows(self, height: int, width: int) -> List[Row]:
-        box = self.box._replace(stale=self.stale())
+        box = self.renewed(self.box)
         lines = self.wording.lines(box.lines())
         lines = [row for line in lines for row in wrap(shown(line), max(10, width - 2))]
         room = max(1, height - 5)

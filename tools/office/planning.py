@@ -43,12 +43,12 @@ class Planning(Reading):
         if self.ended():
             self.notice = say("decide first", count=len(self.ended()))
             return False
-        if self.is_failing:
-            self.notice = say("minutes fail")
-            return False
         return self._open_new()
 
     def _open_new(self) -> bool:
+        if self.is_failing:
+            self.notice = self.refused = say("minutes fail")
+            return False
         answer = self.turn("open")
         if answer == "opened":
             self._stand_anew()
