@@ -78,6 +78,7 @@ class Readers:
         return {"number": self.pictures, "week": week}
 
     async def look(self) -> None:
+        self.windows.drop_silent()
         if self.minutes.has_grown() and self._read_on():
             for window in self.windows.all():
                 if window.is_listening:

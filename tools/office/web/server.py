@@ -136,7 +136,6 @@ class Office:
     async def look(self) -> None:
         """Looks for news at each place at which somebody is."""
         for place in self.places():
-            place.windows.drop_silent()
             await place.look()
         people = self.who_sits()
         if people != self.people:

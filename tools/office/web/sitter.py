@@ -235,7 +235,10 @@ class Sitter:
 
     async def look(self) -> None:
         """Looks for drafts that were accepted since, if somebody sits here."""
-        if self.planning is None or self._waiting:
+        if self._waiting:
+            return
+        self.windows.drop_silent()
+        if self.planning is None:
             return
         if self.windows.idle_for() > IDLE:
             await self.leave()

@@ -30,6 +30,7 @@ export class Week {
       this.days.map((day) => el("div", { role: "columnheader", cls: "day" }, name(day)))
     );
     grid.replaceChildren(head, ...this.periods.map((label, period) => this.row(label, period)));
+    this.cell(this.cursor).tabIndex = 0;
   }
 
   row(label, period) {
