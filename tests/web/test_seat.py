@@ -213,7 +213,7 @@ class Seats(BrowserTest):
         two.press("x")
         two.sees("your draft: 2 edits", "#costs")
         one.press("Enter")
-        one.sees("changed", "#toasts")
+        one.sees("other edits by now", "#toasts")
         with open(self.path("day/minutes")) as file:
             self.assertEqual(file.read(), "")
         two.press("u")
@@ -297,7 +297,7 @@ class Seats(BrowserTest):
         self.assertIn("c0109", anna.text("#week-title"))
         anna.press("Escape")
         self.committed(anna)
-        self.assertIn("move c0109 4 1 r04 4 3", self.office("log", self.path("day"))[1])
+        self.assertIn("r01 -> day 5, period 4, r04", self.office("log", self.path("day"))[1])
 
     def test_killed_during_a_commit(self):
         """A commit under whose way the server is killed is on the disk or is not, and the page says
@@ -330,7 +330,7 @@ class Seats(BrowserTest):
     def test_office_closes(self):
         """The page counts down, and says in the end that the office has closed."""
         anna = self.planner()
-        closing = self.start("close", self.path("day"), "--wait", "3")
+        closing = self.start("close", self.path("day"), "--wait", "6")
         anna.sees("The office closes in", "#banner")
         anna.sees("The office has closed", "#banner")
         self.assertEqual(closing.wait(30), 0)

@@ -63,6 +63,8 @@ class Hand {
     document.body.classList.add("dragging");
     const { pickUp, place } = this.acts;
     pressed.ready = pressed.missing ? place(pressed.missing) : pickUp(pressed.slot);
+    // a hand that rests sees the prices, too, when they come
+    pressed.ready.then(() => this.pressed === pressed && this.tell(this.over));
   }
 
   tell(slot) {

@@ -60,7 +60,7 @@ function drawState() {
 }
 
 function drawBanner() {
-  banner(app.lost || app.waits || closing() || app.picture?.state.alarm || "");
+  banner((app.isOver ? "" : app.lost) || app.waits || closing() || app.picture?.state.alarm || "");
 }
 
 function leave() {
@@ -153,6 +153,8 @@ function tellNews(one) {
 }
 
 function lost(fault) {
+  // an office that has closed answers no more
+  if (app.closes && Date.now() / 1000 > app.closes) app.isOver = true;
   app.lost = app.fault || fault.message;
   document.body.classList.add("lost");
   drawBanner();
