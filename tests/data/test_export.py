@@ -1,0 +1,144 @@
+"""The tables of a day, which give the same instance and timetable again."""
+import json
+import os
+import random
+import sys
+import unittest
+from contextlib import redirect_stdout
+from io import StringIO
+
+from support import HERE, PROGRAM
+from test_import import Tables
+
+from office.exporting import export_day
+from office.folder import Day
+from office.importing import import_folder
+from office.instance import read_instance, read_solution
+from office.label_files import read_labels
+
+sys.path.insert(0, os.path.join(HERE, "tests"))
+from drawn import PIECES, draw_instance, draw_solution  # noqa: E402
+from rules import Instance as Rules  # noqa: E402
+
+DRAWN = 21
+
+
+def draw_labels(draw, instance):
+    """Names for some of what has codes, among them names that others have, and times for some
+    slots."""
+    rows = ["kind,code,name,short name"]
+    kinds = {
+        "course": instance.courses,
+        "room": instance.rooms,
+        "teacher": instance.teachers,
+        "curriculum": instance.curricula,
+    }
+    for kind, codes in kinds.items():
+        for code in codes:
+            if draw.random() < 0.6:
+                other = draw.choice(list(codes))
+                name = draw.choice(["Hall 2", "A, B", 'the "x"', f"n {code}", other, ""])
+                cells = [kind, code, name, draw.choice(["", "s"])]
+                rows.append(",".join('"' + cell.replace('"', '""') + '"' for cell in cells))
+    times = ["day,period,weekday,from,to"]
+    for day in range(instance.days):
+        for period in range(instance.periods):
+            if draw.random() < 0.7:
+                span = f"{8 + 2 * period}:15,{9 + 2 * period}:45" if draw.random() < 0.7 else ","
+                times.append(f"{day + 1},{period + 1},{'Mon Tue Wed Thu Fri'.split()[day]},{span}")
+    return "\n".join(rows), "\n".join(times)
+
+
+class ThereAndBack(Tables):
+    def make_day(self, draw, number, pieces):
+        """The folder of a day that nobody has opened yet."""
+        day = Day(self.path(f"day{number}"))
+        os.mkdir(day.path)
+        text, barred = draw_instance(draw, pieces)
+        rules = Rules(text, barred)
+        start = b"x"
+        while start == b"x" or not rules.report(rules.read_solution(start))[1]["lawful"]:
+            start = draw_solution(draw, rules)
+        files = {day.instance: text, day.start: start, day.minutes: b""}
+        if barred is not None:
+            files[day.barred] = barred
+        if draw.random() < 0.7:
+            labels = draw_labels(draw, read_instance_of(text, self.path("x")))
+            for file, table in zip(("labels.csv", "times.csv"), labels):
+                files[day.file(file)] = table.encode()
+        facts = {"planners": 1, "program": [PROGRAM], "after": None, "opened": "2026-10-12T08:00"}
+        files[day.facts_file] = json.dumps(facts).encode()
+        for path, written in files.items():
+            with open(path, "wb") as file:
+                file.write(written)
+        return day
+
+    def test_drawn_instances(self):
+        draw = random.Random(76)
+        kinds = list(PIECES)
+        for number in range(DRAWN):
+            kind = kinds[number % len(kinds)]
+            day = self.make_day(draw, number, {kind: PIECES[kind]})
+            with self.subTest(number), redirect_stdout(StringIO()):
+                tables, plan = self.path(f"tables{number}"), self.path(f"plan{number}")
+                export_day(day, None, tables)
+                import_folder(tables, plan, False)
+                barred = day.barred if day.barred_words() else None
+                wanted = read_instance(day.instance, barred)
+                new = os.path.join(plan, "barred")
+                found = read_instance(
+                    os.path.join(plan, "instance.ctt"), new if os.path.exists(new) else None
+                )
+                self.assertEqual(found, wanted)
+                for part in ("courses", "rooms", "curricula", "teachers"):
+                    self.assertEqual(list(getattr(found, part)), list(getattr(wanted, part)))
+                self.assertEqual(os.path.exists(new), barred is not None)
+                self.assertEqual(
+                    sorted(read_solution(os.path.join(plan, "start.sol"))),
+                    sorted(read_solution(day.start)),
+                )
+                self.check_labels(day, plan, wanted)
+
+    def test_of_a_draft(self):
+        """The newest timetable, or that after a draft."""
+        self.tables()
+        self.imported()
+        office = self.open("day", self.path("plan"), "1")
+        self.sit("day", 0, "open\ndrop Analysis 0 0\ncommit\n")
+        for words, lectures in (([], 2), (["--at", "0"], 3), (["--at", "1"], 2)):
+            tables = self.path("_".join(["tables", *words[1:]]))
+            status, printed, _ = self.office("export", self.path("day"), *words, "-o", tables)
+            self.assertEqual(status, 0)
+            with open(os.path.join(tables, "lectures.csv"), encoding="utf-8-sig") as file:
+                self.assertEqual(len(file.readlines()), 1 + lectures)
+            self.assertIn("term.csv", printed)
+        again = self.office("export", self.path("day"), "-o", tables)
+        self.assertEqual(again[0], 3)
+        self.assertIn("is there already, and is not written over", again[2])
+        # names, weekdays and times are written, and not codes and numbers
+        with open(os.path.join(tables, "lectures.csv"), encoding="utf-8-sig") as file:
+            self.assertIn("Linear Algebra,Hall 2,Mon,10:15\n", file.read())
+        self.office("close", self.path("day"), "--wait", "0")
+        self.assertEqual(office.wait(60), 0)
+
+    def check_labels(self, day, plan, instance):
+        """All is said as before."""
+        old, new = read_labels(day.path), read_labels(plan)
+        for slot in instance.slots():
+            self.assertEqual(new.slot(slot), old.slot(slot))
+        for course in instance.courses.values():
+            self.assertEqual(new.course(course.name), old.course(course.name))
+            self.assertEqual(new.teacher(course.teacher), old.teacher(course.teacher))
+        for room in instance.rooms:
+            self.assertEqual(new.room(room), old.room(room))
+            self.assertEqual(new.short("room", room), old.short("room", room))
+
+
+def read_instance_of(text, path):
+    with open(path, "wb") as file:
+        file.write(text)
+    return read_instance(path)
+
+
+if __name__ == "__main__":
+    unittest.main()
