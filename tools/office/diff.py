@@ -6,8 +6,8 @@ from typing import List, Optional, Tuple
 from office.at import At, parse_at, read_at
 from office.drafts import exchanged, row_shifts
 from office.label_files import read_labels
+from office.labels import Labels
 from office.log import difference_words
-from office.refused import CONTENT, Refused
 from office.shifts import Shift
 from office.text import counted
 from office.what import What, names_of
@@ -34,9 +34,9 @@ def concerns(what: What, one: At, other: At, shift: Shift) -> bool:
     )
 
 
-def lines_of(one: At, other: At, what: Optional[What]) -> List[str]:
+def lines_of(one: At, other: At, what: Optional[What], labels: Labels) -> List[str]:
     """The differences in words."""
-    wording = Wording({}, read_labels(other.day.path))
+    wording = Wording({}, labels)
     shifts = [
         shift
         for shift in differences(one, other)
@@ -49,17 +49,17 @@ def lines_of(one: At, other: At, what: Optional[What]) -> List[str]:
     return [*lines, difference_words(one.costs, other.costs)]
 
 
-def whose(one: At, other: At, kind: str, name: str) -> What:
-    """Whose lectures are compared: something that one of the instances has."""
-    if all(name not in names_of(at.instance, ())[kind] for at in (one, other)):
-        raise Refused(f"there is no {kind} {name}", CONTENT)
-    return What(kind, name)
+def whose(one: At, other: At, kind: str, typed: str, labels: Labels) -> What:
+    """Whose lectures are compared: something that one of the instances has, by code or by name."""
+    codes = dict.fromkeys(code for at in (one, other) for code in names_of(at.instance, ())[kind])
+    return What(kind, labels.find(kind, typed, list(codes)))
 
 
 def print_diff(first: str, second: str, chosen: Optional[Tuple[str, str]] = None) -> int:
     """Prints in what two timetables differ, each of a day, or as in `monday:9` after a draft; if
     something is chosen, in what of it."""
     one, other = read_at(*parse_at(first)), read_at(*parse_at(second))
-    what = whose(one, other, *chosen) if chosen else None
-    print("\n".join(lines_of(one, other, what)))
+    labels = read_labels(other.day.path)
+    what = whose(one, other, *chosen, labels) if chosen else None
+    print("\n".join(lines_of(one, other, what, labels)))
     return 0

@@ -111,13 +111,15 @@ class Labels:
     def curriculum(self, code: str) -> str:
         return self.said("curriculum", code)
 
+    def called(self, kind: str, typed: str, codes: List[str]) -> List[str]:
+        """The codes that a person may mean by a code or by a name."""
+        if typed in codes:
+            return [typed]
+        return [code for code in codes if typed in (self.name(kind, code), self.short(kind, code))]
+
     def find(self, kind: str, typed: str, codes: List[str]) -> str:
         """The code that a person means by a code or by a name."""
-        if typed in codes:
-            return typed
-        called = [
-            code for code in codes if typed in (self.name(kind, code), self.short(kind, code))
-        ]
+        called = self.called(kind, typed, codes)
         if len(called) > 1:
             raise Refused(f"several are called {typed}: {', '.join(called)}", CONTENT)
         if not called:

@@ -87,9 +87,10 @@ def draft_object(
 def print_log(day: Day, words: List[str], is_json: bool) -> int:
     """Prints the accepted drafts of a day, or those that concern something."""
     drafts, instance = read_drafts(day), instance_of(day)
-    what = find_what(words, instance, drafts) if words else None
+    labels = read_labels(day.path)
+    what = find_what(words, instance, drafts, labels) if words else None
     costs = play_costs(day, [draft.edits for draft in drafts])
-    wording, objects = Wording({}, read_labels(day.path)), []
+    wording, objects = Wording({}, labels), []
     for draft, both in zip(drafts, zip(costs, costs[1:])):
         touched = what.touched(instance, draft) if what else draft.shifts
         if touched is None:

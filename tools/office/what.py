@@ -1,14 +1,15 @@
 """What a person asks about: a course, a teacher, a room, a curriculum, a planner or a draft."""
 from __future__ import annotations
 
-from typing import Dict, Iterable, List, NamedTuple, Optional
+from typing import Dict, Iterable, List, NamedTuple, Optional, Tuple
 
 from office.drafts import Draft
 from office.instance import Instance
+from office.labels import Labels
 from office.refused import CONTENT, WORDS, Refused
 from office.shifts import Shift
 
-KINDS = ("course", "teacher", "room", "curriculum", "planner", "draft")
+KINDS: Tuple[str, ...] = ("course", "teacher", "room", "curriculum", "planner", "draft")
 
 
 class What(NamedTuple):
@@ -47,22 +48,28 @@ def names_of(instance: Instance, drafts: Iterable[Draft]) -> Dict[str, Iterable[
     }
 
 
-def find_what(words: List[str], instance: Instance, drafts: List[Draft]) -> What:
-    """What is meant by a name, or by a kind and a name; a planner may be meant by his seat, too."""
+def find_what(
+    words: List[str], instance: Instance, drafts: List[Draft], labels: Labels
+) -> What:
+    """What is meant by a code or a name, which may have its kind in front; a planner may be meant
+    by his seat, too, if it has."""
     names = names_of(instance, drafts)
+    kinds = KINDS
     if len(words) == 2 and words[0] in KINDS:
-        kind, name = words
-        seats = [str(draft.planner) for draft in drafts] if kind == "planner" else []
-        if name not in [*names[kind], *seats]:
-            raise Refused(f"there is no {kind} {name}", CONTENT)
-        return What(kind, name)
-    if len(words) != 1:
+        kinds = (words[0],)
+        names["planner"] = [*names["planner"], *(str(draft.planner) for draft in drafts)]
+    elif len(words) != 1:
         raise Refused(f"a name, or {', '.join(KINDS)} and a name: {' '.join(words)}", WORDS)
-    found = [kind for kind in KINDS if words[0] in names[kind]]
+    typed = words[-1]
+    found = [
+        What(kind, code)
+        for kind in kinds
+        for code in labels.called(kind, typed, list(names[kind]))
+    ]
     if not found:
-        *most, last = KINDS
-        raise Refused(f"there is no {', '.join(most)} or {last} {words[0]}", CONTENT)
+        told = ", ".join(kinds[:-1]) + " or " if len(kinds) > 1 else ""
+        raise Refused(f"there is no {told}{kinds[-1]} {typed}", CONTENT)
     if len(found) > 1:
-        say = " or ".join(f"{kind} {words[0]}" for kind in found)
-        raise Refused(f"{words[0]} is the name of several: say {say}", CONTENT)
-    return What(found[0], words[0])
+        told = " or ".join(" ".join(what) for what in found)
+        raise Refused(f"{typed} is the name of several: say {told}", CONTENT)
+    return found[0]
