@@ -193,7 +193,8 @@ class Reverts(Comp07):
         self.assertIn(f": 1 lecture differs\n    {MOVE}\n", found)
 
     def test_changed_since(self):
-        self.sit("day", 2, "open\nmove c0097 2 3 r18 0 3\ndrop c0078 4 1\ncommit\n", "--name", "dan")
+        moved = "open\nmove c0097 2 3 r18 0 3\ndrop c0078 4 1\ncommit\n"
+        self.sit("day", 2, moved, "--name", "dan")
         status, printed, _ = self.command("revert", self.path("day"), "2")
         self.assertEqual(status, 1)
         self.assertEqual(
@@ -234,10 +235,8 @@ class Reverts(Comp07):
         for planner in range(4):
             self.sit("day", planner, "open\n")
         found = self.command("revert", day, "1")
-        self.assertEqual(
-            found,
-            (3, "", f"office: no seat of {day} is free: --seat names one, whose draft gets the edits\n"),
-        )
+        said = f"no seat of {day} is free: --seat names one, whose draft gets the edits"
+        self.assertEqual(found, (3, "", f"office: {said}\n"))
         self.office("close", day, "--wait", "0")
         self.assertEqual(
             self.command("revert", day, "1", "--seat", "0"),
