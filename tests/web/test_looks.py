@@ -93,21 +93,29 @@ class Looks(BrowserTest):
         browser.press("u", "u")
         browser.sees("your draft: 0 edits", "#costs")
 
-    def test_looks(self):
-        """Contrast by day and by night; nothing is cut or lies outside, at 1280 by 800, on a tablet
-        and at 200 percent."""
+    def test_contrast(self):
+        """By day and by night."""
         anna = self.planner()
         for scheme in ("light", "dark"):
             features = [{"name": "prefers-color-scheme", "value": scheme}]
             anna.cdp("Emulation.setEmulatedMedia", features=features)
             for state in self.each_state(anna):
                 self.assertEqual(anna.run(CONTRAST), [], (scheme, state))
+        anna.cdp("Emulation.setEmulatedMedia", features=[])
+
+    def test_sizes(self):
+        """Nothing is cut or lies outside, at 1280 by 800, on a tablet and at 200 percent."""
+        anna = self.planner()
         for width, height, zoom in ((1280, 800, 1), (820, 1180, 1), (1280, 800, 2)):
             anna.set_size(width, height, zoom=zoom)
             for state in self.each_state(anna):
                 self.assertEqual(anna.run(WIDE), [], (width, zoom, state))
                 self.assertEqual(anna.run(CUT), [], (width, zoom, state))
         anna.set_size(1280, 800)
+
+    def test_motion_and_paper(self):
+        """Nothing jumps or moves, colours may be forced, and a week is printed."""
+        anna = self.planner()
         self.nothing_jumps(anna)
         self.motion_and_colours(anna)
         self.paper(anna)

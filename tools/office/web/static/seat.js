@@ -60,7 +60,8 @@ function drawState() {
 }
 
 function drawBanner() {
-  banner((app.isOver ? "" : app.lost) || app.waits || closing() || app.picture?.state.alarm || "");
+  const lost = app.fault || (app.isOver ? "" : app.lost);
+  banner(lost || app.waits || closing() || app.picture?.state.alarm || "");
 }
 
 function leave() {
