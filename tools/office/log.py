@@ -14,7 +14,7 @@ from office.play import play_costs
 from office.shifts import Shift
 from office.text import counted, shown, signed
 from office.timetable import Lecture
-from office.what import What, find_what
+from office.what import find_what
 from office.wording import Wording
 
 
