@@ -144,7 +144,7 @@ class Acts {
     boxes.askLine((line) => this.queue(() => this.turn("line", { line })));
   }
 
-  // an action by the name that keys have, on what is seen now
+  // an action by the name that keys have, on what is seen when all before it is done
   act(name) {
     const slot = this.week.cursor;
     const lecture = this.week.seen(slot);
@@ -162,11 +162,13 @@ class Acts {
       next: () => this.rooms(slot, lecture),
       "lay down": () => this.layDown(),
     }[name];
-    return this.queue(own || (() => this.turn("act", { name, lecture })));
+    return own ? own() : this.turn("act", { name, lecture });
   }
 }
 
 const QUEUED = ["show", "pickUp", "place", "drop", "putDown", "layDown", "rooms", "answer"];
+// these wait for nothing: what is typed behind them is text
+const AT_ONCE = ["view", "line", "help"];
 
 // the acts, each after those that were asked for before it
 export function makeActs(parts) {
@@ -174,11 +176,10 @@ export function makeActs(parts) {
   const acts = {
     isHolding: () => raw.isHolding(),
     told: (slot) => raw.told(slot),
-    act: (name) => raw.act(name),
+    act: (name) => (AT_ONCE.includes(name) ? raw.act(name) : raw.queue(() => raw.act(name))),
     toWeek: raw.toWeek,
     hover: (slot) => raw.look.hover(slot),
-    go: (days, periods) => raw.look.go(days, periods),
-    goTo: (slot) => raw.look.goTo(slot),
+    go: (days, periods) => raw.queue(() => raw.look.go(days, periods)),
     closeQuestion: (question) => {
       raw.app.question = null;
       return raw.queue(() => raw.turn("close", { question }));
