@@ -25,6 +25,8 @@ def main(folder):
     # several parts of one test may fail
     tests = {getattr(test, "test_case", test) for test in faults}
     passed = found.testsRun - len(tests) - len(found.skipped)
+    for why in sorted({why for _, why in found.skipped}):
+        print(f"{sum(one == why for _, one in found.skipped)} skipped: {why}")
     print(f"{passed} passed, {failed} failed")
     sys.exit(failed > 0)
 
