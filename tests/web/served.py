@@ -12,7 +12,8 @@ import time
 import unittest
 
 HERE = os.path.dirname(os.path.dirname(os.path.dirname(os.path.abspath(__file__))))
-sys.path.insert(0, os.path.join(HERE, "tests", "client"))
+# behind, since there are tests of the same names
+sys.path.append(os.path.join(HERE, "tests", "client"))
 sys.path.insert(0, os.path.join(HERE, "tools"))
 
 from browser import Browser, Driver, DriverFault, has_browser  # noqa: E402
