@@ -12,7 +12,7 @@ from office.minutes import Entry
 from office.notice import Notice, say
 from office.seat import read_sitter
 from office.shifts import Shift
-from office.timetable import Lecture, Slot
+from office.timetable import Lecture
 from office.words import words_of
 
 
@@ -40,10 +40,6 @@ class Accepted:
 
         was = Counter(one.was for one in self.all() if one.was and is_in(one.was))
         return was != Counter(one.now for one in self.all() if one.now and is_in(one.now))
-
-    def at(self, slot: Slot, courses: List[str]) -> List[Shift]:
-        """What it did with these courses at a slot."""
-        return [one for one in self.all() if one.course in courses and slot in one.slots()]
 
 
 class News:

@@ -5,7 +5,15 @@ from dataclasses import dataclass, field
 from typing import Any, Callable, Dict, List, NamedTuple, Optional, Tuple
 
 # what was not done, or is lost if nothing is done about it
-BAD = {"refused", "stale", "not written", "not in the minutes", "not these edits", "other price"}
+BAD = {
+    "refused",
+    "stale",
+    "not written",
+    "not written nor kept",
+    "not in the minutes",
+    "not these edits",
+    "other price",
+}
 
 
 @dataclass(frozen=True)

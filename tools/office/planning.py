@@ -176,14 +176,13 @@ class Planning(Reading):
         elif answer == "not written":
             self.fail()
             self.read_again()
-            self.notice = say("not written", kept=self.where_kept())
+            # where the edits of the draft are: in the log, if that can be written
+            fault = self.seat.log.fault
+            self.notice = say("not written")
+            if fault:
+                self.notice = say("not written nor kept", fault=fault)
         else:
             self.notice = answer_told(answer)
-
-    def where_kept(self) -> Notice:
-        """Where the edits of the draft are: in the log, if that can be written."""
-        fault = self.seat.log.fault
-        return say("kept nowhere", fault=fault) if fault else say("kept in the log")
 
     def abandon(self) -> None:
         count = len(self.edits() or self.ended())

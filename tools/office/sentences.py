@@ -68,11 +68,11 @@ DRAFT = {
     "reason not kept": " The reason could not be written ({fault}).",
     "not these edits": "Your draft has other edits by now: look at them again.",
     "not in the minutes": "Not written: {answer}, says the desk; the minutes do not have it.",
-    "not written": "Not written: the disk is full, or fails. {kept} Tell the office.",
-    "kept in the log": "Your edits are in the log.",
-    "kept nowhere": "Your edits are on no disk ({fault}): write them down.",
-    "minutes fail": "Nothing can be committed any more: the disk is full, or fails. You see what "
-    "is on the disk. Tell the office.",
+    "not written": "Not written: the disk is full, or fails. Your edits are in the log.",
+    "not written nor kept": "Not written, and your edits are on no disk ({fault}): write them "
+    "down.",
+    "minutes fail": "Nothing can be committed any more: the disk is full, or fails. Tell the "
+    "office.",
     "empty draft": "{row} has changed, and your draft had no edits left: it is closed, and you see "
     "the newest timetable.",
     "newest": "No draft is open: you see the newest timetable.",
@@ -174,7 +174,6 @@ LINES = {
     "box change": "Cost {price}: {parts}.",
     "box cost": "It costs {count} then.",
     "leaves missing": "It leaves lectures missing: {courses}.",
-    "stale by now": "stale by now: {row} has changed",
     "box fresh": "Nothing that it stands on has changed.",
     "box stale": "Stale by now: {row} has changed. Nothing is lost; it cannot be committed as it "
     "is.",
