@@ -136,8 +136,8 @@ class Sitter:
         planning = Planning(seat, self.frame.instance)
         seat.waits = self._tell_waiting
         try:
-            work = Work(planning)
-            self.first, self.variants = work.begin(), work.variants
+            self.begun = Work(planning)
+            self.first = self.begun.begin()
         except BaseException:
             seat.go()
             raise
@@ -160,7 +160,7 @@ class Sitter:
         if window.shown is None or window.shown.planning is not self.planning:
             window.shown = Shown(self.planning)
             # what was put aside is put aside at the seat
-            window.shown.work.variants = self.variants
+            window.shown.work.variants = self.begun.variants
         shown: Shown = window.shown
         return shown
 
@@ -176,7 +176,7 @@ class Sitter:
         accepted, cost = len(planning.seat.story.accepted), sum(planning.costs().values())
         planning.notice = planning.alarm = NOTHING
         self._act(shown, verb, told)
-        if shown.work.is_done:
+        if shown.work.is_done or self.begun.is_done:
             self._go()
             return {"left": True, "others": [(one, {"left": True}) for one in self._others(window)]}
         found: Data = {

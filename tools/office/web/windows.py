@@ -10,7 +10,7 @@ from office.web.guard import Fault
 
 # events that may wait for a window, windows of one seat, and the seconds after which one that
 # neither listens nor asks is forgotten
-WAIT, MOST, SILENT = 32, 4, 30.0
+WAIT, MOST, SILENT = 32, 4, 90.0
 Data = Dict[str, Any]
 
 
