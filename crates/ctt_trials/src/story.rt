@@ -295,18 +295,20 @@ impl Sink for Story {
 
     fn put(&mut self, bytes: &[u8]) -> Result<usize, Failed> {
         let taken = bytes.len().min(self.room);
-        if taken == 0 && !bytes.is_empty() {
+        if taken == 0 {
+            if bytes.is_empty() {
+                return Ok(0);
+            }
             self.failed = true;
             return Err(Failed);
         }
         let failed = self.failed;
         let room = self.room - taken;
+        let unflushed = self.unflushed.next();
         self.bytes(&bytes[..taken]);
         self.failed = failed;
         self.room = room;
-        if taken > 0 {
-            self.unflushed = self.unflushed.next();
-        }
+        self.unflushed = unflushed;
         Ok(taken)
     }
 
