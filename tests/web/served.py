@@ -269,7 +269,7 @@ class BrowserTest(WebTest):
 
     def committed(self, browser, why=""):
         self.commit(browser, why)
-        browser.sees("Committed as draft", "#toasts")
+        browser.sees("Committed as draft", "#said")
 
 
 # how many edits the draft has, and whether a box is in front

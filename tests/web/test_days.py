@@ -68,7 +68,7 @@ class Days(BrowserTest):
         anna.sees("Your draft is stale: nothing is lost", "#box")
         anna.sees("ben", "#box")
         anna.press("Enter")
-        anna.sees("1 of 1 edit made again", "#toasts")
+        anna.sees("made again, none committed yet", "#said")
         self.committed(anna, "nearer")
         if terminal:
             terminal.wait("accepted today" if "accepted today" in terminal.text() else "seat 2")

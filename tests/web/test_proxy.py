@@ -118,13 +118,13 @@ class Proxied(BrowserTest):
                 "document.querySelector('#week [tabindex=\"0\"]').focus();"
                 "document.querySelector('#week [tabindex=\"0\"]').dispatchEvent("
                 "new KeyboardEvent('keydown', {key: 'f', bubbles: true}));"
-                "return document.querySelector('#toasts').innerText.includes('login')"
+                "return document.querySelector('#said').innerText.includes('login')"
             )
             self.proxy.renew()
             anna.wait(
                 "document.querySelector('#week [tabindex=\"0\"]').dispatchEvent("
                 "new KeyboardEvent('keydown', {key: 'f', bubbles: true}));"
-                "return document.querySelector('#toasts').innerText.includes('newest timetable')"
+                "return document.querySelector('#said').innerText.includes('newest timetable')"
             )
         self.assertEqual(anna.run("return window.blocked"), [])
         self.assertTrue(os.path.exists(self.path("day/web.socket")))

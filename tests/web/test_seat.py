@@ -143,7 +143,7 @@ class Seats(BrowserTest):
             anna.sees("your draft: 0 edits", "#costs")
         # a lecture that cannot stand there stays where it was
         anna.drag("mouse", cell(FROM) + " .card", cell((0, 0)))
-        anna.sees("cannot stand", "#toasts")
+        anna.sees("cannot stand", "#said")
         self.assertEqual(anna.run(EDITS), 0)
         self.is_clean(anna)
 
@@ -192,7 +192,7 @@ class Seats(BrowserTest):
         self.sit("day", 2, "open\nswap c0109 4 1 c0078 3 1\ncommit\n", "--name", "cleo")
         anna.sees("cleo", "#news")
         anna.wait("return !document.querySelector('#week.holding')")
-        anna.sees("c0109", "#toasts")
+        anna.sees("c0109", "#said")
         # ben, who works elsewhere, sees it, too
         ben.sees("cleo", "#news")
         for one in (anna, ben):
@@ -213,7 +213,7 @@ class Seats(BrowserTest):
         two.press("x")
         two.sees("your draft: 2 edits", "#costs")
         one.press("Enter")
-        one.sees("other edits by now", "#toasts")
+        one.sees("other edits by now", "#said")
         with open(self.path("day/minutes")) as file:
             self.assertEqual(file.read(), "")
         two.press("u")
@@ -253,12 +253,12 @@ class Seats(BrowserTest):
         anna.wait(BOX)
         anna.type("show cost")
         anna.press("Enter")
-        anna.sees("costs 8030 0 708 109", "#toasts")
+        anna.sees("costs 8030 0 708 109", "#said")
         anna.press(":")
         anna.wait(BOX)
         anna.type("leave")
         anna.press("Enter")
-        anna.sees("typed at a terminal", "#toasts")
+        anna.sees("typed at a terminal", "#said")
         self.is_clean(anna)
 
     def test_reader(self):
