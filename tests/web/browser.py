@@ -281,8 +281,9 @@ class Browser:
 
     def picture(self, path):
         """A picture of what is seen."""
+        found = base64.b64decode(self.command("GET", "screenshot"))
         with open(path, "wb") as file:
-            file.write(base64.b64decode(self.command("GET", "screenshot")))
+            file.write(found)
 
     def complaints(self):
         """What the console has as errors or warnings since the last time."""
