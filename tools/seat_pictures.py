@@ -1,7 +1,8 @@
 #!/usr/bin/env python3
-"""Makes the pictures of a seat in a browser that the documents have, from a day that is planned by
-two browsers: docs/web-held.png, docs/web-draft.png and docs/web-commit.png. It needs Chromium and
-its driver.
+"""Makes pictures of a seat in a browser, from a day that is planned by two browsers: web-held.png,
+which the documents have, web-draft.png and web-commit.png. It needs Chromium and its driver.
+
+    tools/seat_pictures.py [FOLDER]      docs by default
 
 PROGRAM names another program than the one that was built.
 """
@@ -13,6 +14,7 @@ sys.path[:0] = [os.path.join(HERE, "tests", "web"), os.path.join(HERE, "tests", 
 
 from served import BOX, COMP07, COMP07_SOL, POOL, BrowserTest, cell  # noqa: E402
 
+FOLDER = os.path.abspath(sys.argv[1] if len(sys.argv) > 1 else os.path.join(HERE, "docs"))
 # a lecture of c0109, where it is cheapest, and one of c0097 with its best place
 FROM, BEST = (4, 1), (4, 3)
 OTHER, THERE = (0, 3), (2, 3)
@@ -35,8 +37,12 @@ class Pictures(BrowserTest):
 
     def save(self, browser, name):
         browser.wait("return document.getElementById('toasts').childElementCount === 0", seconds=60)
-        browser.picture(os.path.join(HERE, "docs", name))
-        print(f"docs/{name}")
+        self.take(browser, name)
+
+    def take(self, browser, name):
+        path = os.path.join(FOLDER, name)
+        browser.picture(path)
+        print(path, flush=True)
 
     def runTest(self):
         os.mkdir(self.path("labels"))
@@ -70,8 +76,7 @@ class Pictures(BrowserTest):
         self.save(anna, "web-draft.png")
         anna.press("c")
         anna.wait(BOX)
-        anna.picture(os.path.join(HERE, "docs", "web-commit.png"))
-        print("docs/web-commit.png")
+        self.take(anna, "web-commit.png")
 
 
 def main():
