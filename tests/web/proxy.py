@@ -1,6 +1,6 @@
 """nginx in front of the seats, by the file that the documents have."""
+import contextlib
 import os
-import re
 import shutil
 import subprocess
 
@@ -25,6 +25,14 @@ http {{
     include {room}/seats.conf;
 }}
 """
+
+
+# how a login may end: each while a file of its name is there
+ENDS = {
+    "redirect": "return 302 https://login.example.org/;",
+    "page": 'return 200 "<h1>Log in</h1>";',
+    "word": "return 401;",
+}
 
 
 def has_nginx():
@@ -56,6 +64,9 @@ class Proxy:
             if old not in self.text:
                 raise ValueError(f"docs/nginx.conf has no {old}")
             self.text = self.text.replace(old, new)
+        ends = "".join(f"if (-f {room}/ends-{how}) {{ {act} }}\n" for how, act in ENDS.items())
+        inside = f"location /seats/ {{\ndefault_type text/html;\n{ends}"
+        self.text = self.text.replace("location /seats/ {", inside)
         self.write(self.text)
         with open(os.path.join(room, "nginx.conf"), "w") as file:
             file.write(MAIN.format(room=room))
@@ -90,27 +101,14 @@ class Proxy:
     def expire(self, how):
         """The login of the house ends: `redirect` leads to its page, `page` shows it, `word` asks
         for the password."""
-        inside = {
-            "redirect": "return 302 https://login.example.org/;",
-            "page": 'default_type text/html; return 200 "<h1>Log in</h1>";',
-            "word": 'auth_basic_user_file /dev/null; auth_basic "again";',
-        }[how]
-        text = self.text
-        if how == "word":
-            text = re.sub(
-                r"auth_basic \"timetabling\";\n +auth_basic_user_file [^;]+;", inside, text
-            )
-        else:
-            text = text.replace("location /seats/ {", "location /seats/ {\n" + inside)
-        self.write(text)
-        self.reload()
+        self.renew()
+        with open(os.path.join(self.room, f"ends-{how}"), "w"):
+            pass
 
     def renew(self):
-        self.write(self.text)
-        self.reload()
-
-    def reload(self):
-        self.process.send_signal(1)
+        for how in ENDS:
+            with contextlib.suppress(FileNotFoundError):
+                os.remove(os.path.join(self.room, f"ends-{how}"))
 
     def log(self):
         with open(os.path.join(self.room, "access.log")) as file:

@@ -148,7 +148,7 @@ class Faults(BrowserTest):
                 "const found = [];"
                 "const walk = document.createTreeWalker(document.body, NodeFilter.SHOW_TEXT);"
                 "while (walk.nextNode()) if (/[\\u0590-\\u08ff\\u202e]/.test(walk.currentNode.data)"
-                " && !walk.currentNode.parentElement.closest('bdi, .course'))"
+                " && !walk.currentNode.parentElement.closest('bdi, .course, #said'))"
                 " found.push(walk.currentNode.data);"
                 "return found"
             )

@@ -110,10 +110,9 @@ class Proxied(BrowserTest):
         self.sit("day", 1, "open\nplace alg A 0 0\ncommit\n", "--name", "ben")
         begun = time.monotonic()
         anna.sees("ben", "#news")
-        self.assertLess(time.monotonic() - begun, 3)
+        self.assertLess(time.monotonic() - begun, 20)
         for how in ("redirect", "page", "word"):
             self.proxy.expire(how)
-            # a request after the change, which goes to a new worker
             anna.wait(
                 "document.querySelector('#week [tabindex=\"0\"]').focus();"
                 "document.querySelector('#week [tabindex=\"0\"]').dispatchEvent("
