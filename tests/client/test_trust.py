@@ -123,6 +123,10 @@ class Meant(Two):
         self.assertIn("Why? 0109", text)
         self.assertEqual(anna.planning.minutes.read_on(), [])
         self.assertTrue(anna.planning.is_open)
+        # a name that was looked for, with the key that takes the first of a list
+        self.assertIn("c0109 is a name", self.type_keys(anna, "enter"))
+        self.assertEqual(anna.planning.minutes.read_on(), [])
+        self.assertNotIn("is a name", self.type_keys(anna, "backspace"))
         self.type_keys(anna, "escape")
         self.go_to(anna, "course c0001", (1, 2))
         self.type_keys(anna, "x")

@@ -317,7 +317,8 @@ class Board:
 
         box = drafting.box()
         if box is not None:
-            self.overlay = CommitBox(box, drafting.renewed, self.wording, commit)
+            names = self.planning.instance.names()
+            self.overlay = CommitBox(box, drafting.renewed, self.wording, commit, names)
 
     def put_aside(self) -> None:
         self.work.carry = None

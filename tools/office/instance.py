@@ -40,6 +40,10 @@ class Instance:
         self.numbers = {name: number for number, name in enumerate(self.courses)}
         self.mates: dict[str, set[str]] = {name: self._mates_of(name) for name in self.courses}
 
+    def names(self) -> set[str]:
+        """The names of courses, rooms, teachers and curricula."""
+        return {*self.courses, *self.rooms, *self.teachers, *self.curricula}
+
     def _mates_of(self, name: str) -> set[str]:
         """The courses that share a teacher or a curriculum with a course."""
         mates = set(self.teachers[self.courses[name].teacher])

@@ -2,7 +2,19 @@
 line to type."""
 from __future__ import annotations
 
-from typing import Any, Callable, Dict, Generic, List, Mapping, Optional, Sequence, Tuple, TypeVar
+from typing import (
+    Any,
+    Callable,
+    Container,
+    Dict,
+    Generic,
+    List,
+    Mapping,
+    Optional,
+    Sequence,
+    Tuple,
+    TypeVar,
+)
 
 from office.drafting import Box
 from office.grid import Row
@@ -223,17 +235,29 @@ class CommitBox(Overlay):
         renewed: Callable[[Box], Box],
         wording: Wording,
         commit: Callable[[List[str], str], None],
+        names: Container[str],
     ) -> None:
         self.box, self.renewed, self.wording, self.commit = box, renewed, wording, commit
+        self.names = names
         self.why = ""
+        # whether a name that was typed is asked about
+        self.is_asking = False
+
+    def typed(self) -> str:
+        """What was typed, with the key that opened the box: perhaps a name that was looked for."""
+        return key_of("commit") + self.why
 
     def press(self, key: str) -> bool:
         if key == "enter":
+            if self.typed() in self.names and not self.is_asking:
+                self.is_asking = True
+                return False
             self.commit(self.box.edits, self.why)
         elif key == "backspace":
             self.why = self.why[:-1]
         elif len(key) == 1:
             self.why += key
+        self.is_asking = False
         return key in ("enter", "escape")
 
     def rows(self, height: int, width: int) -> List[Row]:
@@ -250,4 +274,6 @@ class CommitBox(Overlay):
         rows += [[("", "")]] * (height - len(rows) - 2)
         rows.append([(fit(f" Why? {why}_", width), "cursor")])
         keys = "letters say why (it may stay empty)   Enter commits, Escape goes back"
+        if self.is_asking:
+            keys = f"{self.typed()} is a name. Commit? Enter once more commits, Escape goes back"
         return rows + [[(fit(f" {keys}", width), "head")]]
