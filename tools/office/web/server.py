@@ -100,8 +100,8 @@ class Office:
         if verb == "hello":
             found.update(day=self.day.name, closes=self.closes)
         if verb == "hello" and who != READER:
-            self.people = self.who_sits()
-            found.update(people=self.people)
+            # the others are told at the next look
+            found.update(people=self.who_sits())
         if found.pop("committed", False):
             await self.look()
         return found
