@@ -12,6 +12,14 @@ sys.dont_write_bytecode = True
 HERE = os.path.dirname(os.path.abspath(__file__))
 
 
+def why_of(trace):
+    """The first line of what a fault says, behind the lines of the code."""
+    lines = trace.splitlines()
+    last = max((n for n, line in enumerate(lines) if line.startswith("  File ")), default=-1)
+    told = [line for line in lines[last + 1 :] if not line.startswith("    ")]
+    return (told or [""])[0]
+
+
 def main(folder):
     """Runs the tests of a folder beside this file."""
     folder = os.path.join(HERE, folder)
@@ -27,6 +35,8 @@ def main(folder):
     passed = found.testsRun - len(tests) - len(found.skipped)
     for why in sorted({why for _, why in found.skipped}):
         print(f"{sum(one == why for _, one in found.skipped)} skipped: {why}")
+    for test, trace in found.failures + found.errors:
+        print(f"FAILED: {test.id()}: {why_of(trace)[:300]}")
     print(f"{passed} passed, {failed} failed")
     sys.exit(failed > 0)
 

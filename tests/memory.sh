@@ -2,8 +2,10 @@
 # Refuses requests for memory, by a `malloc` in front of the C library's.
 #
 # Of the trials each request is refused alone, from the first on until a run meets no refusal. Each
-# run has to print what the trials print with memory, but for the number of calls that were made
-# again, which is at least 1.
+# run has to print what the trials print with memory, but for the last line: one call was made again
+# on the same values and has to have had its answer then. Where a call did not leave its values as
+# they were (a script that is run, events that are sent at once, a desk that is made of its opening,
+# an input that is read), its case was run anew instead.
 # Of the program each request of some runs is refused, alone and with all after it: it has to end
 # with status 3 and 'timedesk: no memory' and store nothing.
 #
@@ -70,15 +72,21 @@ lane() {
         met=$(<"met.$1")
         [ -n "$met" ] || break
         told=${printed##*again }
-        if [ "${printed%again *}" != "$wanted" ] || [[ ! $told =~ ^[0-9]+$'\n'done$ ]]; then
-            echo "FAILED: the trials, request $number"
-        elif [[ $told != 0* ]]; then
-            echo again
-        elif [[ $met =~ ^more\ ([0-9]+)$ ]] && ((BASH_REMATCH[1] % lecture_size == 0)); then
-            echo collected
-        else
-            echo "FAILED: the trials, request $number ($met), which could be done without"
+        if [ "${printed%again *}" != "$wanted" ]; then
+            told=other
         fi
+        case $told in
+            $'1\ndone' | $'1 anew 0\ndone') echo again ;;
+            $'0 anew 1\ndone') echo anew ;;
+            $'0\ndone' | $'0 anew 0\ndone')
+                if [[ $met =~ ^more\ ([0-9]+)$ ]] && ((BASH_REMATCH[1] % lecture_size == 0)); then
+                    echo collected
+                else
+                    echo "FAILED: the trials, request $number ($met), which could be done without"
+                fi
+                ;;
+            *) echo "FAILED: the trials, request $number" ;;
+        esac
     done
 }
 
@@ -143,8 +151,8 @@ try_trials() {
         failed=$((failed + 1))
         echo "FAILED: $name read $solutions solutions, and $(noted collected) lists of lectures were made in another way"
     fi
-    echo "$name met $now refusals: \
-$(noted again) calls were made again, $(noted collected) lists were made in another way"
+    echo "$name met $now refusals: $(noted again) calls were made again, $(noted anew) cases were run anew, \
+$(noted collected) lists were made in another way"
 }
 
 # Which line of the crew of one wanted memory, by what was printed.

@@ -1,6 +1,7 @@
 #!/usr/bin/env python3
-"""Makes pictures of a seat in a browser, from a day that is planned by two browsers: web-held.png,
-which the documents have, web-draft.png and web-commit.png. It needs Chromium and its driver.
+"""Makes the pictures of seats in browsers that the documents have, from a day that is planned by
+two browsers: web-held.png, web-night.png, web-stale.png and web-reader.png. It needs Chromium and
+its driver.
 
     tools/seat_pictures.py [FOLDER]      docs by default
 
@@ -12,7 +13,7 @@ import sys
 HERE = os.path.dirname(os.path.dirname(os.path.abspath(__file__)))
 sys.path[:0] = [os.path.join(HERE, "tests", "web"), os.path.join(HERE, "tests", "client")]
 
-from served import BOX, COMP07, COMP07_SOL, POOL, BrowserTest, cell  # noqa: E402
+from served import COMP07, COMP07_SOL, POOL, BrowserTest, cell  # noqa: E402
 
 FOLDER = os.path.abspath(sys.argv[1] if len(sys.argv) > 1 else os.path.join(HERE, "docs"))
 # a lecture of c0109, where it is cheapest, and one of c0097 with its best place
@@ -69,14 +70,25 @@ class Pictures(BrowserTest):
         self.committed(ben, "The Great Hall is needed on Friday")
         anna.sees("1 accepted since", "#costs")
         self.show(anna, "c0109")
-        anna.cdp(
-            "Emulation.setEmulatedMedia",
-            features=[{"name": "prefers-color-scheme", "value": "dark"}],
-        )
-        self.save(anna, "web-draft.png")
-        anna.press("c")
-        anna.wait(BOX)
-        self.take(anna, "web-commit.png")
+        self.colours(anna, "dark")
+        self.save(anna, "web-night.png")
+        self.colours(anna, "light")
+        self.commit(anna)
+        anna.sees("Your draft is stale: nothing is lost", "#box")
+        self.take(anna, "web-stale.png")
+        self.read()
+
+    def colours(self, browser, scheme):
+        features = [{"name": "prefers-color-scheme", "value": scheme}]
+        browser.cdp("Emulation.setEmulatedMedia", features=features)
+
+    def read(self):
+        """The week of a curriculum, as who has the reader's link sees it."""
+        reader = self.browser()
+        reader.go(self.links["reader"])
+        reader.wait("return performance.getEntriesByName('ready').length > 0")
+        self.show(reader, "q022")
+        self.take(reader, "web-reader.png")
 
 
 def main():

@@ -12,10 +12,10 @@ sys.path.insert(0, os.path.join(HERE, "tools"))
 
 from fake_costs import Costs  # noqa: E402
 from fake_draft import FakeDraft  # noqa: E402
+from fake_week import FakeWeek  # noqa: E402
 from fake_words import TURNS, bad_word  # noqa: E402
 from office.edits import LENGTHS, normal_form  # noqa: E402
 from office.instance import COMMANDS, read_instance, read_solution  # noqa: E402
-from office.timetable import Timetable  # noqa: E402
 from office.words import encoded, words_of  # noqa: E402
 
 FAULT = os.environ.get("FAULT")
@@ -24,7 +24,7 @@ class FakeDesk:
     def __init__(self, instance, start, planners, minutes):
         self.instance, self.minutes = instance, minutes
         self.costs = Costs(instance)
-        self.newest = Timetable(instance, start)
+        self.newest = FakeWeek(instance, start)
         self.count = 0
         self.is_full = False
         self.lines = 0
@@ -90,9 +90,7 @@ class FakeDesk:
         if kind == "cheapest":
             return self.cheapest(t, int(words[1]), words[2:])
         lectures = t.look(" ".join(words))
-        return " ".join(
-            ["lectures", str(len(lectures)), *(lecture.words() for lecture in lectures)]
-        )
+        return " ".join(["lectures", str(len(lectures)), *lectures])
 
     def pattern_edits(self, t, words):
         kind, course = words[:2]
@@ -178,7 +176,7 @@ class FakeDesk:
             ):
                 return f"course {course}"
         for slot in self.instance.slots():
-            if slot in draft.slots and draft.base.by_slot[slot] != self.newest.by_slot[slot]:
+            if slot in draft.slots and draft.base.in_slot(slot) != self.newest.in_slot(slot):
                 return f"slot {slot[0]} {slot[1]}"
         return None
 
@@ -319,11 +317,11 @@ def mend(words):
     """Prints those lectures of a solution that can be placed one after another, and names the
     others."""
     files, found = options(words)
-    timetable = Timetable(read_instance(files[0], found.get("--barred")))
+    timetable = FakeWeek(read_instance(files[0], found.get("--barred")))
     for course, room, day, period in read_solution(files[1]):
         fault = timetable.placing_fault(course, (day, period), room)
         if fault is None:
-            timetable.put(course, (day, period), room)
+            timetable.by_course[course][day, period] = room
             print(course, room, day, period)
         else:
             print(f"timedesk: set aside {course} {room} {day} {period} {fault}", file=sys.stderr)

@@ -26,7 +26,7 @@ FAKE = os.path.join(HERE, "tests/client/fake_desk.py")
 # where a sync takes no time, if there is such a place
 FAST = "/dev/shm" if os.path.isdir("/dev/shm") else None
 # what takes longer hangs
-PATIENCE = 60
+PATIENCE = 2 * int(os.environ.get("PATIENCE", "30"))
 
 
 def wait_until(fact, seconds=PATIENCE):

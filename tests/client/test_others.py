@@ -143,3 +143,15 @@ class Others(OfficeTest):
         self.listed("day")
         self.open("next", "--after", self.path("day"))
         self.assertEqual(read_pins(Day(self.path("next"))), read_pins(Day(self.path("day"))))
+
+    def test_names_change(self):
+        """Names that change are taken over; wrong ones are not."""
+        self.assertIn("week of course geo", self.see("course geo"))
+        head = "kind,code,name\n"
+        self.write("day/labels.csv", head + "course,geo,Geometry\n")
+        self.assertTrue(self.board.tick())
+        self.assertIn("week of course Geometry (geo)", text_of(self.board))
+        self.assertFalse(self.board.tick())
+        self.write("day/labels.csv", head + "planet,geo,Mars\n")
+        self.assertFalse(self.board.tick())
+        self.assertIn("week of course Geometry (geo)", text_of(self.board))

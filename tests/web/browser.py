@@ -6,6 +6,7 @@ import json
 import os
 import re
 import shutil
+import signal
 import subprocess
 import time
 
@@ -46,6 +47,17 @@ class DriverFault(Exception):
     """The driver refuses, or what was waited for did not come."""
 
 
+class BrowserLost(DriverFault):
+    """The browser or its driver has not begun, or has gone: this says nothing of the page."""
+
+
+# what the driver says of a browser that it has lost
+LOST = re.compile(
+    "session not created|invalid session id|disconnected|not reachable|tab crashed"
+    "|failed to start|Timed out receiving message from renderer"
+)
+
+
 class Driver:
     """The process that drives browsers, begun when it is first needed."""
 
@@ -56,6 +68,7 @@ class Driver:
             stdout=subprocess.PIPE,
             stderr=subprocess.DEVNULL,
             text=True,
+            start_new_session=True,
         )
         self.port = 0
         for line in self.process.stdout:
@@ -64,10 +77,15 @@ class Driver:
                 self.port = int(found.group(1))
                 break
         if not self.port:
-            raise DriverFault("the driver does not begin")
+            raise BrowserLost("the driver does not begin")
 
     def end(self):
+        """Ends the driver, and browsers that it has left."""
         self.process.terminate()
+        with contextlib.suppress(subprocess.TimeoutExpired):
+            self.process.wait(10)
+        with contextlib.suppress(ProcessLookupError):
+            os.killpg(self.process.pid, signal.SIGKILL)
         self.process.wait(10)
         self.process.stdout.close()
 
@@ -76,10 +94,14 @@ class Driver:
         connection = http.client.HTTPConnection("127.0.0.1", self.port, timeout=2 * PATIENCE)
         with contextlib.closing(connection):
             text = None if body is None else json.dumps(body)
-            connection.request(method, path, text, {"Content-Type": "application/json"})
-            value = json.loads(connection.getresponse().read())["value"]
+            try:
+                connection.request(method, path, text, {"Content-Type": "application/json"})
+                value = json.loads(connection.getresponse().read())["value"]
+            except (OSError, http.client.HTTPException) as fault:
+                raise BrowserLost(f"the driver does not answer: {fault!r}") from None
         if isinstance(value, dict) and "error" in value:
-            raise DriverFault(f"{value['error']}: {value['message'].splitlines()[0]}")
+            told = f"{value['error']}: {(value['message'].splitlines() or [''])[0]}"
+            raise BrowserLost(told) if LOST.search(told) else DriverFault(told)
         return value
 
 
@@ -205,8 +227,8 @@ class Browser:
                     "POST", "element", {"using": "css selector", "value": selector}
                 )
                 return found[ELEMENT]
-            except DriverFault:
-                if time.monotonic() > until:
+            except DriverFault as fault:
+                if isinstance(fault, BrowserLost) or time.monotonic() > until:
                     raise
                 time.sleep(0.02)
 
@@ -223,7 +245,9 @@ class Browser:
             "const see = () => { const b = one.getBoundingClientRect();"
             "  return [b.left + b.width / 2, b.top + b.height / 2]; };"
             "let [x, y] = see();"
-            "if (x < 0 || y < 0 || x > innerWidth || y > innerHeight)"
+            # it is outside, or below what scrolls by itself
+            "const at = document.elementFromPoint(x, y);"
+            "if (!at || !one.contains(at))"
             "  { one.scrollIntoView({block: 'center', inline: 'center'}); [x, y] = see(); }"
             "return [Math.round(x), Math.round(y)]",
             selector,

@@ -82,7 +82,7 @@ class Proxy:
         # run by root it would serve as another user, who may not reach the folder of a test
         words += ["-g", "user root;"] if os.getuid() == 0 else []
         self.process = subprocess.Popen(words, stderr=subprocess.PIPE)
-        if not wait_until(lambda: os.path.exists(os.path.join(room, "nginx.pid")), 10):
+        if not wait_until(lambda: os.path.exists(os.path.join(room, "nginx.pid"))):
             raise OSError("nginx does not begin")
 
     def make_certificate(self):
@@ -116,5 +116,5 @@ class Proxy:
 
     def end(self):
         self.process.terminate()
-        self.process.wait(10)
+        self.process.wait(60)
         self.process.stderr.close()

@@ -16,15 +16,19 @@ HERE = os.path.dirname(os.path.dirname(os.path.dirname(os.path.abspath(__file__)
 sys.path.append(os.path.join(HERE, "tests", "client"))
 sys.path.insert(0, os.path.join(HERE, "tools"))
 
-from browser import Browser, Driver, DriverFault, has_browser  # noqa: E402
+from browser import Browser, BrowserLost, Driver, DriverFault, has_browser  # noqa: E402
 from support import COMP07, COMP07_SOL, OFFICE, SMALL, OfficeTest, wait_until  # noqa: E402
 
 from office.refused import Refused  # noqa: E402
 from office.web.launch import find_python  # noqa: E402
 
 
+class TooLate(Exception):
+    """A test hangs."""
+
+
 def too_late(*_):
-    raise TimeoutError(f"the test did not end within {PATIENCE} seconds")
+    raise TooLate(f"the test did not end within {PATIENCE} seconds")
 
 
 signal.signal(signal.SIGALRM, too_late)
@@ -38,7 +42,7 @@ def has_tornado():
 
 
 # seconds after which a test is ended
-PATIENCE = 5 * int(os.environ.get("PATIENCE", "30"))
+PATIENCE = 8 * int(os.environ.get("PATIENCE", "30"))
 NO_TORNADO = "no Python has tornado, so no seat was served"
 NO_BROWSER = "chromium or chromedriver is not installed, so no page was opened"
 READY = "return performance.getEntriesByName('ready').length > 0"
@@ -91,7 +95,7 @@ class WebTest(OfficeTest):
 
     def request(self, method, path, body=None, headers=None, host=None):
         """A request with these headers, and what it is answered: status, headers, body."""
-        connection = http.client.HTTPConnection(self.address(), timeout=20)
+        connection = http.client.HTTPConnection(self.address(), timeout=60)
         with contextlib.closing(connection):
             connection.putrequest(method, path, skip_host=True, skip_accept_encoding=True)
             connection.putheader("Host", self.address() if host is None else host)
@@ -166,7 +170,6 @@ class Pool:
     def take(self, settings):
         if self.driver is None:
             self.driver = Driver()
-            atexit.register(self.end)
         kind = json.dumps(settings, sort_keys=True)
         if self.free.get(kind):
             return kind, self.free[kind].pop()
@@ -191,16 +194,35 @@ class Pool:
         self.free.setdefault(kind, []).append(browser)
 
     def end(self):
+        """Ends all; who needs a browser then begins anew."""
         for browser in [one for kind in self.free.values() for one in kind]:
             browser.end()
-        self.driver.end()
+        self.free.clear()
+        if self.driver is not None:
+            self.driver.end()
+            self.driver = None
 
 
 POOL = Pool()
+atexit.register(POOL.end)
+PARTS = ("failures", "errors", "skipped", "expectedFailures", "unexpectedSuccesses")
 
 
 class BrowserTest(WebTest):
-    """A test in real browsers."""
+    """A test in real browsers. One of which the browser itself is lost is run once more."""
+
+    def run(self, result=None):
+        found = unittest.TestResult()
+        super().run(found)
+        if any(BrowserLost.__name__ in text for _, text in found.errors):
+            why = [line for line in found.errors[0][1].splitlines() if BrowserLost.__name__ in line]
+            print(f"run again: the browser did not start, or was lost: {self.id()}: {why[-1:]}")
+            POOL.end()
+            found = unittest.TestResult()
+            super().run(found)
+        result.testsRun += found.testsRun
+        for part in PARTS:
+            getattr(result, part).extend(getattr(found, part))
 
     def browser(self, **settings):
         kind, browser = POOL.take(settings)

@@ -24,6 +24,7 @@ KEYS = (
     + ["Enter"] * 8
     + list("bsxuowehmipfra") * 2
     + ["c"] * 3
+    + list("nNU!?:P")
     + ["Escape"] * 4
     + ["Tab", "Shift+Tab", "Home", "End", "Delete", "Space", "/"]
 )
@@ -91,13 +92,8 @@ class Days(BrowserTest):
                 return dict(re.findall(r"  (seat \d+|reader) +(\S+)\n", printed))
             time.sleep(0.2)
 
-    def test_drawn_days(self):
-        """Drawn keys and clicks: never an error, and at the end what is seen is what is listed."""
-        for seed in range(DAYS):
-            with self.subTest(seed=seed):
-                self.drawn_day(seed)
-
     def drawn_day(self, seed):
+        """Drawn keys and clicks: never an error, and at the end what is seen is what is listed."""
         draw = random.Random(seed)
         big = seed % 2 == 0
         day = f"day{seed}"
@@ -105,6 +101,8 @@ class Days(BrowserTest):
         self.open(day, COMP07 if big else SMALL, "2", *start)
         server = self.serve(day)
         windows = [self.planner(), self.planner("seat 1", "ben")]
+        for window in windows:
+            window.cdp("Browser.setDownloadBehavior", behavior="deny")
         done = 0
         while done < ACTS:
             window = draw.choice(windows)
@@ -163,3 +161,12 @@ class Days(BrowserTest):
             " || (document.querySelector('#week [tabindex=\"0\"]').focus(), false)"
         )
         return sorted(window.run(SHOWN))
+
+
+def drawn(seed):
+    """The test of one drawn day, which has a test's time for itself."""
+    return lambda days: days.drawn_day(seed)
+
+
+for number in range(DAYS):
+    setattr(Days, f"test_drawn_day_{number}", drawn(number))

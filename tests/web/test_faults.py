@@ -175,6 +175,27 @@ class Faults(BrowserTest):
         )
         self.assertEqual(self.ask("hello", {})[1].get("wants"), "name")
 
+    def test_policy(self):
+        """Nothing becomes markup or a script of the page, whoever tries."""
+        self.open("day", SMALL, "1")
+        self.serve("day")
+        anna = self.planner()
+        for act in (
+            "document.body.innerHTML = '<b>x</b>'",
+            "document.createElement('script').text = 'window.hit = 1'",
+            "document.createElement('script').src = '/seat.js?x'",
+            "setTimeout('window.hit = 1')",
+            "document.body.setAttribute('onclick', 'window.hit = 1')",
+        ):
+            told = anna.run(f"try {{ {act}; return '' }} catch (fault) {{ return fault.name }}")
+            self.assertEqual(told, "TypeError", act)
+        anna.run(
+            "const one = document.createElement('img');"
+            "one.src = 'http://127.0.0.1:9/x'; document.body.append(one)"
+        )
+        anna.wait("return blocked.includes('img-src')")
+        self.assertIsNone(anna.run("return window.hit"))
+
     def test_rebinding(self):
         """A foreign name that leads to this address is refused in words."""
         self.open("day", SMALL, "1")

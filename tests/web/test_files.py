@@ -1,4 +1,5 @@
-"""The files of the page: plain modules, short, and without anything from elsewhere."""
+"""The files of the page: plain modules, short, checked, and without anything from elsewhere; and
+the types of the package."""
 import os
 import re
 import shutil
@@ -9,6 +10,7 @@ from served import HERE
 
 STATIC = os.path.join(HERE, "tools/office/web/static")
 PACKAGE = os.path.join(HERE, "tools/office/web")
+TOOLS = os.path.join(HERE, "tools")
 
 
 def lines_of(path):
@@ -59,8 +61,29 @@ class Files(unittest.TestCase):
                 needed.add(name)
         self.assertEqual(needed, set(modules))
 
-    @unittest.skipUnless(shutil.which("node"), "node is not installed, so no module was parsed")
+    @unittest.skipUnless(shutil.which("node"), "node is not installed: no module was parsed")
     def test_parsed(self):
         for path in self.files(STATIC, ".js"):
             done = subprocess.run(["node", "--check", path], capture_output=True, text=True)
             self.assertEqual((done.returncode, done.stderr), (0, ""))
+
+    @unittest.skipUnless(shutil.which("eslint"), "eslint is not installed: no module was checked")
+    def test_checked(self):
+        """Names, forms and spaces, as eslint.json has them. Debian's modules may be none of this
+        node's."""
+        words = ["eslint", "--no-eslintrc", "-c", os.path.join(PACKAGE, "eslint.json")]
+        done = subprocess.run(
+            [*words, "-f", "unix", *self.files(STATIC, ".js")],
+            capture_output=True,
+            text=True,
+            env={**os.environ, "NODE_PATH": "/usr/share/nodejs"},
+        )
+        self.assertEqual((done.returncode, done.stdout, done.stderr), (0, "", ""))
+
+    @unittest.skipUnless(shutil.which("mypy"), "mypy is not installed, so no type was checked")
+    def test_typed(self):
+        """Each function of the office has types, and they hold, in the oldest Python that runs
+        it."""
+        words = ["mypy", "--strict", "--python-version", "3.8", "--cache-dir", os.devnull]
+        done = subprocess.run([*words, "-p", "office"], capture_output=True, text=True, cwd=TOOLS)
+        self.assertEqual(done.returncode, 0, done.stdout + done.stderr)

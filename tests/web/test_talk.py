@@ -3,6 +3,7 @@ that a planner does can be done."""
 import contextlib
 import http.client
 import json
+import os
 import signal
 
 from served import (
@@ -24,7 +25,7 @@ SEEN = {"course": "c0109", "room": "r01", "at": FROM}
 class Talk(WebTest):
     def setUp(self):
         super().setUp()
-        self.open("day", COMP07, "3", "--start", COMP07_SOL)
+        self.opened = self.open("day", COMP07, "3", "--start", COMP07_SOL)
         self.server = self.serve("day")
 
     def minutes(self):
@@ -176,7 +177,7 @@ class Talk(WebTest):
         self.assertEqual(question["answers"][0]["name"], "go on")
         self.assertIn("anna", str(self.act("who")["question"]["lines"]))
         about = self.ask("about", {"lecture": there})[1]["about"]
-        self.assertIn("exam", " ".join(about["lines"]))
+        self.assertIn("exam", " ".join(about["told"]))
 
     def test_draft_of_another(self):
         """A draft that somebody else has left is asked about first; who leaves it has left it."""
@@ -211,8 +212,26 @@ class Talk(WebTest):
             closing = self.start("close", self.path("day"), "--wait", "2")
             self.assertGreater(self.next_event(answer, "closes")["closes"], 0)
             self.assertTrue(self.next_event(answer, "over")["over"])
-            self.assertEqual(closing.wait(30), 0)
-        self.assertTrue(wait_until(lambda: self.server.poll() is not None, 20))
+            self.assertEqual(closing.wait(60), 0)
+        self.assertTrue(wait_until(lambda: self.server.poll() is not None))
+
+    def test_desk_dies(self):
+        """Each window hears that the desk has died, also if a request was the first to find out."""
+        two = ("X-Window", "w2")
+        self.ask("hello", {"name": "anna"})
+        self.ask("hello", {"name": "anna"}, "seat 0", two)
+        connection = http.client.HTTPConnection(self.address(), timeout=30)
+        with contextlib.closing(connection):
+            connection.request("GET", "/api/news", headers=dict(self.asking(self.key())))
+            answer = connection.getresponse()
+            desk = self.desk_of("day")
+            # the office, which would close the day, waits
+            self.opened.send_signal(signal.SIGSTOP)
+            self.addCleanup(self.opened.send_signal, signal.SIGCONT)
+            os.kill(desk, signal.SIGKILL)
+            self.assertIn(self.ask("about", {"lecture": SEEN}, "seat 0", two)[0], (410, 503))
+            told = "committed drafts are on the disk"
+            self.assertIn(told, self.next_event(answer, "fault")["fault"])
 
     def next_event(self, answer, name):
         while True:

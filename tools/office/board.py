@@ -8,7 +8,7 @@ from office.grid import Grid, Row
 from office.header import Header, key_rows
 from office.help import help_lines
 from office.keys import WEEK_KEYS, KeyNames
-from office.label_files import read_labels
+from office.label_files import Watched
 from office.notice import NOTHING, Question, say
 from office.overlays import Asked, Chooser, CommitBox, Overlay, Page, Typed, Worded
 from office.planning import Planning
@@ -40,7 +40,8 @@ class Board:
     def __init__(self, planning: Planning) -> None:
         self.planning = planning
         self.work = Work(planning)
-        self.wording = Wording(KeyNames(), read_labels(planning.seat.day.path))
+        self.labels = Watched(planning.seat.day.path)
+        self.wording = Wording(KeyNames(), self.labels.labels)
         self.cursor: Slot = (0, 0)
         self.overlay: Optional[Overlay] = None
         self.drawn = Drawn()
@@ -201,7 +202,9 @@ class Board:
 
     def tick(self) -> bool:
         """Looks for news; answers whether there are any."""
-        return self.work.tick()
+        is_renamed = self.labels.read_on()
+        self.wording.labels = self.labels.labels
+        return self.work.tick() or is_renamed
 
     def show_view(self, view: View) -> None:
         """Shows a week, with the cursor at its first lecture, or where it was if a lecture is

@@ -23,7 +23,12 @@ class Export:
     def __init__(self, instance: Instance, labels: Labels) -> None:
         self.instance = instance
         self.labels = labels
-        codes = (instance.courses, instance.rooms, instance.teachers, instance.curricula)
+        codes: Tuple[Iterable[str], ...] = (
+            instance.courses,
+            instance.rooms,
+            instance.teachers,
+            instance.curricula,
+        )
         self.names = {
             kind: Names({code: labels.names.get((kind, code), NO_NAME) for code in of_kind})
             for kind, of_kind in zip(KINDS, codes)

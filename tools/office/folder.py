@@ -125,6 +125,8 @@ class Day:
             raise Refused(f"the folder {self.path} is closed to you") from None
         except (OSError, ValueError) as fault:
             raise Refused(f"cannot read {self.facts_file}: {fault}") from None
+        if not isinstance(found, dict):
+            raise Refused(f"cannot read {self.facts_file}: it has no facts of a day")
         return found
 
     def write_facts(self, facts: dict[str, Any]) -> None:

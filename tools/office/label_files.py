@@ -8,6 +8,7 @@ import re
 from typing import Dict, List, Optional, Tuple
 
 from office.labels import KINDS, PLAN, WEEKDAYS, Labels, Name, Term, Time
+from office.refused import Refused
 from office.tables import Column, Faults, Row, read_table
 from office.timetable import Slot
 
@@ -179,6 +180,40 @@ def take_labels(folder: str, faults: Faults) -> Tuple[Labels, List[Slot]]:
 
 def has_labels(folder: str) -> bool:
     return any(os.path.exists(os.path.join(folder, file)) for file in FILES)
+
+
+def stamps(folder: str) -> List[Tuple[int, int, int]]:
+    """What tells whether the labels of a folder have changed."""
+    found = []
+    for file in FILES:
+        try:
+            told = os.stat(os.path.join(folder, file))
+        except OSError:
+            found.append((0, 0, 0))
+        else:
+            found.append((told.st_mtime_ns, told.st_ino, told.st_size))
+    return found
+
+
+class Watched:
+    """The labels of a day, as long as somebody looks at it: they are read again when one of their
+    files has changed. If something is wrong in them, those before stay."""
+
+    def __init__(self, folder: str) -> None:
+        self.folder, self._stamps = folder, stamps(folder)
+        self.labels = read_labels(folder)
+
+    def read_on(self) -> bool:
+        """Whether there are new labels."""
+        found = stamps(self.folder)
+        if found == self._stamps:
+            return False
+        self._stamps = found
+        try:
+            self.labels = read_labels(self.folder)
+        except Refused:
+            return False
+        return True
 
 
 def read_labels(folder: str) -> Labels:

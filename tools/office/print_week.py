@@ -2,6 +2,7 @@
 from __future__ import annotations
 
 import os
+from typing import NamedTuple
 
 from office.at import At
 from office.folder import write_whole
@@ -30,17 +31,29 @@ def seen(planning: Planning) -> At:
     )
 
 
-def print_week(planning: Planning, view: View) -> Notice:
-    """Writes a week into the folder in which one sat down, and says where."""
+class Page(NamedTuple):
+    """A page with the name of its file."""
+
+    name: str
+    text: str
+
+
+def page_of(planning: Planning, view: View) -> Page:
+    """A week as a planner sees it, as a page that needs nothing else."""
     at = seen(planning)
     told = shown(at.title())
     if planning.edits():
         told += f", with {counted(len(planning.edits()), 'edit')} of a draft"
-    path = f"{at.day.name}-{view.kind}-{file_name(view.name)}.html"
     week = OneWeek(at, read_labels(at.day.path), view)
-    page = week_page(week, False, foot=told)
+    name = f"{at.day.name}-{view.kind}-{file_name(view.name)}.html"
+    return Page(name, week_page(week, False, foot=told))
+
+
+def print_week(planning: Planning, view: View) -> Notice:
+    """Writes a week into the folder in which one sat down, and says where."""
     try:
-        write_whole(path, page.encode("utf-8", "surrogateescape"), 0o600)
+        page = page_of(planning, view)
+        write_whole(page.name, page.text.encode("utf-8", "surrogateescape"), 0o600)
     except Refused as refused:
         return say("not printed", why=refused.reason)
-    return say("printed", path=os.path.abspath(path))
+    return say("printed", path=os.path.abspath(page.name))

@@ -91,6 +91,7 @@ LECTURES = {
     "no lecture here": "No lecture stands here.",
     "printed": "Written: {path}.",
     "not printed": "No page: {why}.",
+    "page made": "{path} is where your browser keeps what it loads: a page to print or to send.",
     "lecture first": "Go to a lecture first.",
     "pick up first": "Pick a lecture up first, by {key[pick up]}.",
     "changed by others": "Somebody has changed {course}: it is not picked up any more.",

@@ -16,7 +16,7 @@ use Rattle.ctt_files.specs.Faults.{IfUnwritten, fault_of_barred, fault_of_input,
 use Rattle.ctt_files.specs.Refusals.{IsNoText, IsOfBarred, IsOfFile, IsOfFiles, IsOfInstance, IsOfInstanceIn, IsOfInstanceOr, IsOfSolution, IsOfStart, IsOfText}
 use Rattle.ctt_files.specs.Texts.{Held, Holds, IsInstanceIn}
 use Rattle.ctt_files.specs.declared.fault.Fault.{Fault}
-use Rattle.ctt_files.specs.declared.fault.Fault.TheVariants.{BadSeats, Barred, CannotRead, CannotWrite, Instance, Journal, MinutesExist, NoCourse, NoCurriculum, NoMemory, NoPlace, NoRoom, NoTeacher, NoThread, NoWord, NotYours, Opening, Solution, TooLong, TooManyScripts, Words, WordsNotText}
+use Rattle.ctt_files.specs.declared.fault.Fault.TheVariants.{BadSeats, Barred, CannotRead, CannotWrite, Instance, Journal, MinutesExist, NoCourse, NoCurriculum, NoMemory, NoPlace, NoRoom, NoTeacher, NoThread, NoWord, Opening, Solution, TooLong, TooManyScripts, Words, WordsNotText}
 
 -- the fault is of a text, a file, a place or a thread, or memory ran out
 abbrev pub IsPlain : Fault → Type 0
@@ -41,7 +41,6 @@ plain_written (Words text) P Q plain q = q
 plain_written WordsNotText P Q plain q = q
 plain_written TooManyScripts P Q plain q = q
 plain_written NoThread P Q plain q = q
-plain_written NotYours P Q plain q = q
 plain_written NoPlace P Q plain q = q
 plain_written BadSeats P Q plain q = absurd plain
 plain_written (MinutesExist name) P Q plain q = q
@@ -65,7 +64,6 @@ unwritten_more (Words text) P Q R S p q is = q is
 unwritten_more WordsNotText P Q R S p q is = q is
 unwritten_more TooManyScripts P Q R S p q is = q is
 unwritten_more NoThread P Q R S p q is = q is
-unwritten_more NotYours P Q R S p q is = q is
 unwritten_more NoPlace P Q R S p q is = q is
 unwritten_more BadSeats P Q R S p q is = q is
 unwritten_more (MinutesExist name) P Q R S p q is = q is

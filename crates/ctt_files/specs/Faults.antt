@@ -15,7 +15,7 @@ use Rattle.ctt_text.specs.declared.fault.BarredFault.{BarredFault}
 use Rattle.ctt_text.specs.declared.fault.ReadFault.{ReadFault}
 use Rattle.ctt_text.specs.declared.fault.SolutionFault.{SolutionFault}
 use Rattle.ctt_files.specs.declared.fault.Fault.{Fault}
-use Rattle.ctt_files.specs.declared.fault.Fault.TheVariants.{BadSeats, Barred, CannotRead, CannotWrite, Instance, Journal, MinutesExist, NoCourse, NoCurriculum, NoMemory, NoPlace, NoRoom, NoTeacher, NoThread, NoWord, NotYours, Opening, Solution, TooLong, TooManyScripts, Words, WordsNotText}
+use Rattle.ctt_files.specs.declared.fault.Fault.TheVariants.{BadSeats, Barred, CannotRead, CannotWrite, Instance, Journal, MinutesExist, NoCourse, NoCurriculum, NoMemory, NoPlace, NoRoom, NoTeacher, NoThread, NoWord, Opening, Solution, TooLong, TooManyScripts, Words, WordsNotText}
 
 -- the program's fault for a fault of an instance: running out of memory has a fault of its own
 abbrev pub fault_of_instance : ReadFault → Fault
@@ -56,7 +56,6 @@ status_of (TooLong name) = 3
 status_of CannotWrite = 3
 status_of NoMemory = 3
 status_of NoThread = 3
-status_of NotYours = 3
 status_of NoPlace = 3
 status_of BadSeats = 2
 status_of (MinutesExist name) = 3

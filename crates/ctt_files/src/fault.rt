@@ -58,9 +58,6 @@ pub enum Fault {
     /// The thread of a planner could not be started.
     #[error("timedesk: no thread")]
     NoThread,
-    /// A planner had seen more drafts than the desk has.
-    #[error("timedesk: not yours")]
-    NotYours,
     /// A desk has too many seats, or the same seat twice.
     #[error("timedesk: at most 64 seats, each once")]
     BadSeats,
@@ -149,7 +146,6 @@ impl Fault {
             | Fault::NoMemory
             | Fault::NoPlace
             | Fault::NoThread
-            | Fault::NotYours
             | Fault::MinutesExist(_) => 3,
         }
     }

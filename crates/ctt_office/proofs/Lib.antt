@@ -1,5 +1,6 @@
 mod AnswerLemmas
 mod BadWordLemmas
+mod ClosingLemmas
 mod CommittedLemmas
 mod CutLemmas
 mod EndedLemmas

@@ -1,16 +1,20 @@
 -- Minutes that grow by an entry.
-use Rattle.std.proofs.Common.{◌≡◌, ◌∙◌, ◌+◌, ◌<◌, ◌≤◌, ◌⊎◌, inl, inr, ◌++◌, ◌∷◌, [], Bool, true, false, ℕ, List, OnErr, Option, Result, length, drop, flat_map, refl, sym, ap, subst, arith, append-nil}
+use Rattle.std.proofs.Common.{◌≡◌, ◌∙◌, ◌+◌, ◌<◌, ◌≤◌, ◌⊎◌, inl, inr, ◌++◌, ◌∷◌, [], Bool, true, false, ℕ, List, IfOk, IfSome, OnErr, OnOk, Option, Some, None, Result, Ok, Err, length, drop, take, flat_map, refl, sym, ap, subst, arith, append-nil}
 use Rattle.std.proofs.KnownBytes.{Appends-kept, Appends-nil, Appends-trans}
 use Rattle.std.proofs.lemmas.List.{length-append}
 use Rattle.std.proofs.lemmas.List.Concat.{flat_map-append}
+use Rattle.std.proofs.Math.Seq.{take-append-add}
 use Rattle.std.specs.Io.KnownBytes.{Appends, Keeps}
 use mathlib.Core.List.{IsPrefix}
 use Rattle.ctt_problem.specs.Problem.{Problem}
+use Rattle.ctt_problem.specs.declared.placed.Placed.{Placed}
+use Rattle.ctt_core.specs.Runs.{Legal}
 use Rattle.ctt_core.specs.declared.journal.JournalEntry.{JournalEntry}
+use Rattle.ctt_seat.specs.CrewText.{closing_text}
 use Rattle.ctt_script.specs.WrittenText.{entry_text}
 use Rattle.ctt_files.specs.Output.{AppendsFront}
 use Rattle.ctt_files.proofs.OutputLemmas.{on_err, whole_front}
-use Rattle.ctt_office.specs.Pages.{AreMinutesOf, AreTaken, EndsWith, IsOut}
+use Rattle.ctt_office.specs.Pages.{AreFrontOf, AreMinutesOf, EndsWith, IsOut, IsPartOf, IsRecorded, seen, taken_by}
 
 behind : {X : Type 0} (xs ys : List X) → drop (length xs) (xs ++ ys) ≡ ys
 behind [] ys = refl
@@ -21,9 +25,11 @@ one_more : (before more front : List JournalEntry) (last : JournalEntry) → bef
 one_more before more front last same long =
     ap (λ xs. before ++ xs) (sym (behind front (last ∷ [])) ∙ ap (λ n. drop n (front ++ last ∷ [])) (sym long) ∙ ap (drop (length before)) (sym same) ∙ behind before more)
 
-pub minutes_grow : (i : Problem) (start old new : Option (List ℕ)) (before history : List JournalEntry) (entry : List ℕ)
-    → AreMinutesOf i before start old → Appends old new entry → IsPrefix before history → length history ≡ length before + 1 → EndsWith i history entry → AreMinutesOf i history start new
-minutes_grow i start old new before history entry minutes adds prefix long ends =
+-- the entries of a history are those of one with which it begins, if it is one entry longer, and
+-- then the text of its last entry
+entries_of : (i : Problem) (before history : List JournalEntry) (entry : List ℕ)
+    → IsPrefix before history → length history ≡ length before + 1 → EndsWith i history entry → flat_map (entry_text i) before ++ entry ≡ flat_map (entry_text i) history
+entries_of i before history entry prefix long ends =
     let front = ends.0 in
     let last = ends.1 in
     let same : before ++ prefix.0 ≡ front ++ last ∷ [] = prefix.1 ∙ ends.2 in
@@ -32,7 +38,24 @@ minutes_grow i start old new before history entry minutes adds prefix long ends 
     let is : before ++ last ∷ [] ≡ history = one_more before prefix.0 front last same size ∙ prefix.1 in
     let text : flat_map (entry_text i) before ++ entry ≡ flat_map (entry_text i) (before ++ last ∷ []) =
     ap (λ e. flat_map (entry_text i) before ++ e) (ends.3 ∙ sym (append-nil (entry_text i last))) ∙ sym (flat_map-append (entry_text i) before (last ∷ [])) in
-    subst (λ h. Appends start new (flat_map (entry_text i) h)) is (subst (Appends start new) text (Appends-trans start old new (flat_map (entry_text i) before) entry minutes adds))
+    text ∙ ap (flat_map (entry_text i)) is
+
+pub minutes_grow : (i : Problem) (start old new : Option (List ℕ)) (before history : List JournalEntry) (entry : List ℕ)
+    → AreMinutesOf i before start old → Appends old new entry → IsPrefix before history → length history ≡ length before + 1 → EndsWith i history entry → AreMinutesOf i history start new
+minutes_grow i start old new before history entry minutes adds prefix long ends =
+    subst (Appends start new) (entries_of i before history entry prefix long ends) (Appends-trans start old new (flat_map (entry_text i) before) entry minutes adds)
+
+-- the same, if a prefix of the entry was written
+pub front_grows : (i : Problem) (start old new : Option (List ℕ)) (before history : List JournalEntry) (entry : List ℕ)
+    → AreMinutesOf i before start old → AppendsFront old new entry → IsPrefix before history → length history ≡ length before + 1 → EndsWith i history entry → AreFrontOf i history start new
+front_grows i start old new before history entry minutes (k, adds) prefix long ends =
+    let text = flat_map (entry_text i) before in
+    subst (AppendsFront start new) (entries_of i before history entry prefix long ends)
+    (length text + k, subst (Appends start new) (sym (take-append-add text entry k)) (Appends-trans start old new text (take k entry) minutes adds))
+
+-- all of the entries are a prefix of them
+pub front_of : (i : Problem) (history : List JournalEntry) (start now : Option (List ℕ)) → AreMinutesOf i history start now → AreFrontOf i history start now
+front_of i history start now minutes = whole_front start now (flat_map (entry_text i) history) minutes
 
 -- the empty list is a prefix of any text
 pub nothing_of : (known : Option (List ℕ)) (bs : List ℕ) → AppendsFront known known bs
@@ -50,8 +73,27 @@ has_some i history entry ends =
     omega (arith, whole, many)
 
 -- a writer that takes no further entry, or already has as many, could not take one
-pub is_out : {W : Type 0} (taken : W → Option (List ℕ)) (marked : W → Bool) (i : Problem) (written history : List JournalEntry) (now : W) (failed : Bool)
-    → (failed ≡ false → AreTaken taken i written (taken now)) → (failed ≡ true → IsOut taken marked i written now) → 0 < length history → (failed ≡ true) ⊎ (length history ≤ length written) → IsOut taken marked i written now
-is_out taken marked i written history now true minutes out some why = out refl
-is_out taken marked i written history now false minutes out some (inl none) = cc
-is_out taken marked i written history now false minutes out some (inr few) = inr (minutes refl, history, some, few)
+pub is_out : {W : Type 0} (taken : W → Option (List ℕ)) (marked : W → Bool) (i : Problem) (start : Option (List ℕ)) (written history : List JournalEntry) (now : W) (failed : Bool)
+    → (failed ≡ false → AreMinutesOf i written start (taken now)) → (failed ≡ true → IsOut taken marked i start written now) → 0 < length history → (failed ≡ true) ⊎ (length history ≤ length written) → IsOut taken marked i start written now
+is_out taken marked i start written history now true minutes out some why = out refl
+is_out taken marked i start written history now false minutes out some (inl none) = cc
+is_out taken marked i start written history now false minutes out some (inr few) = inr (minutes refl, history, some, few)
+
+-- if there is no receipt, each history begins with what was seen
+pub none_seen : (last : Option (List JournalEntry)) (history : List JournalEntry) → last ≡ None → IsPrefix (seen last) history
+none_seen None history none = (history, refl)
+none_seen (Some seen) history none = cc
+
+-- before the first entry
+pub none_taken : {W : Type 0} (taken : W → Option (List ℕ)) (i : Problem) (opening : List Placed) (start : Option (List ℕ)) (minutes : Option W) → start ≡ taken_by taken minutes → IfSome minutes (IsPartOf taken i opening start)
+none_taken taken i opening start None same = tt
+none_taken taken i opening start (Some writer) same = ([], tt, subst (λ known. AppendsFront start known []) same (nothing_of start []))
+
+-- what the last lines of a desk and its minutes say, if it ended well
+pub is_recorded : {W T E F : Type 0} (taken : W → Option (List ℕ)) (i : Problem) (opening : List Placed) (start : Option (List ℕ)) (minutes : Option W) (journal : List JournalEntry) (whole : Bool) (bytes : T → List ℕ)
+    (ended : Result (Unit {0}) F) (checked : Result (Unit {0}) E) (text : Result T E)
+    → Legal i opening journal → IfOk text (λ t. bytes t ≡ closing_text i opening [] journal) → OnOk text (checked ≡ Ok tt) → OnOk checked ((ended ≡ Ok tt) × (whole ≡ true)) → (whole ≡ true → IfSome minutes (λ writer. AreMinutesOf i journal start (taken writer)))
+    → IfOk text (λ t. IsRecorded taken i opening start minutes (bytes t))
+is_recorded taken i opening start minutes journal whole bytes ended checked (Err fault) legal lines well good entries = tt
+is_recorded taken i opening start minutes journal whole bytes ended (Err fault) (Ok t) legal lines well good entries = cc
+is_recorded taken i opening start minutes journal whole bytes ended (Ok done) (Ok t) legal lines well good entries = record { history = journal; legal = legal; is = lines; entries = entries good.1 }

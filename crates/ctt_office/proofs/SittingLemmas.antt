@@ -2,7 +2,7 @@
 use Rattle.std.proofs.Common.{◌≡◌, ◌≢◌, ◌∙◌, ◌⊎◌, inl, inr, Bool, true, false, nat_le, if◌then◌else◌, arith, length, ℕ, List, [], ◌∷◌, ◌++◌, take, Option, Some, None, refl, sym, ap, subst, append_assoc, append-nil}
 use Rattle.std.proofs.lemmas.Bool.{le-leb, leb-true}
 use Rattle.std.proofs.KnownBytes.{Appends-kept, Appends-nil, Appends-trans}
-use Rattle.std.specs.Io.KnownBytes.{Appends, IsAtEnd}
+use Rattle.std.specs.Io.KnownBytes.{Appends, IsAtEnd, prepend_known}
 use Rattle.ctt_files.specs.Output.{AppendsFront}
 use Rattle.ctt_problem.specs.Problem.{Problem}
 use Rattle.ctt_office.specs.Lines.{Comes, Gives, GivesNext, IsFirstLine, IsLong, IsShort, ReaderValue, coming}
@@ -196,3 +196,17 @@ pub asks_line : (i : Problem) (p : ℕ) (old new : ReaderValue) (next : Next) �
 asks_line i p old new Line other comes = absurd (other refl)
 asks_line i p old new LongLine other comes = asks_long_line i p old new comes
 asks_line i p old new End other comes = absurd comes
+
+nothing_held : (left : Option (List ℕ)) → prepend_known [] left ≡ left
+nothing_held None = refl
+nothing_held (Some bytes) = refl
+
+-- of a reader that has read nothing, all is still to come
+pub coming_all : (lines : ReaderValue) (left given : Option (List ℕ)) → lines.held ≡ [] → lines.left ≡ left → left ≡ given → coming lines ≡ given
+coming_all lines left given none same gives = ap (λ held. prepend_known held lines.left) none ∙ nothing_held lines.left ∙ same ∙ gives
+
+-- the same, of what is known of both devices
+pub sat_over : {T : Type 0} (asked : List ℕ → SeatLine) (Is : SeatLine → T → T → List ℕ → Type 0) (Gone Unheard : T → Type 0) (before : T) (left given old had new : Option (List ℕ)) (ending : Ending)
+    → left ≡ given → old ≡ had → IsSat asked Is Gone Unheard before left old new ending → IsSat asked Is Gone Unheard before given had new ending
+sat_over asked Is Gone Unheard before left given old had new ending gives starts sat =
+    subst (λ known. IsSat asked Is Gone Unheard before given known new ending) starts (subst (λ known. IsSat asked Is Gone Unheard before known old new ending) gives sat)

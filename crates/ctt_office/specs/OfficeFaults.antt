@@ -1,5 +1,5 @@
 -- Why a desk could not be run to its end.
-use Rattle.std.specs.Prelude.{ℕ, ◌<◌, Result, Ok, Err}
+use Rattle.std.specs.Prelude.{ℕ, ◌≡◌, ◌<◌, Bool, true, Result, Ok, Err}
 use Rattle.ctt_desk.specs.declared.shared_fault.SharedFault.{SharedFault}
 use Rattle.ctt_desk.specs.declared.shared_fault.SharedFault.TheVariants as shared
 use Rattle.ctt_office.specs.declared.office_fault.OfficeFault.{OfficeFault}
@@ -31,6 +31,13 @@ fault_of ending.Left = Ok tt
 fault_of ending.Ended = Ok tt
 fault_of ending.Broken = Ok tt
 fault_of ending.NoMemory = Err seat.NoMemory
+
+-- why the devices of a seat could not be opened: that of its lines may bar, or that of the answers,
+-- or memory is lacking
+abbrev pub IsBarred : Bool → Bool → SeatFault → Type 0
+IsBarred input output seat.CannotRead = input ≡ true
+IsBarred input output seat.CannotWrite = output ≡ true
+IsBarred input output seat.NoMemory = Unit {0}
 
 -- the fault of the seat with this index
 abbrev pub at_seat : ℕ → SeatFault → OfficeFault

@@ -2,16 +2,20 @@
 use Rattle.std.specs.Prelude.{ℕ, ◌≡◌, ◌⊎◌, ◌<◌, ◌≤◌, Bool, true, false, length, List, [], ◌∷◌, ◌++◌, flat_map, Option, None, Some, IfSome}
 use Rattle.std.specs.Io.KnownBytes.{Appends}
 use Rattle.ctt_problem.specs.Problem.{Problem}
+use Rattle.ctt_problem.specs.declared.placed.Placed.{Placed}
+use Rattle.ctt_core.specs.Runs.{Legal}
 use Rattle.ctt_core.specs.declared.journal.JournalEntry.{JournalEntry}
+use Rattle.ctt_files.specs.Output.{AppendsFront}
 use Rattle.ctt_script.specs.WrittenText.{entry_text}
+use Rattle.ctt_seat.specs.CrewText.{closing_text}
 
 -- if the durable bytes are known, they are all that were taken
 abbrev pub Stays : Option (List ℕ) → Option (List ℕ) → Type 0
 Stays kept taken = IfSome kept (λ bytes. taken ≡ Some bytes)
 
 -- the value of pages: the bytes taken and those of them that are durable, if known; the history
--- whose entries are written; whether an entry could not be written; whether a call of the writer
--- has failed
+-- whose entries are written, the last of them perhaps in part if it could not be written; whether
+-- an entry could not be written; whether a call of the writer has failed
 pub record PagesValue : Type 0 where
   pub taken : Option (List ℕ)
   pub kept : Option (List ℕ)
@@ -29,27 +33,46 @@ seen (Some history) = history
 abbrev pub AreMinutesOf : Problem → List JournalEntry → Option (List ℕ) → Option (List ℕ) → Type 0
 AreMinutesOf i history start taken = Appends start taken (flat_map (entry_text i) history)
 
--- for some earlier state of the writer, the bytes taken since then are the entries of the history
-abbrev pub AreTaken : {W : Type 0} → (W → Option (List ℕ)) → Problem → List JournalEntry → Option (List ℕ) → Type 0
-AreTaken {W} taken i history now = (start : W) × AreMinutesOf i history (taken start) now
+-- if the bytes are known, those taken since the start are a prefix of these entries, which ends
+-- with a whole entry or inside one
+abbrev pub AreFrontOf : Problem → List JournalEntry → Option (List ℕ) → Option (List ℕ) → Type 0
+AreFrontOf i history start taken = AppendsFront start taken (flat_map (entry_text i) history)
 
--- some writer has taken the entries of the history since a start, and all that it has taken is
--- durable
-abbrev pub IsInMinutes : {W : Type 0} → (W → Option (List ℕ)) → (W → Option (List ℕ)) → Problem → List JournalEntry → Type 0
-IsInMinutes {W} taken kept i history = (now : W) × AreTaken taken i history (taken now) × Stays (kept now) (taken now)
+-- the bytes that a writer has taken, if there is one
+abbrev pub taken_by : {W : Type 0} → (W → Option (List ℕ)) → Option W → Option (List ℕ)
+taken_by taken None = None
+taken_by taken (Some writer) = taken writer
+
+-- at some moment the writer had taken the entries of the history since the start, and all that it
+-- had taken was durable
+abbrev pub IsInMinutes : {W : Type 0} → (W → Option (List ℕ)) → (W → Option (List ℕ)) → Problem → Option (List ℕ) → List JournalEntry → Type 0
+IsInMinutes {W} taken kept i start history = (now : W) × AreMinutesOf i history start (taken now) × Stays (kept now) (taken now)
 
 -- a writer could not take an entry: a call of it has failed, or it already has the entries of a
 -- history that is at least as long as the one that ends with the entry
-abbrev pub IsOut : {W : Type 0} → (W → Option (List ℕ)) → (W → Bool) → Problem → List JournalEntry → W → Type 0
-IsOut {W} taken marked i written now = (marked now ≡ true) ⊎ (AreTaken taken i written (taken now) × (history : List JournalEntry) × (0 < length history) × (length history ≤ length written))
+abbrev pub IsOut : {W : Type 0} → (W → Option (List ℕ)) → (W → Bool) → Problem → Option (List ℕ) → List JournalEntry → W → Type 0
+IsOut {W} taken marked i start written now = (marked now ≡ true) ⊎ (AreMinutesOf i written start (taken now) × (history : List JournalEntry) × (0 < length history) × (length history ≤ length written))
 
--- some writer has taken the entries of a history
-abbrev pub IsSound : {W : Type 0} → (W → Option (List ℕ)) → Problem → Type 0
-IsSound {W} taken i = (now : W) × (written : List JournalEntry) × AreTaken taken i written (taken now)
+-- at some moment the writer had taken the entries of a history since the start
+abbrev pub IsSound : {W : Type 0} → (W → Option (List ℕ)) → Problem → Option (List ℕ) → Type 0
+IsSound {W} taken i start = (now : W) × (written : List JournalEntry) × AreMinutesOf i written start (taken now)
 
--- some writer could not take an entry
-abbrev pub HasFailed : {W : Type 0} → (W → Option (List ℕ)) → (W → Bool) → Problem → Type 0
-HasFailed {W} taken marked i = (now : W) × (written : List JournalEntry) × IsOut taken marked i written now
+-- at some moment the writer could not take an entry
+abbrev pub HasFailed : {W : Type 0} → (W → Option (List ℕ)) → (W → Bool) → Problem → Option (List ℕ) → Type 0
+HasFailed {W} taken marked i start = (now : W) × (written : List JournalEntry) × IsOut taken marked i start written now
+
+-- the last lines of a desk are those of a legal history on the opening, and if there are minutes,
+-- they are the bytes of the start and then the entries of that history
+pub record IsRecorded {W : Type 0} (taken : W → Option (List ℕ)) (i : Problem) (opening : List Placed) (start : Option (List ℕ)) (minutes : Option W) (text : List ℕ) : Type 0 where
+  pub history : List JournalEntry
+  pub legal : Legal i opening history
+  pub is : text ≡ closing_text i opening [] history
+  pub entries : IfSome minutes (λ writer. AreMinutesOf i history start (taken writer))
+
+-- the minutes are the bytes of the start and then a prefix of the entries of a legal history on the
+-- opening
+abbrev pub IsPartOf : {W : Type 0} → (W → Option (List ℕ)) → Problem → List Placed → Option (List ℕ) → W → Type 0
+IsPartOf taken i opening start writer = (history : List JournalEntry) × Legal i opening history × AreFrontOf i history start (taken writer)
 
 -- this is the last entry of the history, as a journal has it
 abbrev pub EndsWith : Problem → List JournalEntry → List ℕ → Type 0

@@ -13,6 +13,7 @@ ghost use Rattle.ctt_office.specs.SeatAnswers.{Adds, Does, IsAnswer, IsCommitAlo
 ghost use Rattle.ctt_office.specs.Ended.{EndedFits, ended_after};
 ghost use Rattle.ctt_office.specs.SeatText.{LineFits};
 
+use crate::begun::Begun;
 use crate::book::Book;
 use crate::durable::Durable;
 use crate::redoing::redo;
@@ -96,7 +97,7 @@ fn entry_of<'i, S: Sheet<'i>, J: Naming>(
 
 /// Enters an accepted draft into the book, and adds the answer, for which capacity has been
 /// reserved: the draft's number if it is in the book, and else that it is not written.
-fn enter<J: Naming, W: Durable, R: Wait>(
+fn enter<J: Naming + Begun, W: Durable, R: Wait>(
     rt: &R,
     instance: &Instance,
     book: &Book<W, J>,
@@ -106,8 +107,8 @@ fn enter<J: Naming, W: Durable, R: Wait>(
 )
     requires ends { EndsWith J.problem receipt.now entry.now }
     requires room { string_len text.old + 64 ≤ string_capacity text.old }
-    ensures { Adds (IsOutcomeAnswer (IsInMinutes W.Sink.taken W.kept J.problem)
-        (HasFailed W.Sink.taken W.Sink.has_failed J.problem) instance.now (Ok receipt.now))
+    ensures { Adds (IsOutcomeAnswer (IsInMinutes W.Sink.taken W.kept J.problem J.start)
+        (HasFailed W.Sink.taken W.Sink.has_failed J.problem J.start) instance.now (Ok receipt.now))
         (string_bytes text.old) (string_bytes text.new) }
 {
     match book.enter(rt, receipt, entry.as_bytes()) {
@@ -137,7 +138,7 @@ fn refuse<'i, S: Sheet<'i>, J: Naming>(
 
 /// Commits the draft, and adds the answer. The draft is reported as accepted only if it is in the
 /// book.
-fn commit<'i, S: Sheet<'i>, J: Naming, W: Durable, R: Wait>(
+fn commit<'i, S: Sheet<'i>, J: Naming + Begun, W: Durable, R: Wait>(
     rt: &R,
     alloc: Global,
     desk: &SharedDesk<S, J>,
@@ -149,8 +150,8 @@ fn commit<'i, S: Sheet<'i>, J: Naming, W: Durable, R: Wait>(
     requires same { J.problem ≡ instance.now }
     requires fits { EndedFits instance.now place.ended }
     ensures answered { OnOk result.1
-        (Adds (IsCommitAnswer (IsInMinutes W.Sink.taken W.kept J.problem)
-        (HasFailed W.Sink.taken W.Sink.has_failed J.problem) instance.now J.opening
+        (Adds (IsCommitAnswer (IsInMinutes W.Sink.taken W.kept J.problem J.start)
+        (HasFailed W.Sink.taken W.Sink.has_failed J.problem J.start) instance.now J.opening
         place.entry result.0) (string_bytes text.old) (string_bytes text.new)) }
     ensures unanswered { OnErr result.1 (IsUncommitted place.entry result.0) }
     ensures fits { EndedFits instance.now result.0.ended }
@@ -255,7 +256,7 @@ fn take<'i, S: Sheet<'i>, J: Naming, R: Wait>(
 
 /// Performs a step, and adds the answer. Accepted drafts are entered into the book, if there is
 /// one.
-fn step<'i, S: Sheet<'i>, J: Naming, W: Durable, R: Wait>(
+fn step<'i, S: Sheet<'i>, J: Naming + Begun, W: Durable, R: Wait>(
     rt: &R,
     alloc: Global,
     desk: &SharedDesk<S, J>,
@@ -269,8 +270,8 @@ fn step<'i, S: Sheet<'i>, J: Naming, W: Durable, R: Wait>(
     requires fits { (n : ℕ) × EventFits J.problem n event }
     requires ended { EndedFits instance.now place.ended }
     ensures answered { OnOk result.1
-        (Adds (IsStepAnswer book.entry (IsInMinutes W.Sink.taken W.kept J.problem)
-        (HasFailed W.Sink.taken W.Sink.has_failed J.problem) instance.now J.opening event
+        (Adds (IsStepAnswer book.entry (IsInMinutes W.Sink.taken W.kept J.problem J.start)
+        (HasFailed W.Sink.taken W.Sink.has_failed J.problem J.start) instance.now J.opening event
         place.entry result.0) (string_bytes text.old) (string_bytes text.new)) }
     ensures unanswered { OnErr result.1 (IsUncommitted place.entry result.0) }
     ensures fits { EndedFits instance.now result.0.ended }
@@ -305,7 +306,7 @@ fn undo_at<'i, S: Sheet<'i>, J: Naming>(
 /// Answers a line of a seat, and adds the answer, which is one line or empty.
 ///
 /// `AllocError` if memory runs out for the answer. No draft is committed then.
-pub(crate) fn answer<'i, S: Sheet<'i>, J: Naming, W: Durable, R: Wait>(
+pub(crate) fn answer<'i, S: Sheet<'i>, J: Naming + Begun, W: Durable, R: Wait>(
     rt: &R,
     alloc: Global,
     desk: &SharedDesk<S, J>,
@@ -319,8 +320,8 @@ pub(crate) fn answer<'i, S: Sheet<'i>, J: Naming, W: Durable, R: Wait>(
     requires fits { (p : ℕ) × LineFits instance.now p line.now }
     requires ended { EndedFits instance.now place.ended }
     ensures answered { OnOk result.1
-        (Adds (IsAnswer book.entry (IsInMinutes W.Sink.taken W.kept J.problem)
-        (HasFailed W.Sink.taken W.Sink.has_failed J.problem) instance.now J.opening line.now
+        (Adds (IsAnswer book.entry (IsInMinutes W.Sink.taken W.kept J.problem J.start)
+        (HasFailed W.Sink.taken W.Sink.has_failed J.problem J.start) instance.now J.opening line.now
         place.entry result.0) (string_bytes text.old) (string_bytes text.new)) }
     ensures unanswered { OnErr result.1 (IsUncommitted place.entry result.0) }
     ensures fits { EndedFits instance.now result.0.ended }

@@ -4,12 +4,16 @@ ghost use Rattle.std.specs.Prelude.{◌≡◌, ◌+◌, ◌<◌, ◌≤◌, ◌�
 ghost use Rattle.std.specs.Io.KnownBytes.{Appends};
 ghost use Rattle.ctt_files.specs.Output.{AppendsFront};
 ghost use mathlib.Core.List.{IsPrefix};
-ghost use Rattle.ctt_office.specs.Pages.{AreTaken, EndsWith, HasFailed, IsEntered, IsInMinutes, IsSound, Stays, seen};
+ghost use Rattle.ctt_core.specs.Runs.{Legal};
+ghost use Rattle.ctt_office.specs.Pages.{AreFrontOf, AreMinutesOf, EndsWith, HasFailed, IsEntered, IsInMinutes, IsPartOf, IsSound, Stays, seen};
 ghost use Rattle.ctt_office.specs.declared.book.Attempt.TheVariants.{Entered, Failed as NotEntered, NotYet};
 
+use crate::begun::Begun;
 use crate::durable::Durable;
-use ctt_desk::{Naming, Receipt};
+use ctt_board::Timetable;
+use ctt_desk::{Closed, Naming, Planner, Receipt};
 use ctt_files::{Failed, put_whole};
+use ctt_text::let_go;
 use std::marker::Model;
 use std::sync::{Condvar, Mutex, MutexGuard, Wait};
 
@@ -24,18 +28,19 @@ pub enum Attempt {
     Failed,
 }
 
-/// The pages of the book: a writer, and the receipt of the last draft whose entry is durable.
+/// The pages of the book: a writer, and the receipt of the last draft whose entry was written. If
+/// the entry could not be written, a prefix of it may have been.
 #[derive(Drop)]
-pub struct Pages<W: Durable, J: Naming> {
+pub struct Pages<W: Durable, J: Naming + Begun> {
     writer: W,
     last: Option<Receipt<J>>,
     /// Whether an entry could not be written. If so, no later one is written.
     failed: bool,
 }
 
-impl<W: Durable, J: Naming> Model for Pages<W, J> {
+impl<W: Durable, J: Naming + Begun> Model for Pages<W, J> {
     ghost use Rattle.std.specs.Prelude.{◌≡◌, false, true};
-    ghost use Rattle.ctt_office.specs.Pages.{AreTaken, IsOut, PagesValue, seen};
+    ghost use Rattle.ctt_office.specs.Pages.{AreFrontOf, AreMinutesOf, IsOut, PagesValue, seen};
 
     ghost Value = { PagesValue };
 
@@ -48,9 +53,10 @@ impl<W: Durable, J: Naming> Model for Pages<W, J> {
     } };
 
     ghost invariant = { λ p. (p.failed ≡ false
-        → AreTaken W.Sink.taken J.problem (seen p.last) (W.Sink.taken p.writer))
+        → AreMinutesOf J.problem (seen p.last) J.start (W.Sink.taken p.writer))
         × (p.failed ≡ true
-        → IsOut W.Sink.taken W.Sink.has_failed J.problem (seen p.last) p.writer) };
+        → IsOut W.Sink.taken W.Sink.has_failed J.problem J.start (seen p.last) p.writer)
+        × AreFrontOf J.problem (seen p.last) J.start (W.Sink.taken p.writer) };
 }
 
 /// Writes an entry and makes it durable.
@@ -69,7 +75,8 @@ fn write<W: Durable>(writer: &mut W, entry: &[u8]) -> Result<(), Failed>
 
 /// Returns the number of drafts in the history of a receipt, or 0 if there is none.
 fn count<J: Naming>(last: &Option<Receipt<J>>) -> u64
-    ensures { result ≡ length (seen last.now) }
+    ensures number { result ≡ length (seen last.now) }
+    ensures legal { Legal J.problem J.opening (seen last.now) }
 {
     match last {
         Some(receipt) => receipt.number(),
@@ -89,9 +96,10 @@ fn begins<J: Naming>(last: &Option<Receipt<J>>, receipt: &Receipt<J>) -> bool
     }
 }
 
-impl<W: Durable, J: Naming> Pages<W, J> {
+impl<W: Durable, J: Naming + Begun> Pages<W, J> {
     /// Creates pages on which nothing is written.
     pub fn new(writer: W) -> Self
+        requires { J.start ≡ W.Sink.taken writer }
         ensures { result ≡ record {
           taken = W.Sink.taken writer;
           kept = W.kept writer;
@@ -111,11 +119,43 @@ impl<W: Durable, J: Naming> Pages<W, J> {
     pub fn has_failed(&self) -> bool
         ensures failed { result ≡ self.now.failed }
         ensures minutes { result ≡ false
-            → AreTaken W.Sink.taken J.problem self.now.history self.now.taken }
-        ensures sound { result ≡ false → IsSound W.Sink.taken J.problem }
-        ensures cause { result ≡ true → HasFailed W.Sink.taken W.Sink.has_failed J.problem }
+            → AreMinutesOf J.problem self.now.history J.start self.now.taken }
+        ensures sound { result ≡ false → IsSound W.Sink.taken J.problem J.start }
+        ensures cause { result ≡ true
+            → HasFailed W.Sink.taken W.Sink.has_failed J.problem J.start }
     {
         self.failed
+    }
+
+    /// Lets a planner see the drafts up to the last one whose entry was to be written.
+    pub(crate) fn show<S: Timetable>(&self, planner: &mut Planner<S, J>)
+        ensures { IsPrefix self.now.history planner.new.front }
+    {
+        match &self.last {
+            Some(receipt) => planner.learn(receipt),
+            None => {}
+        }
+    }
+
+    /// Returns the writer when the desk is closed, and whether it has the entry of each draft of
+    /// the journal. `is_seen` says that the journal begins with the drafts that the pages show.
+    pub(crate) fn end<S: Timetable>(self, closed: &Closed<S, J>, is_seen: bool) -> (W, bool)
+        requires { is_seen ≡ true → IsPrefix self.history closed.now }
+        ensures whole { result.1 ≡ true
+            → AreMinutesOf J.problem closed.now J.start (W.Sink.taken result.0) }
+        ensures part { IsPartOf W.Sink.taken J.problem J.opening J.start result.0 }
+    {
+        let Pages {
+            writer,
+            last,
+            failed,
+        } = self;
+        let written = count(&last);
+        let_go(last);
+        if failed || !is_seen || written != closed.accepted() {
+            return (writer, false);
+        }
+        (writer, true)
     }
 
     /// Writes the entry of the last draft in the history of a receipt, if it is the next one.
@@ -126,10 +166,10 @@ impl<W: Durable, J: Naming> Pages<W, J> {
         ensures not_yet { result ≡ NotYet
             → (self.new ≡ self.old) × (length self.old.history + 1 < length receipt.now) }
         ensures kept { result ≡ Entered
-            → IsInMinutes W.Sink.taken W.kept J.problem receipt.now }
+            → IsInMinutes W.Sink.taken W.kept J.problem J.start receipt.now }
         ensures failed { result ≡ NotEntered → self.new.failed ≡ true }
         ensures out { result ≡ NotEntered
-            → HasFailed W.Sink.taken W.Sink.has_failed J.problem }
+            → HasFailed W.Sink.taken W.Sink.has_failed J.problem J.start }
         ensures cause { result ≡ NotEntered → (self.old.failed ≡ true)
             ⊎ (length receipt.now ≤ length self.old.history) ⊎ (self.new.marked ≡ true) }
         ensures front { result ≡ NotEntered
@@ -144,11 +184,10 @@ impl<W: Durable, J: Naming> Pages<W, J> {
         if number - written > 1 {
             return Attempt::NotYet;
         }
-        match write(&mut self.writer, entry) {
-            Ok(()) => {
-                self.last = Some(receipt.again());
-                Attempt::Entered
-            }
+        let written = write(&mut self.writer, entry);
+        self.last = Some(receipt.again());
+        match written {
+            Ok(()) => Attempt::Entered,
             Err(_) => {
                 self.failed = true;
                 Attempt::Failed
@@ -159,15 +198,17 @@ impl<W: Durable, J: Naming> Pages<W, J> {
 
 /// The book of minutes, shared by the threads of the seats.
 #[derive(Drop)]
-pub struct Book<W: Durable, J: Naming> {
+pub struct Book<W: Durable, J: Naming + Begun> {
     pages: Mutex<Pages<W, J>>,
     /// Signalled when an entry has been written, or could not be.
     turned: Condvar,
 }
 
-impl<W: Durable, J: Naming> Book<W, J> {
+impl<W: Durable, J: Naming + Begun> Book<W, J> {
     /// Creates a book on this writer, in which nothing is written.
-    pub fn new(writer: W) -> Self {
+    pub fn new(writer: W) -> Self
+        requires { J.start ≡ W.Sink.taken writer }
+    {
         Book {
             pages: Mutex::new(Pages::new(writer)),
             turned: Condvar::new(),
@@ -176,10 +217,17 @@ impl<W: Durable, J: Naming> Book<W, J> {
 
     /// Returns whether an entry could not be written.
     pub fn has_failed<R: Wait>(&self, rt: &R) -> bool
-        ensures sound { result ≡ false → IsSound W.Sink.taken J.problem }
-        ensures cause { result ≡ true → HasFailed W.Sink.taken W.Sink.has_failed J.problem }
+        ensures sound { result ≡ false → IsSound W.Sink.taken J.problem J.start }
+        ensures cause { result ≡ true
+            → HasFailed W.Sink.taken W.Sink.has_failed J.problem J.start }
     {
         self.pages.lock(rt).has_failed()
+    }
+
+    /// Returns the pages when no planner can commit any more.
+    pub(crate) fn into_pages(self) -> Pages<W, J> {
+        let Book { pages, turned: _ } = self;
+        pages.into_inner()
     }
 
     /// Writes the entry of the last draft in the history of a receipt, after it has waited until
@@ -188,8 +236,10 @@ impl<W: Durable, J: Naming> Book<W, J> {
     /// `Failed` if an entry could not be written.
     pub fn enter<R: Wait>(&self, rt: &R, receipt: &Receipt<J>, entry: &[u8]) -> Result<(), Failed>
         requires { EndsWith J.problem receipt.now entry.now }
-        ensures entered { OnOk result (IsInMinutes W.Sink.taken W.kept J.problem receipt.now) }
-        ensures failed { OnErr result (HasFailed W.Sink.taken W.Sink.has_failed J.problem) }
+        ensures entered { OnOk result
+            (IsInMinutes W.Sink.taken W.kept J.problem J.start receipt.now) }
+        ensures failed { OnErr result
+            (HasFailed W.Sink.taken W.Sink.has_failed J.problem J.start) }
     {
         let mut pages = self.pages.lock(rt);
         for _ in rt.forever() {

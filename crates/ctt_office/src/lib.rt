@@ -4,8 +4,10 @@
 
 mod answering;
 mod bad_word;
+mod begun;
 mod blocks;
 mod book;
+mod closing;
 mod doors;
 mod durable;
 pub mod laws;
@@ -19,13 +21,14 @@ mod undoing;
 mod workplace;
 
 pub use bad_word::BadWord;
+pub use begun::Begun;
 pub use blocks::{Blocks, read_blocks};
 pub use book::{Attempt, Book, Pages};
 pub use doors::Doors;
 pub use durable::Durable;
 pub use line_reader::{LineReader, Next};
 pub use office::keep_desk;
-pub use office_fault::OfficeFault;
+pub use office_fault::{OfficeFault, SeatFault};
 pub use seat_line::{SeatLine, read_seat_line};
-pub use sitting::{Ending, sit};
+pub use sitting::{Ending, Sat, Station, open_and_sit, sit};
 pub use workplace::Workplace;

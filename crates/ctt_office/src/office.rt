@@ -1,22 +1,21 @@
 //! A desk with its seats, from its opening until all planners have left.
 
-ghost use Rattle.std.specs.Prelude.{◌≡◌, ◌≤◌, ◌<◌, ◌+◌, ℕ, [], Err, Ok, is_some, length, map, IfErr, IfOk, IfSome, OnOk, string_bytes};
+ghost use Rattle.std.specs.Prelude.{◌≡◌, ◌≤◌, ◌<◌, ◌+◌, ℕ, [], is_some, length, map, IfErr, IfOk, IfSome, OnOk, string_bytes};
 ghost use Rattle.ctt_desk.specs.Names.{IsNamed};
-ghost use Rattle.ctt_desk.specs.Planners.{new_planners};
 ghost use Rattle.ctt_seat.specs.Attended.{IsCrewText};
 ghost use Rattle.ctt_office.specs.OfficeFaults.{IsOfficeFault, first_fault};
-ghost use Rattle.ctt_office.specs.Pages.{HasFailed, IsSound};
-ghost use Rattle.ctt_office.specs.declared.office_fault.OfficeFault.TheVariants.{NoMemory as OutOfMemory, NotWritten};
+ghost use Rattle.ctt_office.specs.Pages.{IsPartOf, IsRecorded, taken_by};
+ghost use Rattle.ctt_office.specs.declared.office_fault.OfficeFault.TheVariants.{NoMemory as OutOfMemory};
 
+use crate::begun::Begun;
 use crate::book::Book;
+use crate::closing::{close, desk_named};
 use crate::doors::Doors;
 use crate::durable::Durable;
 use crate::office_fault::{OfficeFault, SeatFault};
 use crate::sitting::{GridStation, Station, sit_on_grid};
-use ctt_board::Timetable;
-use ctt_desk::{Closed, Named, Naming, Opened, Planner, SharedDesk};
+use ctt_desk::{Named, Naming, Opened, Planner, SharedDesk};
 use ctt_grid::GridSheet;
-use ctt_seat::{closing_report, end_desk};
 use ctt_text::{Instance, let_go};
 use std::alloc::Global;
 use std::marker::{Brand, PhantomData, Send, Sync};
@@ -73,7 +72,7 @@ fn push_started<T: Drop, E: Drop>(
 fn sit_at_once<
     'i,
     'x,
-    J: Naming + Send + Sync,
+    J: Naming + Begun + Send + Sync,
     D: Doors,
     W: Durable + Send,
     R: Threads + Wait + Sync,
@@ -110,7 +109,7 @@ fn sit_at_once<
 }
 
 /// Gives each planner a seat, in the order of the names.
-fn stations<'i, 'x, P: Drop, J: Naming, D: Doors, W: Durable>(
+fn stations<'i, 'x, P: Drop, J: Naming + Begun, D: Doors, W: Durable>(
     alloc: Global,
     instance: &'i Instance,
     planners: Vec<P>,
@@ -148,7 +147,13 @@ fn stations<'i, 'x, P: Drop, J: Naming, D: Doors, W: Durable>(
 }
 
 /// Runs the seats with these names until all have ended.
-fn seat_all<'i, J: Naming + Send + Sync, D: Doors, W: Durable + Send, R: Threads + Wait + Sync>(
+fn seat_all<
+    'i,
+    J: Naming + Begun + Send + Sync,
+    D: Doors,
+    W: Durable + Send,
+    R: Threads + Wait + Sync,
+>(
     rt: &R,
     alloc: Global,
     desk: &SharedDesk<GridSheet<'i>, J>,
@@ -166,78 +171,9 @@ fn seat_all<'i, J: Naming + Send + Sync, D: Doors, W: Durable + Send, R: Threads
     sit_at_once(rt, alloc, desk, seats)
 }
 
-/// Creates the shared desk that `J` names, with its planners.
-fn desk_named<S: Timetable, J: Naming, R: Wait>(
-    rt: &R,
-    named: Named<S, J>,
-) -> Result<(SharedDesk<S, J>, Vec<Planner<S, J>>), OfficeFault>
-    ensures planners { IfOk result (λ made. made.1.items ≡ new_planners named.count) }
-    ensures fault { (seats : ℕ) → IfErr result (IsOfficeFault seats) }
-{
-    Ok(SharedDesk::new(rt, named)?)
-}
-
-/// Returns the last lines of a closed desk, or the fault of its seats.
-fn last_lines<S: Timetable, J: Naming>(
-    alloc: Global,
-    closed: &Closed<S, J>,
-    ended: Result<(), OfficeFault>,
-) -> Result<Vec<u8>, OfficeFault>
-    ensures text { IfOk result (λ text. IsCrewText J.problem J.opening [] text.items) }
-    ensures well { OnOk result (ended ≡ Ok tt) }
-    ensures fault { (seats : ℕ) → IfErr ended (IsOfficeFault seats)
-        → IfErr result (IsOfficeFault seats) }
-{
-    ended?;
-    Ok(closing_report(alloc, closed, Vec::new(alloc))?)
-}
-
-/// Closes a desk whose seats have ended, and returns its last lines or the fault of its seats.
-fn close<S: Timetable, J: Naming, R: Wait>(
-    rt: &R,
-    alloc: Global,
-    desk: SharedDesk<S, J>,
-    ended: Result<(), OfficeFault>,
-) -> Result<Vec<u8>, OfficeFault>
-    ensures text { IfOk result (λ text. IsCrewText J.problem J.opening [] text.items) }
-    ensures well { OnOk result (ended ≡ Ok tt) }
-    ensures fault { (seats : ℕ) → IfErr ended (IsOfficeFault seats)
-        → IfErr result (IsOfficeFault seats) }
-{
-    let closed = end_desk(rt, alloc, desk);
-    let text = last_lines(alloc, &closed, ended);
-    let_go(closed);
-    text
-}
-
-/// Returns the fault of the seats, if any, or `NotWritten` if an entry could not be written.
-fn check_end<J: Naming, W: Durable, R: Wait>(
-    rt: &R,
-    book: Option<&Book<W, J>>,
-    ended: Result<(), OfficeFault>,
-) -> Result<(), OfficeFault>
-    ensures well { OnOk result (ended ≡ Ok tt) }
-    ensures sound { OnOk result (IfSome book.entry (λ _. IsSound W.Sink.taken J.problem)) }
-    ensures first { IfErr ended (λ fault. result ≡ Err fault) }
-    ensures failed { OnOk ended (IfErr result (λ fault. (fault ≡ NotWritten)
-        × HasFailed W.Sink.taken W.Sink.has_failed J.problem)) }
-    ensures fault { (seats : ℕ) → IfErr ended (IsOfficeFault seats)
-        → IfErr result (IsOfficeFault seats) }
-{
-    ended?;
-    match book {
-        Some(book) => {
-            if book.has_failed(rt) {
-                return Err(OfficeFault::NotWritten);
-            }
-            Ok(())
-        }
-        None => Ok(()),
-    }
-}
-
 /// Creates a book on the writer, if there is one.
-fn book_on<W: Durable, J: Naming>(minutes: Option<W>) -> Option<Book<W, J>>
+fn book_on<W: Durable, J: Naming + Begun>(minutes: Option<W>) -> Option<Book<W, J>>
+    requires { J.start ≡ taken_by W.Sink.taken minutes }
     ensures { is_some result ≡ is_some minutes }
 {
     match minutes {
@@ -246,8 +182,16 @@ fn book_on<W: Durable, J: Naming>(minutes: Option<W>) -> Option<Book<W, J>>
     }
 }
 
-/// Runs the desk that `J` names until all planners have left.
-fn keep_named<'i, J: Naming + Send + Sync, D: Doors, W: Durable + Send, R: Threads + Wait + Sync>(
+/// Runs the desk that `J` names until all planners have left. It has a seat for each planner but
+/// the last, who closes it.
+#[tactic(auto, using(crate::proofs::PagesLemmas::none_taken))]
+fn keep_named<
+    'i,
+    J: Naming + Begun + Send + Sync,
+    D: Doors,
+    W: Durable + Send,
+    R: Threads + Wait + Sync,
+>(
     rt: &R,
     alloc: Global,
     instance: &'i Instance,
@@ -256,31 +200,38 @@ fn keep_named<'i, J: Naming + Send + Sync, D: Doors, W: Durable + Send, R: Threa
     names: &[String],
     doors: &D,
     minutes: Option<W>,
-) -> Result<Vec<u8>, OfficeFault>
+) -> (Result<Vec<u8>, OfficeFault>, Option<W>)
     requires named { IsNamed J.problem J.opening J.planners J.book opened count }
+    requires begun { J.start ≡ taken_by W.Sink.taken minutes }
     requires problem { opened.problem ≡ instance.now }
-    requires counted { length names.now ≡ count }
-    ensures text { IfOk result (λ text. IsCrewText J.problem J.opening [] text.items) }
-    ensures sound { OnOk result (IfSome minutes (λ _. IsSound W.Sink.taken J.problem)) }
-    ensures fault { IfErr result (IsOfficeFault (length names.now)) }
+    requires counted { length names.now + 1 ≡ count }
+    ensures text { IfOk result.0 (λ text. IsCrewText J.problem J.opening [] text.items) }
+    ensures recorded { IfOk result.0 (λ text.
+        IsRecorded W.Sink.taken J.problem J.opening J.start result.1 text.items) }
+    ensures part { IfSome result.1 (IsPartOf W.Sink.taken J.problem J.opening J.start) }
+    ensures given { is_some result.1 ≡ is_some minutes }
+    ensures fault { IfErr result.0 (IsOfficeFault (length names.now)) }
 {
     let named = Named {
         opened,
         count,
         name: PhantomData,
     };
-    let (desk, planners) = desk_named::<GridSheet<'i>, J, R>(rt, named)?;
-    let kept = book_on(minutes);
-    let book = kept.as_ref();
-    let sat = seat_all(rt, alloc, &desk, instance, planners, names, doors, book);
-    let ended = check_end(rt, book, sat);
-    close::<GridSheet<'i>, J, R>(rt, alloc, desk, ended)
+    match desk_named::<GridSheet<'i>, J, R>(rt, alloc, named) {
+        Ok((desk, planners, keeper)) => {
+            let kept = book_on(minutes);
+            let book = kept.as_ref();
+            let sat = seat_all(rt, alloc, &desk, instance, planners, names, doors, book);
+            close::<GridSheet<'i>, J, W, R>(rt, alloc, desk, keeper, kept, sat)
+        }
+        Err(fault) => (Err(fault), minutes),
+    }
 }
 
-/// Runs a desk with one planner per name until all have left. Each has a thread, which opens the
-/// devices of the seat and answers each line before it reads the next one. If there is a writer for
+/// Runs a desk with a seat for each name until all planners have left. Each seat has a thread, which
+/// opens its devices and answers each line before it reads the next one. If there is a writer for
 /// minutes, each accepted draft is entered there before it is reported to its planner. Returns the
-/// number of accepted drafts and the costs, as lines.
+/// number of accepted drafts and the costs, as lines, and the writer of the minutes.
 pub fn keep_desk<'i, D: Doors, W: Durable + Send, R: Threads + Wait + Sync>(
     rt: &R,
     alloc: Global,
@@ -289,14 +240,19 @@ pub fn keep_desk<'i, D: Doors, W: Durable + Send, R: Threads + Wait + Sync>(
     names: &[String],
     doors: &D,
     minutes: Option<W>,
-) -> Result<Vec<u8>, OfficeFault>
+) -> (Result<Vec<u8>, OfficeFault>, Option<W>)
     requires problem { opened.problem ≡ instance.now }
     requires some { 1 ≤ length names.now }
     requires few { length names.now ≤ 64 }
-    ensures text { IfOk result (λ text. IsCrewText instance.now opened.entry.list [] text.items) }
-    ensures sound { OnOk result (IfSome minutes (λ _. IsSound W.Sink.taken instance.now)) }
-    ensures fault { IfErr result (IsOfficeFault (length names.now)) }
+    ensures text { IfOk result.0
+        (λ text. IsCrewText instance.now opened.entry.list [] text.items) }
+    ensures recorded { IfOk result.0 (λ text. IsRecorded W.Sink.taken instance.now
+        opened.entry.list (taken_by W.Sink.taken minutes) result.1 text.items) }
+    ensures part { IfSome result.1 (IsPartOf W.Sink.taken instance.now opened.entry.list
+        (taken_by W.Sink.taken minutes)) }
+    ensures given { is_some result.1 ≡ is_some minutes }
+    ensures fault { IfErr result.0 (IsOfficeFault (length names.now)) }
 {
-    let count = names.len() as u16;
+    let count = names.len() as u16 + 1;
     keep_named::<Brand, D, W, R>(rt, alloc, instance, opened, count, names, doors, minutes)
 }

@@ -11,7 +11,7 @@ use thiserror::Error;
 
 /// Why a seat could not be served.
 #[derive(Clone, Copy, Debug, PartialEq, Eq)]
-pub(crate) enum SeatFault {
+pub enum SeatFault {
     /// The input device of the seat could not be opened.
     CannotRead,
     /// The output device of the seat could not be opened.

@@ -1,13 +1,13 @@
 //! A planner at a seat, whose lines are each answered before the next one is read.
 
-ghost use Rattle.std.specs.Prelude.{◌≡◌, ◌≢◌, ◌⊎◌, ℕ, true, false, Err, IfErr, IfOk, OnErr, OnOk};
+ghost use Rattle.std.specs.Prelude.{◌≡◌, ◌≢◌, ◌⊎◌, ℕ, true, false, Err, IfErr, IfNone, IfOk, IfSome, IsErr, OnErr, OnOk};
 ghost use Rattle.std.specs.Io.KnownBytes.{Appends};
 ghost use Rattle.ctt_files.specs.Output.{AppendsFront};
 ghost use Rattle.ctt_office.specs.Lines.{Comes, Gives, ReaderValue, coming};
 ghost use Rattle.ctt_seat.specs.Attended.{leaver};
 ghost use Rattle.ctt_office.specs.Pages.{HasFailed, IsInMinutes};
 ghost use Rattle.ctt_office.specs.Ended.{EndedFits};
-ghost use Rattle.ctt_office.specs.OfficeFaults.{fault_of};
+ghost use Rattle.ctt_office.specs.OfficeFaults.{IsBarred, fault_of};
 ghost use Rattle.ctt_office.specs.SeatAnswers.{IsAnswer, IsUncommitted, Tells};
 ghost use Rattle.ctt_office.specs.SeatText.{LineFits, asked_by};
 ghost use Rattle.ctt_office.specs.Sittings.{EndsAt, IsBroken, IsCut, IsSat};
@@ -15,6 +15,7 @@ ghost use Rattle.ctt_office.specs.declared.seat_line.SeatLine.TheVariants.{Leave
 ghost use Rattle.ctt_office.specs.declared.sitting.Ending.TheVariants.{Broken, NoMemory};
 
 use crate::answering::answer;
+use crate::begun::Begun;
 use crate::book::Book;
 use crate::doors::Doors;
 use crate::durable::Durable;
@@ -59,13 +60,13 @@ fn say<O: Sink>(out: &mut O, answer: &[u8]) -> Result<(), Failed>
 
 /// A seat at a desk of the instance, none of whose devices is open yet.
 #[derive(Drop)]
-pub(crate) struct Station<'i, 'x, J: Naming, D: Doors, W: Durable> {
-    pub(crate) alloc: Global,
-    pub(crate) instance: &'i Instance,
-    pub(crate) book: Option<&'x Book<W, J>>,
-    pub(crate) doors: &'x D,
-    pub(crate) name: &'x str,
-    pub(crate) desk: PhantomData<J>,
+pub struct Station<'i, 'x, J: Naming + Begun, D: Doors, W: Durable> {
+    pub alloc: Global,
+    pub instance: &'i Instance,
+    pub book: Option<&'x Book<W, J>>,
+    pub doors: &'x D,
+    pub name: &'x str,
+    pub desk: PhantomData<J>,
     ghost same: { J.problem ≡ instance.now },
 }
 
@@ -99,7 +100,7 @@ fn line_of<'a>(instance: &Instance, planner: PlannerNo, next: Next, bytes: &'a [
 /// Answers one line of a seat. The answer is written and flushed when this returns.
 ///
 /// `NoMemory` if memory runs out for the answer, `Broken` if it cannot be written.
-fn serve<'i, S: Sheet<'i>, J: Naming, W: Durable, O: Sink, R: Wait>(
+fn serve<'i, S: Sheet<'i>, J: Naming + Begun, W: Durable, O: Sink, R: Wait>(
     rt: &R,
     alloc: Global,
     desk: &SharedDesk<S, J>,
@@ -113,12 +114,12 @@ fn serve<'i, S: Sheet<'i>, J: Naming, W: Durable, O: Sink, R: Wait>(
     requires fits { (p : ℕ) × LineFits instance.now p line.now }
     requires ended { EndedFits instance.now place.ended }
     ensures told { OnOk result.1
-        (Tells (IsAnswer book.entry (IsInMinutes W.Sink.taken W.kept J.problem)
-        (HasFailed W.Sink.taken W.Sink.has_failed J.problem) instance.now J.opening line.now
+        (Tells (IsAnswer book.entry (IsInMinutes W.Sink.taken W.kept J.problem J.start)
+        (HasFailed W.Sink.taken W.Sink.has_failed J.problem J.start) instance.now J.opening line.now
         place.entry result.0) (O.taken out.old) (O.taken out.new)) }
     ensures cut { IfErr result.1
-        (IsCut (IsAnswer book.entry (IsInMinutes W.Sink.taken W.kept J.problem)
-        (HasFailed W.Sink.taken W.Sink.has_failed J.problem) instance.now J.opening line.now
+        (IsCut (IsAnswer book.entry (IsInMinutes W.Sink.taken W.kept J.problem J.start)
+        (HasFailed W.Sink.taken W.Sink.has_failed J.problem J.start) instance.now J.opening line.now
         place.entry result.0) (O.taken out.old) (O.taken out.new)) }
     ensures broken { IfErr result.1 (IsBroken (O.has_failed out.new)) }
     ensures unheard { result.1 ≡ Err NoMemory → IsUncommitted place.entry result.0 }
@@ -149,7 +150,7 @@ fn is_last(line: &SeatLine) -> bool
 /// Answers a planner's lines until the planner leaves, the lines end, a device of the seat fails,
 /// or memory runs out for an answer. An open draft is then abandoned.
 #[tactic(auto, using(crate::proofs::SittingLemmas::read_failed, crate::proofs::SittingLemmas::write_failed))]
-pub fn sit<'i, S: Sheet<'i>, J: Naming, W: Durable, I: Source, O: Sink, R: Wait>(
+pub fn sit<'i, S: Sheet<'i>, J: Naming + Begun, W: Durable, I: Source, O: Sink, R: Wait>(
     rt: &R,
     alloc: Global,
     desk: &SharedDesk<S, J>,
@@ -163,8 +164,8 @@ pub fn sit<'i, S: Sheet<'i>, J: Naming, W: Durable, I: Source, O: Sink, R: Wait>
     requires same { J.problem ≡ instance.now }
     requires fits { EndedFits instance.now place.ended }
     ensures sat { IsSat (asked_by instance.now number)
-        (IsAnswer book.entry (IsInMinutes W.Sink.taken W.kept J.problem)
-        (HasFailed W.Sink.taken W.Sink.has_failed J.problem) instance.now J.opening)
+        (IsAnswer book.entry (IsInMinutes W.Sink.taken W.kept J.problem J.start)
+        (HasFailed W.Sink.taken W.Sink.has_failed J.problem J.start) instance.now J.opening)
         (λ after. result.0 ≡ leaver after.seat)
         (λ after. result.0.committed ≡ (leaver after.seat).committed)
         place.entry (coming lines.old) (O.taken out.old) (O.taken out.new) result.1 }
@@ -203,13 +204,77 @@ fn fault_of(ending: Ending) -> Result<(), SeatFault>
     }
 }
 
-/// Opens the devices of a seat, and answers the planner's lines.
-fn open_and_sit<'i, 'x, S: Sheet<'i>, J: Naming, D: Doors, W: Durable, R: Wait>(
+/// What is left of a seat whose devices were opened.
+#[derive(Drop)]
+pub struct Sat<I: Source + Drop, O: Sink + Drop> {
+    /// The device from which the lines were read.
+    pub lines: LineReader<I>,
+    /// The device to which the answers were written.
+    pub out: O,
+    /// Why the seat has ended.
+    pub ending: Ending,
+}
+
+/// Opens the devices of a seat.
+fn open_seat<D: Doors>(
+    alloc: Global,
+    doors: &D,
+    name: &str,
+) -> Result<(LineReader<D::Input>, D::Output), SeatFault>
+    ensures lines { IfOk result (λ opened. coming opened.0 ≡ D.gives doors.now name.now) }
+    ensures out { IfOk result (λ opened. D.Output.taken opened.1 ≡ D.had doors.now name.now) }
+    ensures barred { IfErr result
+        (IsBarred (D.may_bar_input doors.now name.now) (D.may_bar_output doors.now name.now)) }
+{
+    let Ok(input) = doors.open_input(name) else {
+        return Err(SeatFault::CannotRead);
+    };
+    let Ok(out) = doors.open_output(name) else {
+        return Err(SeatFault::CannotWrite);
+    };
+    match LineReader::new(alloc, input) {
+        Ok(lines) => Ok((lines, out)),
+        Err(_) => {
+            let_go(out);
+            Err(SeatFault::NoMemory)
+        }
+    }
+}
+
+/// Opens the devices of a seat, first that of its lines, and answers the planner's lines as `sit`
+/// does. Returns the planner, what is left of the seat if its devices were opened, and the fault of
+/// the seat, if it has one.
+#[tactic(auto, using(crate::proofs::SittingLemmas::sat_over))]
+pub fn open_and_sit<'i, 'x, S: Sheet<'i>, J: Naming + Begun, D: Doors, W: Durable, R: Wait>(
     station: Station<'i, 'x, J, D, W>,
     rt: &R,
     desk: &SharedDesk<S, J>,
-    planner: Planner<S, J>,
-) -> Result<(), SeatFault> {
+    number: PlannerNo,
+    place: Workplace<'i, S, J>,
+) -> (
+    Planner<S, J>,
+    Option<Sat<D::Input, D::Output>>,
+    Result<(), SeatFault>,
+)
+    requires { EndedFits station.instance.now place.ended }
+    ensures unopened { IfNone result.1
+        ((result.0 ≡ leaver place.entry.seat) × IsErr result.2) }
+    ensures barred { IfNone result.1 (IfErr result.2
+        (IsBarred (D.may_bar_input station.entry.doors.now station.entry.name.now)
+        (D.may_bar_output station.entry.doors.now station.entry.name.now))) }
+    ensures sat { IfSome result.1 (λ sat. IsSat (asked_by station.entry.instance.now number)
+        (IsAnswer station.entry.book (IsInMinutes W.Sink.taken W.kept J.problem J.start)
+        (HasFailed W.Sink.taken W.Sink.has_failed J.problem J.start) station.entry.instance.now
+        J.opening)
+        (λ after. result.0 ≡ leaver after.seat)
+        (λ after. result.0.committed ≡ (leaver after.seat).committed)
+        place.entry (D.gives station.entry.doors.now station.entry.name.now)
+        (D.had station.entry.doors.now station.entry.name.now) (D.Output.taken sat.out)
+        sat.ending) }
+    ensures broken { IfSome result.1 (λ sat. sat.ending ≡ Broken
+        → (sat.lines.has_failed ≡ true) ⊎ (D.Output.has_failed sat.out ≡ true)) }
+    ensures fault { IfSome result.1 (λ sat. result.2 ≡ fault_of sat.ending) }
+{
     let Station {
         alloc,
         instance,
@@ -218,39 +283,42 @@ fn open_and_sit<'i, 'x, S: Sheet<'i>, J: Naming, D: Doors, W: Durable, R: Wait>(
         name,
         desk: _,
     } = station;
-    let number = planner.number();
-    let Ok(input) = doors.open_input(name) else {
-        let_go(planner);
-        return Err(SeatFault::CannotRead);
+    let (mut lines, mut out) = match open_seat(alloc, doors, name) {
+        Ok(opened) => opened,
+        Err(fault) => return (place.leave(), None, Err(fault)),
     };
-    let Ok(mut out) = doors.open_output(name) else {
-        let_go(planner);
-        return Err(SeatFault::CannotWrite);
-    };
-    let Ok(mut lines) = LineReader::new(alloc, input) else {
-        let_go(out);
-        let_go(planner);
-        return Err(SeatFault::NoMemory);
-    };
-    let place = Workplace::new(planner);
     let (planner, ending) = sit(
         rt, alloc, desk, instance, book, number, place, &mut lines, &mut out,
     );
+    (planner, Some(Sat { lines, out, ending }), fault_of(ending))
+}
+
+/// Seats a planner, and returns the fault of the seat, if it has one.
+fn sit_down<'i, 'x, S: Sheet<'i>, J: Naming + Begun, D: Doors, W: Durable, R: Wait>(
+    station: Station<'i, 'x, J, D, W>,
+    rt: &R,
+    desk: &SharedDesk<S, J>,
+    planner: Planner<S, J>,
+) -> Result<(), SeatFault> {
+    let number = planner.number();
+    let place = Workplace::new(planner);
+    let (planner, sat, fault) = open_and_sit(station, rt, desk, number, place);
     let_go(planner);
-    fault_of(ending)
+    let_go(sat);
+    fault
 }
 
 /// A planner with a seat at a shared desk, over a grid sheet. The type has one lifetime for the
 /// instance, as required of what moves to a thread.
 #[derive(Drop)]
-pub(crate) struct GridStation<'i, 'x, J: Naming, D: Doors, W: Durable> {
+pub(crate) struct GridStation<'i, 'x, J: Naming + Begun, D: Doors, W: Durable> {
     pub(crate) desk: &'x SharedDesk<GridSheet<'i>, J>,
     pub(crate) planner: Planner<GridSheet<'i>, J>,
     pub(crate) station: Station<'i, 'x, J, D, W>,
 }
 
 /// Opens a seat, and answers the planner's lines, over a grid sheet.
-pub(crate) fn sit_on_grid<'i, 'x, J: Naming, D: Doors, W: Durable, R: Wait>(
+pub(crate) fn sit_on_grid<'i, 'x, J: Naming + Begun, D: Doors, W: Durable, R: Wait>(
     work: GridStation<'i, 'x, J, D, W>,
     rt: &R,
 ) -> Result<(), SeatFault> {
@@ -259,5 +327,5 @@ pub(crate) fn sit_on_grid<'i, 'x, J: Naming, D: Doors, W: Durable, R: Wait>(
         planner,
         station,
     } = work;
-    open_and_sit::<GridSheet<'i>, J, D, W, R>(station, rt, desk, planner)
+    sit_down::<GridSheet<'i>, J, D, W, R>(station, rt, desk, planner)
 }

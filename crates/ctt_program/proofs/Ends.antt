@@ -1,23 +1,19 @@
 -- How the program ends, by its status.
 use Rattle.std.proofs.Common.{◌≡◌, ◌≢◌, ◌≤◌, ◌∙◌, ◌⊎◌, refl, ap, sym, inl, inr, true, false, ⊎_elim, subst, ℕ, suc, Bool, List, [], Option, Result, Ok, Err, IfOk, IfErr, OnOk, OnErr, arith}
-use Rattle.std.specs.Global.{Global}
-use Rattle.std.specs.declared.string.String.{String}
 use Rattle.ctt_words.specs.Jobs.{IsJobOf, faults_of}
 use Rattle.ctt_words.specs.declared.job.Job.{Job}
-use Rattle.ctt_words.specs.declared.job.Showing.TheVariants.{Page, Report, Week}
-use Rattle.ctt_words.specs.declared.job.Task.{Task}
-use Rattle.ctt_words.specs.declared.job.Task.TheVariants.{Audit, Compare, Crew, Desk, Journal as Journals, Listing, Mending, Run, Show, Where}
+use Rattle.ctt_words.specs.declared.job.Job.TheVariants.{Audit, Check, Compare, Crew, Desk, Journal as Journals, List as Listing, Mend, Page, Run, Week, Where}
 use Rattle.ctt_files.specs.Faults.{MayHaveWritten, status_of}
 use Rattle.ctt_files.specs.Outcomes.{outcome_status}
 use Rattle.ctt_files.specs.Texts.{Held}
 use Rattle.ctt_files.specs.declared.fault.Fault.{Fault}
-use Rattle.ctt_files.specs.declared.fault.Fault.TheVariants.{BadSeats, Barred, CannotRead, CannotWrite, Instance, Journal, MinutesExist, NoCourse, NoCurriculum, NoMemory, NoPlace, NoRoom, NoTeacher, NoThread, NoWord, NotYours, Opening, Solution, TooLong, TooManyScripts, Words, WordsNotText}
+use Rattle.ctt_files.specs.declared.fault.Fault.TheVariants.{BadSeats, Barred, CannotRead, CannotWrite, Instance, Journal, MinutesExist, NoCourse, NoCurriculum, NoMemory, NoPlace, NoRoom, NoTeacher, NoThread, NoWord, Opening, Solution, TooLong, TooManyScripts, Words, WordsNotText}
 use Rattle.ctt_files.specs.declared.outcome.Outcome.{Outcome}
 use Rattle.ctt_files.specs.declared.outcome.Outcome.TheVariants.{Differs, Done, Incomplete, Unlawful}
 use Rattle.ctt_files.proofs.Causes.{three_is_one}
 use Rattle.ctt_commands.specs.Faults.{KeptUnless}
 use Rattle.ctt_program.specs.Reporting.{SaysFault}
-use Rattle.ctt_program.specs.Work.{DoesAsAsked, DoesTask, WarnsAsAsked, WarnsOfTask}
+use Rattle.ctt_program.specs.Work.{DoesAsAsked, DoesJob, WarnsAsAsked, WarnsOfJob}
 use Rattle.ctt_program.proofs.Known.{says_caused}
 
 -- the outcome of a job is known by its status
@@ -87,7 +83,6 @@ ended_kept (Words text) status S K is kept = inl kept
 ended_kept WordsNotText status S K is kept = inl kept
 ended_kept TooManyScripts status S K is kept = inl kept
 ended_kept NoThread status S K is kept = inl kept
-ended_kept NotYours status S K is kept = inl kept
 ended_kept NoPlace status S K is kept = inl kept
 ended_kept BadSeats status S K is kept = inl kept
 ended_kept (MinutesExist name) status S K is kept = inl kept
@@ -123,25 +118,25 @@ failed_so (Ok value) F P Q is holds gives = tt
 failed_so (Err fault) F P Q is holds gives = gives fault is holds
 
 -- a job that ends with another outcome than `Done` has changed no file
-task_kept : (instance : String Global) (barred : Option (String Global)) (task : Task) (outcome : Outcome) (before after : Held) (old new : Option (List ℕ))
-    → DoesTask instance barred task outcome before after old new → outcome ≢ Done → after ≡ before
-task_kept instance barred (Show solution (Report form true strict)) outcome before after old new does other = does.0
-task_kept instance barred (Show solution (Report form false strict)) outcome before after old new does other = does.0
-task_kept instance barred (Show solution (Week whose)) outcome before after old new does other = does.0
-task_kept instance barred (Show solution (Page days)) outcome before after old new does other = does.0
-task_kept instance barred (Run script start journal) outcome before after old new does other = absurd (other does.0)
-task_kept instance barred (Audit journal start) outcome before after old new does other = does.0
-task_kept instance barred (Crew scripts) outcome before after old new does other = does.0
-task_kept instance barred (Desk seats start minutes) outcome before after old new does other = absurd (other does.0)
-task_kept instance barred (Journals minutes) outcome before after old new does other = does.0
-task_kept instance barred (Listing journal start) outcome before after old new does other = does.0
-task_kept instance barred (Mending solution) outcome before after old new does other = does.0
-task_kept instance barred (Compare solutions form strict) outcome before after old new does other = does.0
-task_kept instance barred (Where word) outcome before after old new does other = does.0
+job_kept : (job : Job) (outcome : Outcome) (before after : Held) (old new : Option (List ℕ))
+    → DoesJob job outcome before after old new → outcome ≢ Done → after ≡ before
+job_kept (Check instance barred solution json name true strict) outcome before after old new does other = does.0
+job_kept (Check instance barred solution json name false strict) outcome before after old new does other = does.0
+job_kept (Week instance barred solution whose) outcome before after old new does other = does.0
+job_kept (Page instance barred solution days) outcome before after old new does other = does.0
+job_kept (Run instance barred script start journal) outcome before after old new does other = absurd (other does.0)
+job_kept (Audit instance barred journal start) outcome before after old new does other = does.0
+job_kept (Crew instance barred scripts) outcome before after old new does other = does.0
+job_kept (Desk instance barred seats start minutes) outcome before after old new does other = absurd (other does.0)
+job_kept (Journals instance barred minutes) outcome before after old new does other = does.0
+job_kept (Listing instance barred journal start) outcome before after old new does other = does.0
+job_kept (Mend instance barred solution) outcome before after old new does other = does.0
+job_kept (Compare instance barred solutions csv json strict) outcome before after old new does other = does.0
+job_kept (Where file word) outcome before after old new does other = does.0
 
 pub other_kept : (words : List (List ℕ)) (outcome : Outcome) (before after : Held) (old new : Option (List ℕ)) → DoesAsAsked words outcome before after old new → outcome ≢ Done → after ≡ before
 other_kept words outcome before after old new (inl help) other = help.2
-other_kept words outcome before after old new (inr (taken, (job, is, does))) other = task_kept job.instance job.barred job.task outcome before after old new does other
+other_kept words outcome before after old new (inr (taken, (job, is, does))) other = job_kept job outcome before after old new does other
 
 -- part of an answer may have been printed only if the status is 3
 may_is_three : (fault : Fault) → MayHaveWritten fault → status_of fault ≡ 3
@@ -158,7 +153,6 @@ may_is_three (Words text) may = absurd may
 may_is_three WordsNotText may = absurd may
 may_is_three TooManyScripts may = absurd may
 may_is_three NoThread may = absurd may
-may_is_three NotYours may = absurd may
 may_is_three NoPlace may = absurd may
 may_is_three BadSeats may = absurd may
 may_is_three (MinutesExist name) may = absurd may
@@ -190,7 +184,6 @@ status_between (Words text) = (omega arith, omega arith)
 status_between WordsNotText = (omega arith, omega arith)
 status_between TooManyScripts = (omega arith, omega arith)
 status_between NoThread = (omega arith, omega arith)
-status_between NotYours = (omega arith, omega arith)
 status_between NoPlace = (omega arith, omega arith)
 status_between BadSeats = (omega arith, omega arith)
 status_between (MinutesExist name) = (omega arith, omega arith)
@@ -238,7 +231,7 @@ said_since taken failed C status words old mid new (inr warns) marked said = ⊎
 
 -- what a job has written, by the words that ask for it
 pub warned_as_asked : {V : Type 0} (taken : V → Option (List ℕ)) (failed : V → Bool) (words : List (List ℕ)) (job : Job) (old new : V) → IsJobOf words job
-    → (new ≡ old) ⊎ ((failed new ≡ true) ⊎ WarnsOfTask job.task (taken old) (taken new)) → (failed new ≡ true) ⊎ WarnsAsAsked words (taken old) (taken new)
+    → (new ≡ old) ⊎ ((failed new ≡ true) ⊎ WarnsOfJob job (taken old) (taken new)) → (failed new ≡ true) ⊎ WarnsAsAsked words (taken old) (taken new)
 warned_as_asked taken failed words job old new is (inl same) = inr (inl (ap taken same))
 warned_as_asked taken failed words job old new is (inr (inl marks)) = inl marks
 warned_as_asked taken failed words job old new is (inr (inr warns)) = inr (inr (job, is, warns))

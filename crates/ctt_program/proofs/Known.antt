@@ -1,29 +1,25 @@
 -- What holds if bytes are known.
-use Rattle.std.proofs.Common.{◌≡◌, ◌<◌, ◌⊎◌, ⊎_elim, length, arith, inl, inr, ap, ℕ, Bool, true, List, refl, sym, subst, Option}
-use Rattle.std.specs.Global.{Global}
+use Rattle.std.proofs.Common.{◌≡◌, ◌<◌, ◌⊎◌, ⊎_elim, length, arith, inl, inr, ap, ℕ, Bool, true, List, refl, sym, subst, Option, None}
 use Rattle.std.specs.Io.KnownBytes.{Appends}
-use Rattle.std.specs.declared.string.String.{String}
 use Rattle.ctt_words.specs.Jobs.{AreRefused, IsFaultOf, IsJobOf}
 use Rattle.ctt_words.specs.declared.job.Job.{Job}
-use Rattle.ctt_words.specs.declared.job.Task.{Task}
-use Rattle.ctt_words.specs.declared.job.Task.TheVariants.{Audit, Compare, Crew, Desk, Journal as Journals, Listing, Mending, Run, Show, Where}
+use Rattle.ctt_words.specs.declared.job.Job.TheVariants.{Audit, Check, Compare, Crew, Desk, Journal as Journals, List as Listing, Mend, Page, Run, Week, Where}
 use Rattle.ctt_words.specs.declared.job.WordsFault.{WordsFault}
 use Rattle.ctt_words.specs.declared.job.WordsFault.TheVariants as no
 use Rattle.ctt_words.specs.declared.job.WordsFault.TheVariants.{Help, Refused}
 use Rattle.ctt_files.specs.Faults.{IfUnwritten, IsLineOf, status_of}
 use Rattle.ctt_files.specs.Texts.{Held}
 use Rattle.ctt_files.specs.declared.fault.Fault.{Fault}
-use Rattle.ctt_files.specs.declared.fault.Fault.TheVariants.{BadSeats, Barred, CannotRead, CannotWrite, Instance, Journal, MinutesExist, NoCourse, NoCurriculum, NoMemory, NoPlace, NoRoom, NoTeacher, NoThread, NoWord, NotYours, Opening, Solution, TooLong, TooManyScripts, Words, WordsNotText}
+use Rattle.ctt_files.specs.declared.fault.Fault.TheVariants.{BadSeats, Barred, CannotRead, CannotWrite, Instance, Journal, MinutesExist, NoCourse, NoCurriculum, NoMemory, NoPlace, NoRoom, NoTeacher, NoThread, NoWord, Opening, Solution, TooLong, TooManyScripts, Words, WordsNotText}
 use Rattle.ctt_files.specs.Refusals.{IsOfSolution}
 use Rattle.ctt_files.proofs.Plain.{IsPlain, behind_plain, file_plain, instance_in_plain, solution_file_plain}
-use Rattle.ctt_reports.specs.Showings.{whose_of}
 use Rattle.ctt_reports.proofs.LookLemmas.{look_plain}
 use Rattle.ctt_commands.specs.Faults.{KeptUnless}
 use Rattle.ctt_program.specs.Reporting.{SaysFault}
 use Rattle.ctt_program.specs.Jobs.{HasBadSeats, Storing, scripts_of}
 use Rattle.ctt_commands.specs.Refusals.{IsOfAudited, IsOfScript, IsOfScripts}
 use Rattle.ctt_program.specs.Refusals.{IsOfMinutes, IsOfSeats}
-use Rattle.ctt_program.specs.Work.{AsksForBadSeats, AsksForRefusedText, AsksForTooMany, HasCause, IsOfHelp, IsOfJob, IsOfTask}
+use Rattle.ctt_program.specs.Work.{AsksForBadSeats, AsksForRefusedText, AsksForTooMany, HasCause, IsOfHelp, IsOfJob}
 use Rattle.ctt_commands.proofs.Plain.{audited_plain, script_plain, scripts_plain}
 use Rattle.ctt_program.proofs.Plain.{minutes_plain, seats_plain}
 
@@ -52,39 +48,37 @@ IsWord _ = ⊥
 
 -- a fault of a job is a plain one, except for too many scripts, which only a crew has, and for the
 -- seats of a desk
-abbrev pub IsSpecial : Task → Fault → Type 0
-IsSpecial task fault = ((fault ≡ TooManyScripts) × (64 < length (scripts_of task))) ⊎ ((fault ≡ BadSeats) × HasBadSeats task)
+abbrev pub IsSpecial : Job → Fault → Type 0
+IsSpecial job fault = ((fault ≡ TooManyScripts) × (64 < length (scripts_of job))) ⊎ ((fault ≡ BadSeats) × HasBadSeats job)
 
-pub task_plain : (instance : String Global) (barred : Option (String Global)) (task : Task) (held : Held) (fault : Fault) → IsOfTask instance barred task held fault
-    → IsPlain fault ⊎ IsSpecial task fault
-task_plain instance barred (Show solution showing) held fault is = inl (look_plain held instance barred (whose_of showing) solution fault is)
-task_plain instance barred (Run script start journal) held fault is = inl (behind_plain (IsOfScript script start) (script_plain script start) held instance barred fault is)
-task_plain instance barred (Audit journal start) held fault is = inl (behind_plain (IsOfAudited journal start) (audited_plain journal start) held instance barred fault is)
-task_plain instance barred (Crew scripts) held fault (inl many) = inr (inl many)
-task_plain instance barred (Crew scripts) held fault (inr other) = inl (behind_plain (IsOfScripts scripts.items) (scripts_plain scripts.items) held instance barred fault other)
-task_plain instance barred (Desk seats start minutes) held fault (inl (inl bad)) = inr (inr bad)
-task_plain instance barred (Desk seats start minutes) held fault (inl (inr exist)) = inl (subst IsPlain (sym exist.2) tt)
-task_plain instance barred (Desk seats start minutes) held fault (inr other) = inl (behind_plain (IsOfSeats seats.items start) (seats_plain seats.items start) held instance barred fault other)
-task_plain instance barred (Journals minutes) held fault is = inl (behind_plain (IsOfMinutes minutes) (minutes_plain minutes) held instance barred fault is)
-task_plain instance barred (Listing journal start) held fault is = inl (behind_plain (IsOfAudited journal start) (audited_plain journal start) held instance barred fault is)
-task_plain instance barred (Mending solution) held fault is = inl (behind_plain (IsOfSolution solution) (solution_file_plain solution) held instance barred fault is)
-task_plain instance barred (Compare solutions form strict) held fault is = inl (instance_in_plain held instance barred fault is)
-task_plain instance barred (Where word) held fault (inl file) = inl (file_plain held instance fault file)
-task_plain instance barred (Where word) held fault (inr none) = inl (subst IsPlain (sym none.0.2) tt)
-
-job_plain : (job : Job) (held : Held) (fault : Fault) → IsOfJob job held fault → IsPlain fault ⊎ IsSpecial job.task fault
-job_plain job held fault is = task_plain job.instance job.barred job.task held fault is
+pub job_plain : (job : Job) (held : Held) (fault : Fault) → IsOfJob job held fault → IsPlain fault ⊎ IsSpecial job fault
+job_plain (Check instance barred solution json name explain strict) held fault is = inl (look_plain held instance barred None solution fault is)
+job_plain (Week instance barred solution whose) held fault is = inl (look_plain held instance barred whose solution fault is)
+job_plain (Page instance barred solution days) held fault is = inl (look_plain held instance barred None solution fault is)
+job_plain (Run instance barred script start journal) held fault is = inl (behind_plain (IsOfScript script start) (script_plain script start) held instance barred fault is)
+job_plain (Audit instance barred journal start) held fault is = inl (behind_plain (IsOfAudited journal start) (audited_plain journal start) held instance barred fault is)
+job_plain (Crew instance barred scripts) held fault (inl many) = inr (inl many)
+job_plain (Crew instance barred scripts) held fault (inr other) = inl (behind_plain (IsOfScripts scripts.items) (scripts_plain scripts.items) held instance barred fault other)
+job_plain (Desk instance barred seats start minutes) held fault (inl (inl bad)) = inr (inr bad)
+job_plain (Desk instance barred seats start minutes) held fault (inl (inr exist)) = inl (subst IsPlain (sym exist.2) tt)
+job_plain (Desk instance barred seats start minutes) held fault (inr other) = inl (behind_plain (IsOfSeats seats.items start) (seats_plain seats.items start) held instance barred fault other)
+job_plain (Journals instance barred minutes) held fault is = inl (behind_plain (IsOfMinutes minutes) (minutes_plain minutes) held instance barred fault is)
+job_plain (Listing instance barred journal start) held fault is = inl (behind_plain (IsOfAudited journal start) (audited_plain journal start) held instance barred fault is)
+job_plain (Mend instance barred solution) held fault is = inl (behind_plain (IsOfSolution solution) (solution_file_plain solution) held instance barred fault is)
+job_plain (Compare instance barred solutions csv json strict) held fault is = inl (instance_in_plain held instance barred fault is)
+job_plain (Where file word) held fault (inl unread) = inl (file_plain held file fault unread)
+job_plain (Where file word) held fault (inr none) = inl (subst IsPlain (sym none.0.2) tt)
 
 -- no job refuses the words that ask for it
-not_special : {C : Type 0} (task : Task) (fault : Fault) → IsWord fault → IsSpecial task fault → C
-not_special task fault word (inl many) = absurd (subst IsWord many.0 word)
-not_special task fault word (inr bad) = absurd (subst IsWord bad.0 word)
+not_special : {C : Type 0} (job : Job) (fault : Fault) → IsWord fault → IsSpecial job fault → C
+not_special job fault word (inl many) = absurd (subst IsWord many.0 word)
+not_special job fault word (inr bad) = absurd (subst IsWord bad.0 word)
 
 job_words : {C : Type 0} (job : Job) (held : Held) (fault : Fault) → IsWord fault → (IsPlain fault → C) → IsOfJob job held fault → C
-job_words job held fault word plain is = ⊎_elim plain (λ special. not_special job.task fault word special) (job_plain job held fault is)
+job_words job held fault word plain is = ⊎_elim plain (λ special. not_special job fault word special) (job_plain job held fault is)
 
 -- the cause of a fault of a job
-pub job_caused : (words : List (List ℕ)) (held : Held) (failed : Bool) (job : Job) (U : Type 0) (fault : Fault) → IsJobOf words job → IfUnwritten fault ((failed ≡ true) ⊎ Storing job.task) (IsOfJob job held fault × U) → HasCause words held failed fault
+pub job_caused : (words : List (List ℕ)) (held : Held) (failed : Bool) (job : Job) (U : Type 0) (fault : Fault) → IsJobOf words job → IfUnwritten fault ((failed ≡ true) ⊎ Storing job) (IsOfJob job held fault × U) → HasCause words held failed fault
 job_caused words held failed job U (Instance met) is cause = (job, is, cause.0)
 job_caused words held failed job U (Solution met) is cause = (job, is, cause.0)
 job_caused words held failed job U (Barred met) is cause = (job, is, cause.0)
@@ -98,7 +92,6 @@ job_caused words held failed job U (Words text) is cause = job_words job held (W
 job_caused words held failed job U WordsNotText is cause = job_words job held WordsNotText tt (λ plain. absurd plain) cause.0
 job_caused words held failed job U TooManyScripts is cause = (job, is, cause.0)
 job_caused words held failed job U NoThread is cause = (job, is, cause.0)
-job_caused words held failed job U NotYours is cause = (job, is, cause.0)
 job_caused words held failed job U NoPlace is cause = (job, is, cause.0)
 job_caused words held failed job U BadSeats is cause = (job, is, cause.0)
 job_caused words held failed job U (MinutesExist name) is cause = (job, is, cause.0)
@@ -128,14 +121,13 @@ refused_two words held failed CannotWrite has two = absurd (omega (arith, two))
 refused_two words held failed NoMemory has two = absurd (omega (arith, two))
 refused_two words held failed (Words text) has two = inl (⊎_elim inl (λ several. inr several.0) has)
 refused_two words held failed WordsNotText has two = absurd has
-refused_two words held failed TooManyScripts has two = inr (inl (has.0, has.1, many_of has.0.task (job_plain has.0 held TooManyScripts has.2)))
+refused_two words held failed TooManyScripts has two = inr (inl (has.0, has.1, many_of has.0 (job_plain has.0 held TooManyScripts has.2)))
   where
-    many_of : (task : Task) → IsPlain TooManyScripts ⊎ IsSpecial task TooManyScripts → 64 < length (scripts_of task)
-    many_of task (inl plain) = absurd plain
-    many_of task (inr (inl many)) = many.1
-    many_of task (inr (inr bad)) = one_is_none (ap is_many bad.0)
+    many_of : (job : Job) → IsPlain TooManyScripts ⊎ IsSpecial job TooManyScripts → 64 < length (scripts_of job)
+    many_of job (inl plain) = absurd plain
+    many_of job (inr (inl many)) = many.1
+    many_of job (inr (inr bad)) = one_is_none (ap is_many bad.0)
 refused_two words held failed NoThread has two = absurd (omega (arith, two))
-refused_two words held failed NotYours has two = absurd (omega (arith, two))
 refused_two words held failed NoPlace has two = absurd (omega (arith, two))
 refused_two words held failed (MinutesExist name) has two = absurd (omega (arith, two))
 refused_two words held failed (NoCurriculum name) has two = absurd (omega (arith, two))
@@ -143,12 +135,12 @@ refused_two words held failed (NoTeacher name) has two = absurd (omega (arith, t
 refused_two words held failed (NoCourse name) has two = absurd (omega (arith, two))
 refused_two words held failed (NoRoom name) has two = absurd (omega (arith, two))
 refused_two words held failed (NoWord word file) has two = absurd (omega (arith, two))
-refused_two words held failed BadSeats has two = inr (inr (has.0, has.1, seats_of has.0.task (job_plain has.0 held BadSeats has.2)))
+refused_two words held failed BadSeats has two = inr (inr (has.0, has.1, seats_of has.0 (job_plain has.0 held BadSeats has.2)))
   where
-    seats_of : (task : Task) → IsPlain BadSeats ⊎ IsSpecial task BadSeats → HasBadSeats task
-    seats_of task (inl plain) = absurd plain
-    seats_of task (inr (inl many)) = one_is_none (sym (ap is_many many.0))
-    seats_of task (inr (inr bad)) = bad.1
+    seats_of : (job : Job) → IsPlain BadSeats ⊎ IsSpecial job BadSeats → HasBadSeats job
+    seats_of job (inl plain) = absurd plain
+    seats_of job (inr (inl many)) = one_is_none (sym (ap is_many many.0))
+    seats_of job (inr (inr bad)) = bad.1
 
 -- a text is refused by a job that the words ask for
 pub asked_one : (words : List (List ℕ)) (held : Held) (failed : Bool) (fault : Fault) → HasCause words held failed fault → status_of fault ≡ 1 → AsksForRefusedText words held
@@ -165,7 +157,6 @@ asked_one words held failed (Words text) has one = absurd (omega (arith, one))
 asked_one words held failed WordsNotText has one = absurd (omega (arith, one))
 asked_one words held failed TooManyScripts has one = absurd (omega (arith, one))
 asked_one words held failed NoThread has one = absurd (omega (arith, one))
-asked_one words held failed NotYours has one = absurd (omega (arith, one))
 asked_one words held failed NoPlace has one = absurd (omega (arith, one))
 asked_one words held failed BadSeats has one = absurd (omega (arith, one))
 asked_one words held failed (MinutesExist name) has one = absurd (omega (arith, one))

@@ -1,22 +1,20 @@
 -- What the program has done if it succeeds, and the cause if it does not.
 use Rattle.std.specs.Prelude.{◌≡◌, ◌⊎◌, ◌<◌, ℕ, Bool, true, List, [], Option, is_some, length, map}
 use Rattle.std.specs.Borrow.{Bor}
-use Rattle.std.specs.Global.{Global}
 use Rattle.std.specs.Io.KnownBytes.{Appends}
 use Rattle.std.specs.String.{string_bytes}
-use Rattle.std.specs.declared.string.String.{String}
 use Rattle.ctt_words.specs.Jobs.{AreRefused, IsFaultOf, IsJobOf, faults_of}
 use Rattle.ctt_words.specs.declared.job.WordsFault.{WordsFault}
 use Rattle.ctt_words.specs.declared.job.WordsFault.TheVariants as no
 use Rattle.ctt_words.specs.declared.job.WordsFault.TheVariants.{Help, Refused}
 use Rattle.ctt_words.specs.declared.job.Job.{Job}
-use Rattle.ctt_words.specs.declared.job.Task.{Task}
-use Rattle.ctt_words.specs.declared.job.Task.TheVariants.{Audit, Compare, Crew, Desk, Journal, Listing, Mending, Run, Show, Where}
-use Rattle.ctt_words.specs.declared.job.Showing.TheVariants.{Report}
+use Rattle.ctt_words.specs.declared.job.Job.TheVariants.{Audit, Check, Compare, Crew, Desk, Journal, List as Listing, Mend, Page, Run, Week, Where}
 use Rattle.ctt_reports.specs.Checks.{ExplainsSolution}
 use Rattle.ctt_reports.specs.Compare.{ComparesSolutions, IsOfCompare}
 use Rattle.ctt_reports.specs.Places.{IsOfWhere, ShowsWord}
-use Rattle.ctt_reports.specs.Showings.{IsOfShowing, ShowsSolution}
+use Rattle.ctt_reports.specs.Forms.{report_form, table_form}
+use Rattle.ctt_reports.specs.Refusals.{IsOfCheck, IsOfPage, IsOfWeek}
+use Rattle.ctt_reports.specs.Showings.{ShowsPage, ShowsReport, ShowsWeek}
 use Rattle.ctt_files.specs.Answers.{Prints, Reports}
 use Rattle.ctt_files.specs.Faults.{status_of}
 use Rattle.ctt_files.specs.Outcomes.{outcome_status}
@@ -38,53 +36,50 @@ use Rattle.ctt_commands.specs.Refusals.{IsOfAudit, IsOfCrew, IsOfMending, IsOfRu
 use Rattle.ctt_program.specs.Refusals.{IsOfDesk, IsOfRecovery}
 use Rattle.ctt_commands.specs.Runs.{RunsScript}
 
--- what the task answers, unless it streams its answer
-abbrev pub IsAnswer : String Global → Option (String Global) → Task → Held → Printed → Type 0
-IsAnswer instance barred (Show solution showing) held p = ShowsSolution showing instance barred solution held p
-IsAnswer instance barred (Compare solutions form strict) held p = ComparesSolutions form strict instance barred solutions.items held p
-IsAnswer instance barred (Audit journal start) held p = AuditsJournal instance barred journal start held p
-IsAnswer instance barred (Crew scripts) held p = WritesCrew instance barred scripts.items held p
-IsAnswer instance barred (Journal minutes) held p = RecoversJournal instance barred minutes held p
-IsAnswer instance barred (Listing journal start) held p = ListsJournal instance barred journal start held p
-IsAnswer instance barred (Mending solution) held p = MendsSolution instance barred solution held p
-IsAnswer instance barred (Where word) held p = ShowsWord instance word held p
-IsAnswer instance barred task held p = ⊥
+-- what the job answers, unless it streams its answer
+abbrev pub IsAnswer : Job → Held → Printed → Type 0
+IsAnswer (Check instance barred solution json name explain strict) held p = ShowsReport (report_form json name) strict instance barred solution held p
+IsAnswer (Compare instance barred solutions csv json strict) held p = ComparesSolutions (table_form json csv) strict instance barred solutions.items held p
+IsAnswer (Week instance barred solution whose) held p = ShowsWeek whose instance barred solution held p
+IsAnswer (Page instance barred solution days) held p = ShowsPage days instance barred solution held p
+IsAnswer (Audit instance barred journal start) held p = AuditsJournal instance barred journal start held p
+IsAnswer (Crew instance barred scripts) held p = WritesCrew instance barred scripts.items held p
+IsAnswer (Journal instance barred minutes) held p = RecoversJournal instance barred minutes held p
+IsAnswer (Listing instance barred journal start) held p = ListsJournal instance barred journal start held p
+IsAnswer (Mend instance barred solution) held p = MendsSolution instance barred solution held p
+IsAnswer (Where file word) held p = ShowsWord file word held p
+IsAnswer job held p = ⊥
 
--- the task is done with this instance and these files, as far as their bytes are known; its answer
--- is printed, with this outcome
-abbrev pub DoesTask : String Global → Option (String Global) → Task → Outcome → Held → Held → Option (List ℕ) → Option (List ℕ) → Type 0
-DoesTask instance barred (Show solution (Report form true strict)) outcome before after old new = (after ≡ before)
-    × ExplainsSolution form strict instance barred solution outcome before old new
-DoesTask instance barred (Run script start journal) outcome before after old new = (outcome ≡ Done)
-    × RunsScript instance barred script start journal before after old new
-DoesTask instance barred (Desk seats start minutes) outcome before after old new = (outcome ≡ Done)
-    × (after ≡ before) × PrintsLast instance barred seats.items start before old new
-DoesTask instance barred task outcome before after old new = (after ≡ before)
-    × Prints (IsAnswer instance barred task before) outcome old new
-
--- the same for a job
+-- the job is done with these files, as far as their bytes are known; its answer is printed, with
+-- this outcome
 abbrev pub DoesJob : Job → Outcome → Held → Held → Option (List ℕ) → Option (List ℕ) → Type 0
-DoesJob job outcome before after old new = DoesTask job.instance job.barred job.task outcome before after old new
+DoesJob (Check instance barred solution json name true strict) outcome before after old new = (after ≡ before)
+    × ExplainsSolution (report_form json name) strict instance barred solution outcome before old new
+DoesJob (Run instance barred script start journal) outcome before after old new = (outcome ≡ Done)
+    × RunsScript instance barred script start journal before after old new
+DoesJob (Desk instance barred seats start minutes) outcome before after old new = (outcome ≡ Done)
+    × (after ≡ before) × PrintsLast instance barred seats.items start before old new
+DoesJob job outcome before after old new = (after ≡ before) × Prints (IsAnswer job before) outcome old new
 
--- what is written to standard error if the task is done: the warning and the last lines of a desk,
+-- what is written to standard error if the job is done: the warning and the last lines of a desk,
 -- an incomplete entry, the lectures set aside, or the files that a comparison refuses, and else
 -- nothing
-abbrev pub SaysOfTask : String Global → Option (String Global) → Task → Held → Option (List ℕ) → Option (List ℕ) → Type 0
-SaysOfTask instance barred (Desk seats start minutes) held old new = SaysLast instance barred seats.items start minutes held old new
-SaysOfTask instance barred (Journal minutes) held old new = Reports (RecoversJournal instance barred minutes held) old new
-SaysOfTask instance barred (Mending solution) held old new = Reports (MendsSolution instance barred solution held) old new
-SaysOfTask instance barred (Compare solutions form strict) held old new = Reports (ComparesSolutions form strict instance barred solutions.items held) old new
-SaysOfTask instance barred task held old new = new ≡ old
+abbrev pub SaysOfJob : Job → Held → Option (List ℕ) → Option (List ℕ) → Type 0
+SaysOfJob (Desk instance barred seats start minutes) held old new = SaysLast instance barred seats.items start minutes held old new
+SaysOfJob (Journal instance barred minutes) held old new = Reports (RecoversJournal instance barred minutes held) old new
+SaysOfJob (Mend instance barred solution) held old new = Reports (MendsSolution instance barred solution held) old new
+SaysOfJob (Compare instance barred solutions csv json strict) held old new = Reports (ComparesSolutions (table_form json csv) strict instance barred solutions.items held) old new
+SaysOfJob job held old new = new ≡ old
 
--- what is written to standard error if the task is done and ends with `Differs`: a comparison prints
+-- what is written to standard error if the job is done and ends with `Differs`: a comparison prints
 -- the rows of an answer and reports there the files that the same answer refuses, unless standard
--- error fails, and other tasks leave it unchanged; `told` and `broken` give what standard error took
+-- error fails, and other jobs leave it unchanged; `told` and `broken` give what standard error took
 -- and whether it failed
-abbrev pub DiffersOfTask : {V : Type 0} → (V → Option (List ℕ)) → (V → Bool) → String Global → Option (String Global) → Task → Held → Option (List ℕ) → Option (List ℕ) → V → V → Type 0
-DiffersOfTask told broken instance barred (Compare solutions form strict) held old new err new_err = (p : Printed)
-    × ComparesSolutions form strict instance barred solutions.items held p × (p.outcome ≡ Differs) × Appends old new p.text.items
+abbrev pub DiffersOfJob : {V : Type 0} → (V → Option (List ℕ)) → (V → Bool) → Job → Held → Option (List ℕ) → Option (List ℕ) → V → V → Type 0
+DiffersOfJob told broken (Compare instance barred solutions csv json strict) held old new err new_err = (p : Printed)
+    × ComparesSolutions (table_form json csv) strict instance barred solutions.items held p × (p.outcome ≡ Differs) × Appends old new p.text.items
     × ((broken new_err ≡ true) ⊎ Appends (told err) (told new_err) (string_bytes p.aside))
-DiffersOfTask told broken instance barred task held old new err new_err = new_err ≡ err
+DiffersOfJob told broken job held old new err new_err = new_err ≡ err
 
 -- the contents of borrowed words
 abbrev pub texts : List (Bor (List ℕ)) → List (List ℕ)
@@ -106,29 +101,27 @@ DoesAsAsked words outcome before after old new = (HelpsAsAsked words old new × 
 
 -- the words ask for a job that ends with `Differs`, and this is written to standard error
 abbrev pub DiffersAsAsked : {V : Type 0} → (V → Option (List ℕ)) → (V → Bool) → List (List ℕ) → Held → Option (List ℕ) → Option (List ℕ) → V → V → Type 0
-DiffersAsAsked told broken words held old new err new_err = (job : Job) × IsJobOf words job × DiffersOfTask told broken job.instance job.barred job.task held old new err new_err
+DiffersAsAsked told broken words held old new err new_err = (job : Job) × IsJobOf words job × DiffersOfJob told broken job held old new err new_err
 
 -- the exit status of the words is that of an outcome with which they are done
 abbrev pub EndsAsDone : List (List ℕ) → ℕ → Held → Held → Option (List ℕ) → Option (List ℕ) → Type 0
 EndsAsDone words status before after old new = (outcome : Outcome) × (outcome_status outcome ≡ status) × DoesAsAsked words outcome before after old new
 
--- a fault that the task may meet with these files, as far as their bytes are known, other than an
+-- a fault that the job may meet with these files, as far as their bytes are known, other than an
 -- output that cannot be written
-abbrev pub IsOfTask : String Global → Option (String Global) → Task → Held → Fault → Type 0
-IsOfTask instance barred (Show solution showing) held fault = IsOfShowing showing held instance barred solution fault
-IsOfTask instance barred (Compare solutions form strict) held fault = IsOfCompare held instance barred fault
-IsOfTask instance barred (Run script start journal) held fault = IsOfRun held instance barred script start fault
-IsOfTask instance barred (Audit journal start) held fault = IsOfAudit held instance barred journal start fault
-IsOfTask instance barred (Crew scripts) held fault = IsOfCrew held instance barred scripts.items fault
-IsOfTask instance barred (Desk seats start minutes) held fault = IsOfDesk held instance barred seats.items start minutes fault
-IsOfTask instance barred (Journal minutes) held fault = IsOfRecovery held instance barred minutes fault
-IsOfTask instance barred (Listing journal start) held fault = IsOfAudit held instance barred journal start fault
-IsOfTask instance barred (Mending solution) held fault = IsOfMending held instance barred solution fault
-IsOfTask instance barred (Where word) held fault = IsOfWhere held instance word fault
-
--- the same for a job
 abbrev pub IsOfJob : Job → Held → Fault → Type 0
-IsOfJob job held fault = IsOfTask job.instance job.barred job.task held fault
+IsOfJob (Check instance barred solution json name explain strict) held fault = IsOfCheck held instance barred solution fault
+IsOfJob (Compare instance barred solutions csv json strict) held fault = IsOfCompare held instance barred fault
+IsOfJob (Week instance barred solution whose) held fault = IsOfWeek held instance barred whose solution fault
+IsOfJob (Page instance barred solution days) held fault = IsOfPage held instance barred solution fault
+IsOfJob (Run instance barred script start journal) held fault = IsOfRun held instance barred script start fault
+IsOfJob (Audit instance barred journal start) held fault = IsOfAudit held instance barred journal start fault
+IsOfJob (Crew instance barred scripts) held fault = IsOfCrew held instance barred scripts.items fault
+IsOfJob (Desk instance barred seats start minutes) held fault = IsOfDesk held instance barred seats.items start minutes fault
+IsOfJob (Journal instance barred minutes) held fault = IsOfRecovery held instance barred minutes fault
+IsOfJob (Listing instance barred journal start) held fault = IsOfAudit held instance barred journal start fault
+IsOfJob (Mend instance barred solution) held fault = IsOfMending held instance barred solution fault
+IsOfJob (Where file word) held fault = IsOfWhere held file word fault
 
 -- the words ask for a job that meets this fault
 abbrev pub AsksFor : List (List ℕ) → Held → Fault → Type 0
@@ -140,19 +133,19 @@ AsksForRefusedText words held = (fault : Fault) × (status_of fault ≡ 1) × As
 
 -- the words ask for a job that stores a file
 abbrev pub AsksToStore : List (List ℕ) → Type 0
-AsksToStore words = (job : Job) × IsJobOf words job × Storing job.task
+AsksToStore words = (job : Job) × IsJobOf words job × Storing job
 
 -- all files are unchanged, except the one that the words ask to store, if they do
 abbrev pub KeepAsAsked : List (List ℕ) → Held → Held → Type 0
-KeepAsAsked words before after = (after ≡ before) ⊎ ((job : Job) × IsJobOf words job × KeepOthers (stored_by job.task) before after)
+KeepAsAsked words before after = (after ≡ before) ⊎ ((job : Job) × IsJobOf words job × KeepOthers (stored_by job) before after)
 
 -- the words ask for a crew of more than 64 scripts
 abbrev pub AsksForTooMany : List (List ℕ) → Type 0
-AsksForTooMany words = (job : Job) × IsJobOf words job × (64 < length (scripts_of job.task))
+AsksForTooMany words = (job : Job) × IsJobOf words job × (64 < length (scripts_of job))
 
 -- the words ask for a desk whose seats are refused
 abbrev pub AsksForBadSeats : List (List ℕ) → Type 0
-AsksForBadSeats words = (job : Job) × IsJobOf words job × HasBadSeats job.task
+AsksForBadSeats words = (job : Job) × IsJobOf words job × HasBadSeats job
 
 -- the words are refused: by `clap`, or for the number of scripts or the seats that they ask for
 abbrev pub AreTurnedDown : List (List ℕ) → Type 0
@@ -160,25 +153,25 @@ AreTurnedDown words = AreRefused words ⊎ (AsksForTooMany words ⊎ AsksForBadS
 
 -- the words ask for a job that may write to standard error when it is done
 abbrev pub AsksToSay : List (List ℕ) → Type 0
-AsksToSay words = (job : Job) × IsJobOf words job × Saying job.task
+AsksToSay words = (job : Job) × IsJobOf words job × Saying job
 
 -- the words ask for a job that may warn
 abbrev pub AsksToWarn : List (List ℕ) → Type 0
-AsksToWarn words = (job : Job) × IsJobOf words job × Warning job.task
+AsksToWarn words = (job : Job) × IsJobOf words job × Warning job
 
 -- nothing is written to standard error, or what the job writes that the words ask for
 abbrev pub SaysAsAsked : List (List ℕ) → Held → Option (List ℕ) → Option (List ℕ) → Type 0
-SaysAsAsked words held old new = (new ≡ old) ⊎ ((job : Job) × IsJobOf words job × SaysOfTask job.instance job.barred job.task held old new)
+SaysAsAsked words held old new = (new ≡ old) ⊎ ((job : Job) × IsJobOf words job × SaysOfJob job held old new)
 
--- what is written to standard error if the task is not done: the warning of a desk without minutes,
+-- what is written to standard error if the job is not done: the warning of a desk without minutes,
 -- and else nothing
-abbrev pub WarnsOfTask : Task → Option (List ℕ) → Option (List ℕ) → Type 0
-WarnsOfTask (Desk seats start minutes) old new = Warns (is_some minutes) old new
-WarnsOfTask task old new = new ≡ old
+abbrev pub WarnsOfJob : Job → Option (List ℕ) → Option (List ℕ) → Type 0
+WarnsOfJob (Desk instance barred seats start minutes) old new = Warns (is_some minutes) old new
+WarnsOfJob job old new = new ≡ old
 
 -- nothing is written so, or what the job writes that the words ask for
 abbrev pub WarnsAsAsked : List (List ℕ) → Option (List ℕ) → Option (List ℕ) → Type 0
-WarnsAsAsked words old new = (new ≡ old) ⊎ ((job : Job) × IsJobOf words job × WarnsOfTask job.task old new)
+WarnsAsAsked words old new = (new ≡ old) ⊎ ((job : Job) × IsJobOf words job × WarnsOfJob job old new)
 
 -- the fault if help is not given: the words are refused, memory ran out, or standard output failed
 abbrev pub IsOfHelp : WordsFault → Bool → Fault → Type 0

@@ -189,7 +189,9 @@ fn keep<R: Threads + Wait + Sync, F: Files, O: Office, V: Sink>(
         }
     };
     warn(err, is_written);
-    match keep_desk(rt, alloc, instance, opened, seats, office, writer) {
+    let (ended, writer) = keep_desk(rt, alloc, instance, opened, seats, office, writer);
+    let_go(writer);
+    match ended {
         Ok(text) => Ok(text),
         Err(fault) => Err(fault_of_office(alloc, seats, fault)),
     }

@@ -10,113 +10,75 @@ ghost use Rattle.ctt_program.specs.Reporting.{SaysFault};
 ghost use Rattle.ctt_files.specs.Storing.{KeepOthers};
 ghost use Rattle.ctt_program.specs.Jobs.{Saying, Storing, Warning, stored_by, streams};
 ghost use Rattle.ctt_program.specs.Served.{IsServed};
-ghost use Rattle.ctt_program.specs.Work.{AsksToSay, AsksToStore, AsksToWarn, DiffersAsAsked, DiffersOfTask, DoesAsAsked, DoesJob, DoesTask, HasCause, IsAnswer, IsOfHelp, IsOfJob, IsOfTask, KeepAsAsked, PrintsHelp, SaysAsAsked, SaysOfTask, WarnsAsAsked, WarnsOfTask, texts};
+ghost use Rattle.ctt_program.specs.Work.{AsksToSay, AsksToStore, AsksToWarn, DiffersAsAsked, DiffersOfJob, DoesAsAsked, DoesJob, HasCause, IsOfHelp, IsOfJob, KeepAsAsked, PrintsHelp, SaysAsAsked, SaysOfJob, WarnsAsAsked, WarnsOfJob, texts};
 
+use crate::answers::{answer, streams};
 use crate::desk::desk;
-use crate::journal::journal;
 use crate::office::Office;
 use crate::printed::print_last;
-use ctt_commands::{audit, crew, list, mend, run};
-use ctt_files::{Fault, Files, NO_MEMORY, Outcome, Printed, Sink, complain, deliver};
-use ctt_reports::{compare, explain, find_word, show};
-use ctt_words::{Job, Showing, Task, WordsFault, read_words};
+use ctt_commands::run;
+use ctt_files::{Fault, Files, NO_MEMORY, Outcome, Sink, complain, deliver};
+use ctt_reports::{explain, report_form};
+use ctt_words::{Job, WordsFault, read_words};
 use std::alloc::Global;
 use std::marker::Sync;
 use std::sync::Wait;
 use std::thread::Threads;
 
-/// Returns whether a task prints its answer while it works.
-fn streams(task: &Task) -> bool
-    ensures { result ≡ streams task.now }
-{
-    match task {
-        Task::Show {
-            showing: Showing::Report { explain, .. },
-            ..
-        } => *explain,
-        Task::Run { .. } | Task::Desk { .. } => true,
-        _ => false,
-    }
-}
-
-/// Returns the answer of a task that does not stream it.
-fn answer<R: Threads + Wait + Sync, F: Files>(
-    rt: &R,
-    alloc: Global,
-    files: &mut F,
-    instance: String,
-    barred: Option<String>,
-    task: Task,
-) -> Result<Printed, Fault>
-    requires scripts { HasScripts task }
-    requires whole { streams task ≡ false }
-    ensures answers { IfOk result (IsAnswer instance barred task (F.held files.old)) }
-    ensures kept { F.held files.new ≡ F.held files.old }
-    ensures cause { IfErr result (IsOfTask instance barred task (F.held files.old)) }
-{
-    match task {
-        Task::Show { solution, showing } => show(alloc, files, instance, barred, solution, showing),
-        Task::Audit { journal, start } => audit(alloc, files, instance, barred, journal, start),
-        Task::Crew { scripts } => crew(rt, alloc, files, instance, barred, scripts),
-        Task::Journal { minutes } => journal(alloc, files, instance, barred, minutes),
-        Task::Listing { journal, start } => list(alloc, files, instance, barred, journal, start),
-        Task::Mending { solution } => mend(alloc, files, instance, barred, solution),
-        Task::Compare {
-            solutions,
-            form,
-            strict,
-        } => compare(alloc, files, instance, barred, solutions, form, strict),
-        Task::Where { word } => find_word(alloc, files, instance, word),
-        Task::Run { .. } | Task::Desk { .. } => unreachable!(),
-    }
-}
-
-/// Runs a task that prints its answer while it works.
+/// Runs a job that prints its answer while it works.
 fn stream<R: Threads + Wait + Sync, F: Files, O: Office, W: Sink, V: Sink>(
     rt: &R,
     alloc: Global,
-    instance: String,
-    barred: Option<String>,
-    task: Task,
+    job: Job,
     files: &mut F,
     office: &O,
     out: &mut W,
     err: &mut V,
 ) -> Result<Outcome, Fault>
-    requires scripts { HasScripts task }
-    requires streaming { streams task ≡ true }
-    ensures done { IfOk result (λ outcome. DoesTask instance barred task outcome
+    requires scripts { HasScripts job }
+    requires streaming { streams job ≡ true }
+    ensures done { IfOk result (λ outcome. DoesJob job outcome
         (F.held files.old) (F.held files.new) (W.taken out.old) (W.taken out.new)) }
     ensures unmarked { OnOk result (W.has_failed out.new ≡ W.has_failed out.old) }
     ensures cause { IfErr result (λ fault. IfUnwritten fault
-        ((W.has_failed out.new ≡ true) ⊎ Storing task)
-        (IsOfTask instance barred task (F.held files.old) fault
+        ((W.has_failed out.new ≡ true) ⊎ Storing job)
+        (IsOfJob job (F.held files.old) fault
         × (W.has_failed out.new ≡ W.has_failed out.old))) }
     ensures unwritten { IfErr result (λ fault. MayHaveWritten fault ⊎ (out.new ≡ out.old)) }
     ensures unstored { IfErr result (λ fault. KeptUnless fault
-        ((W.has_failed out.new ≡ W.has_failed out.old) × Storing task)
+        ((W.has_failed out.new ≡ W.has_failed out.old) × Storing job)
         (F.held files.new ≡ F.held files.old)) }
-    ensures others { KeepOthers (stored_by task) (F.held files.old) (F.held files.new) }
+    ensures others { KeepOthers (stored_by job) (F.held files.old) (F.held files.new) }
     ensures quiet { IfOk result (λ outcome.
-        (Saying task × (outcome ≡ Done)) ⊎ (err.new ≡ err.old)) }
-    ensures says { OnOk result ((Warning task × (V.has_failed err.new ≡ true))
-        ⊎ SaysOfTask instance barred task (F.held files.old) (V.taken err.old) (V.taken err.new)) }
+        (Saying job × (outcome ≡ Done)) ⊎ (err.new ≡ err.old)) }
+    ensures says { OnOk result ((Warning job × (V.has_failed err.new ≡ true))
+        ⊎ SaysOfJob job (F.held files.old) (V.taken err.old) (V.taken err.new)) }
     ensures unsaid { OnErr result ((err.new ≡ err.old) ⊎ ((V.has_failed err.new ≡ true)
-        ⊎ WarnsOfTask task (V.taken err.old) (V.taken err.new))) }
+        ⊎ WarnsOfJob job (V.taken err.old) (V.taken err.new))) }
 {
-    match task {
-        Task::Show { solution, showing } => match showing {
-            Showing::Report { form, strict, .. } => explain(
-                alloc, files, out, instance, barred, solution, form, strict,
-            ),
-            _ => unreachable!(),
-        },
-        Task::Run {
+    match job {
+        Job::Check {
+            instance,
+            barred,
+            solution,
+            json,
+            name,
+            strict,
+            ..
+        } => {
+            let form = report_form(json, name);
+            explain(alloc, files, out, instance, barred, solution, form, strict)
+        }
+        Job::Run {
+            instance,
+            barred,
             script,
             start,
             journal,
         } => run(alloc, files, out, instance, barred, script, start, journal),
-        Task::Desk {
+        Job::Desk {
+            instance,
+            barred,
             seats,
             start,
             minutes,
@@ -137,38 +99,33 @@ fn do_job<R: Threads + Wait + Sync, F: Files, O: Office, W: Sink, V: Sink>(
     out: &mut W,
     err: &mut V,
 ) -> Result<Outcome, Fault>
-    requires { HasScripts job.task }
+    requires { HasScripts job }
     ensures done { IfOk result (λ outcome. DoesJob job outcome (F.held files.old) (F.held files.new)
         (W.taken out.old) (W.taken out.new)) }
     ensures unmarked { OnOk result (W.has_failed out.new ≡ W.has_failed out.old) }
     ensures cause { IfErr result (λ fault. IfUnwritten fault
-        ((W.has_failed out.new ≡ true) ⊎ Storing job.task)
+        ((W.has_failed out.new ≡ true) ⊎ Storing job)
         (IsOfJob job (F.held files.old) fault × (W.has_failed out.new ≡ W.has_failed out.old))) }
     ensures unwritten { IfErr result (λ fault. MayHaveWritten fault ⊎ (out.new ≡ out.old)) }
     ensures unstored { IfErr result (λ fault. KeptUnless fault
-        ((W.has_failed out.new ≡ W.has_failed out.old) × Storing job.task)
+        ((W.has_failed out.new ≡ W.has_failed out.old) × Storing job)
         (F.held files.new ≡ F.held files.old)) }
-    ensures others { KeepOthers (stored_by job.task) (F.held files.old) (F.held files.new) }
-    ensures quiet { IfOk result (λ outcome. (Saying job.task × (outcome ≡ Done))
+    ensures others { KeepOthers (stored_by job) (F.held files.old) (F.held files.new) }
+    ensures quiet { IfOk result (λ outcome. (Saying job × (outcome ≡ Done))
         ⊎ ((outcome ≡ Differs) ⊎ (err.new ≡ err.old))) }
     ensures differs { IfOk result (λ outcome. outcome ≡ Differs
-        → DiffersOfTask V.taken V.has_failed job.instance job.barred job.task (F.held files.old)
+        → DiffersOfJob V.taken V.has_failed job (F.held files.old)
         (W.taken out.old) (W.taken out.new) err.old err.new) }
-    ensures says { OnOk result ((Warning job.task × (V.has_failed err.new ≡ true))
-        ⊎ SaysOfTask job.instance job.barred job.task (F.held files.old)
+    ensures says { OnOk result ((Warning job × (V.has_failed err.new ≡ true))
+        ⊎ SaysOfJob job (F.held files.old)
         (V.taken err.old) (V.taken err.new)) }
     ensures unsaid { OnErr result ((err.new ≡ err.old) ⊎ ((V.has_failed err.new ≡ true)
-        ⊎ WarnsOfTask job.task (V.taken err.old) (V.taken err.new))) }
+        ⊎ WarnsOfJob job (V.taken err.old) (V.taken err.new))) }
 {
-    let Job {
-        instance,
-        barred,
-        task,
-    } = job;
-    if streams(&task) {
-        return stream(rt, alloc, instance, barred, task, files, office, out, err);
+    if streams(&job) {
+        return stream(rt, alloc, job, files, office, out, err);
     }
-    let printed = answer(rt, alloc, files, instance, barred, task)?;
+    let printed = answer(rt, alloc, files, job)?;
     deliver(files, out, err, printed)
 }
 

@@ -1,12 +1,14 @@
-//! Trials of the program, which is called over files in memory. The status and the outputs of each
-//! call are printed, and at the end 1 if a call was repeated because memory ran out, or else 0. All
-//! that is printed before that is the same, whichever one request for memory is refused.
+//! Trials of the program, which is called over files in memory. It is printed whether the words of a
+//! run ask for it, then the status and the outputs of each call, and at the end 1 if a call was
+//! repeated because memory ran out, or else 0. All that is printed before that is the same, whichever
+//! one request for memory is refused.
 #![tactic(auto)]
 
 mod buffer;
 mod calls;
 mod files;
 mod office;
+mod words;
 
 use buffer::{Buffer, CAPACITY};
 use calls::{CALLS, Call};
@@ -19,6 +21,7 @@ use std::marker::Sync;
 use std::process::ExitCode;
 use std::sync::Wait;
 use std::thread::Threads;
+use words::reads_run;
 
 /// The outputs of a call, and the file that it stores.
 #[derive(Drop)]
@@ -95,14 +98,31 @@ fn report<W: Sink>(out: &mut W, call: &Call, status: u8, outputs: &Outputs) -> R
     put_lines(out, outputs.stored.text())
 }
 
-/// Makes all calls, and writes what each left and whether one was repeated.
+/// Parses the words of a run, again if memory ran out, and returns whether they ask for it and
+/// whether they were parsed again.
+fn read_twice(alloc: Global) -> (bool, bool) {
+    match reads_run(alloc) {
+        Some(is_run) => (is_run, false),
+        None => (reads_run(alloc) == Some(true), true),
+    }
+}
+
+/// Parses the words of a run, makes all calls, and writes what each left and whether one was
+/// repeated.
 fn play<R: AllocGlobal + Threads + Wait + Sync, W: Sink>(
     rt: &R,
     outputs: &mut Outputs,
     out: &mut W,
     refused: bool,
 ) -> Result<(), Failed> {
-    let mut again = refused;
+    let (is_run, repeated) = read_twice(rt.alloc());
+    let first: &[u8] = if is_run {
+        b"words of a run\n"
+    } else {
+        b"other words\n"
+    };
+    put_all(out, first)?;
+    let mut again = refused || repeated;
     for call in CALLS {
         let (status, repeated) = call_twice(rt, call, outputs);
         again = again || repeated;

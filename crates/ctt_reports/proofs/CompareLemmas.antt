@@ -10,7 +10,7 @@ use Rattle.ctt_rules.specs.Penalty.{penalty}
 use Rattle.ctt_rules.specs.declared.cost.Cost.{Cost}
 use Rattle.ctt_rules.specs.declared.hard.Hard.{Hard}
 use Rattle.ctt_files.specs.Texts.{Held, Holds, IsSolutionText}
-use Rattle.ctt_words.specs.declared.job.TableForm.{TableForm}
+use Rattle.ctt_reports.specs.declared.forms.TableForm.{TableForm}
 use Rattle.ctt_reports.specs.Compare.{AddsFile, AreCompared, IsRow, cells_of}
 use Rattle.ctt_reports.specs.declared.comparing.Compared.{Compared}
 use Rattle.ctt_reports.specs.declared.row.Row.{Row}

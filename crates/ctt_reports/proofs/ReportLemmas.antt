@@ -12,7 +12,7 @@ use Rattle.ctt_findings.specs.Lines.{explained, line}
 use Rattle.ctt_findings.specs.Objects.{item_text, item_texts}
 use Rattle.ctt_findings.specs.ReportText.{IsExplainedJson, IsExplainedText, IsTextReport, text_of}
 use Rattle.ctt_findings.specs.declared.finding.Finding.{Finding}
-use Rattle.ctt_words.specs.declared.job.ReportForm.{ReportForm}
+use Rattle.ctt_reports.specs.declared.forms.ReportForm.{ReportForm}
 use Rattle.ctt_reports.specs.Checks.{IsExplained, found_texts, named}
 
 -- the texts of findings are JSON items, or lines

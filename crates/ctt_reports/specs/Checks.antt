@@ -15,8 +15,8 @@ use Rattle.ctt_files.specs.Output.{AppendsFront}
 use Rattle.ctt_files.specs.Texts.{Held}
 use Rattle.ctt_files.specs.declared.outcome.Outcome.{Outcome}
 use Rattle.ctt_files.specs.declared.outcome.Outcome.TheVariants.{Differs, Done, Incomplete, Unlawful}
-use Rattle.ctt_words.specs.declared.job.ReportForm.{ReportForm}
-use Rattle.ctt_words.specs.declared.job.ReportForm.TheVariants.{Json, NamedJson, Text}
+use Rattle.ctt_reports.specs.declared.forms.ReportForm.{ReportForm}
+use Rattle.ctt_reports.specs.declared.forms.ReportForm.TheVariants.{Json, NamedJson, Text}
 use Rattle.ctt_reports.specs.Subjects.{Shows}
 
 -- whether a form is JSON

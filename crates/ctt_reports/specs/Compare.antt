@@ -17,8 +17,8 @@ use Rattle.ctt_files.specs.declared.fault.Fault.TheVariants.{NoMemory}
 use Rattle.ctt_files.specs.declared.outcome.Outcome.{Outcome}
 use Rattle.ctt_files.specs.declared.outcome.Outcome.TheVariants.{Differs, Done, Incomplete, Unlawful}
 use Rattle.ctt_files.specs.declared.printed.Printed.{Printed}
-use Rattle.ctt_words.specs.declared.job.TableForm.{TableForm}
-use Rattle.ctt_words.specs.declared.job.TableForm.TheVariants.{Aligned, Csv, Json}
+use Rattle.ctt_reports.specs.declared.forms.TableForm.{TableForm}
+use Rattle.ctt_reports.specs.declared.forms.TableForm.TheVariants.{Aligned, Csv, Json}
 use Rattle.ctt_reports.specs.Tables.{aligned, columns, csv, json}
 use Rattle.ctt_reports.specs.declared.comparing.Compared.{Compared}
 use Rattle.ctt_reports.specs.declared.row.Row.{Row}

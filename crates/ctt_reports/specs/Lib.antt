@@ -1,6 +1,7 @@
 pub mod Subjects
 pub mod Refusals
 pub mod Writing
+pub mod Forms
 pub mod Checks
 pub mod Showings
 pub mod Tables

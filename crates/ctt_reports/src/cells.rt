@@ -5,8 +5,8 @@ ghost use Rattle.ctt_rules.specs.Penalty.{total};
 ghost use Rattle.ctt_reports.specs.Compare.{answer, cells_of};
 ghost use Rattle.ctt_reports.specs.Tables.{cell, columns};
 
+use crate::forms::TableForm;
 use ctt_rules::{Assessment, Cost, Hard};
-use ctt_words::TableForm;
 use std::alloc::{AllocError, Global};
 use std::fmt::Write;
 use std::marker::Model;

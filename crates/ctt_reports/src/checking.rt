@@ -1,17 +1,17 @@
 //! The command `check`.
 
-ghost use Rattle.std.specs.Prelude.{◌≡◌, ◌⊎◌, ◌++◌, ℕ, List, None, true, false, OnOk, IfOk, IfErr, string_bytes};
+ghost use Rattle.std.specs.Prelude.{◌≡◌, ◌⊎◌, ◌++◌, ℕ, List, true, false, OnOk, IfOk, IfErr};
 ghost use Rattle.std.specs.Io.KnownBytes.{Appends};
 ghost use Rattle.ctt_problem.specs.Timetable.{IsTimetable};
 ghost use Rattle.ctt_findings.specs.Findings.{findings};
 ghost use Rattle.ctt_files.specs.Output.{AppendsFront};
-ghost use Rattle.ctt_files.specs.Answers.{IsTextAlone};
 ghost use Rattle.ctt_files.specs.Faults.{IfUnwritten, MayHaveWritten};
 ghost use Rattle.ctt_files.specs.declared.fault.Fault.TheVariants.{NoMemory as OutOfMemory};
-ghost use Rattle.ctt_reports.specs.Checks.{ExplainsSolution, IsExplained, IsJudged, IsReport, PrintsFront, found_texts, is_json, named};
+ghost use Rattle.ctt_reports.specs.Checks.{ExplainsSolution, IsExplained, IsReport, PrintsFront, found_texts, is_json, named};
 ghost use Rattle.ctt_reports.specs.Refusals.{IsOfCheck};
-ghost use Rattle.ctt_reports.specs.Subjects.{Shows};
+ghost use Rattle.ctt_reports.specs.Showings.{ShowsReport};
 
+use crate::forms::ReportForm;
 use crate::json_rows::quote;
 use crate::judging::judge;
 use crate::subject::fetch_subject;
@@ -19,7 +19,6 @@ use crate::told::tell;
 use ctt_files::{Fault, Files, Outcome, Printed, Sink, print};
 use ctt_findings::{report_around, report_json, report_text};
 use ctt_text::{Instance, NoMemory, Placed, let_go};
-use ctt_words::ReportForm;
 use std::alloc::{AllocError, Global};
 
 /// Returns a JSON object with the name of a file as one more member, which is the first.
@@ -121,7 +120,7 @@ fn print_explained<W: Sink>(
 
 /// Returns the report on a solution of an instance. If `strict` is set, the outcome says whether the
 /// solution is lawful and complete. Files are given by name.
-pub(crate) fn answer_report<F: Files>(
+pub fn check<F: Files>(
     alloc: Global,
     files: &mut F,
     instance: String,
@@ -130,11 +129,8 @@ pub(crate) fn answer_report<F: Files>(
     form: ReportForm,
     strict: bool,
 ) -> Result<Printed, Fault>
-    ensures shows { IfOk result (λ p.
-        Shows (λ i selection t. IsReport form (string_bytes solution) i t p.text.items
-        × IsJudged strict i t p.outcome)
-        instance barred None solution (F.held files.old)) }
-    ensures alone { IfOk result IsTextAlone }
+    ensures shows { IfOk result
+        (ShowsReport form strict instance barred solution (F.held files.old)) }
     ensures kept { F.held files.new ≡ F.held files.old }
     ensures cause { IfErr result (IsOfCheck (F.held files.old) instance barred solution) }
 {

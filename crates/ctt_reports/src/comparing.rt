@@ -9,12 +9,12 @@ ghost use Rattle.ctt_reports.specs.Compare.{AddsFile, AreCompared, ComparesSolut
 use crate::aligned::aligned;
 use crate::cells::{cells_of, head};
 use crate::csv_rows::csv;
+use crate::forms::TableForm;
 use crate::json_rows::json;
 use crate::row::Row;
 use ctt_files::{Fault, Files, Outcome, Printed, fetch_instance, fetch_solution};
 use ctt_rules::{Assessment, assess};
 use ctt_text::{Instance, let_go};
-use ctt_words::TableForm;
 use std::alloc::{AllocError, Global};
 
 /// The rows of the solutions, and the lines of the files that are refused.

@@ -1,14 +1,10 @@
 //! The commands `week` and `page`.
 
-ghost use Rattle.std.specs.Prelude.{◌≡◌, None, IfOk, IfErr, string_bytes};
+ghost use Rattle.std.specs.Prelude.{◌≡◌, IfOk, IfErr, string_bytes};
 ghost use Rattle.ctt_problem.specs.Timetable.{IsTimetable};
-ghost use Rattle.ctt_files.specs.Answers.{IsTextAlone};
-ghost use Rattle.ctt_files.specs.declared.outcome.Outcome.TheVariants.{Done};
 ghost use Rattle.ctt_views.specs.Page.{IsPage};
-ghost use Rattle.ctt_views.specs.Week.{week};
 ghost use Rattle.ctt_reports.specs.Refusals.{IsOfPage, IsOfWeek};
-ghost use Rattle.ctt_reports.specs.Showings.{names_of};
-ghost use Rattle.ctt_reports.specs.Subjects.{Shows};
+ghost use Rattle.ctt_reports.specs.Showings.{ShowsPage, ShowsWeek, names_of};
 
 use crate::subject::{Subject, fetch_subject};
 use ctt_files::{Fault, Files, Outcome, Printed};
@@ -19,7 +15,7 @@ use std::alloc::Global;
 
 /// Returns the week of a solution of an instance: of what is named, or of all rooms. Files are
 /// given by name.
-pub(crate) fn answer_week<F: Files>(
+pub fn week<F: Files>(
     alloc: Global,
     files: &mut F,
     instance: String,
@@ -27,10 +23,8 @@ pub(crate) fn answer_week<F: Files>(
     solution: String,
     whose: Option<Whose>,
 ) -> Result<Printed, Fault>
-    ensures shows { IfOk result (λ p.
-        Shows (λ i selection t. (p.text.items ≡ week i selection t) × (p.outcome ≡ Done))
-        instance barred whose solution (F.held files.old)) }
-    ensures alone { IfOk result IsTextAlone }
+    ensures shows { IfOk result
+        (ShowsWeek whose instance barred solution (F.held files.old)) }
     ensures kept { F.held files.new ≡ F.held files.old }
     ensures cause { IfErr result (IsOfWeek (F.held files.old) instance barred whose solution) }
 {
@@ -73,7 +67,7 @@ fn page_of(
 }
 
 /// Returns the page on a solution of an instance, for a browser. Files are given by name.
-pub(crate) fn answer_page<F: Files>(
+pub fn page<F: Files>(
     alloc: Global,
     files: &mut F,
     instance: String,
@@ -81,11 +75,8 @@ pub(crate) fn answer_page<F: Files>(
     solution: String,
     days: Option<String>,
 ) -> Result<Printed, Fault>
-    ensures shows { IfOk result (λ p.
-        Shows (λ i selection t.
-        IsPage (string_bytes solution) (names_of days) i t p.text.items × (p.outcome ≡ Done))
-        instance barred None solution (F.held files.old)) }
-    ensures alone { IfOk result IsTextAlone }
+    ensures shows { IfOk result
+        (ShowsPage days instance barred solution (F.held files.old)) }
     ensures kept { F.held files.new ≡ F.held files.old }
     ensures cause { IfErr result (IsOfPage (F.held files.old) instance barred solution) }
 {

@@ -57,7 +57,7 @@ pub(crate) fn accept<'i, S: Sheet<'i>, J: Naming, R: Wait>(
 }
 
 /// Returns whether a reply shows this lecture alone.
-fn shows(reply: &Reply, lecture: &Placed) -> bool {
+pub(crate) fn shows(reply: &Reply, lecture: &Placed) -> bool {
     match reply {
         Reply::Lectures(list) => list.as_slice() == [*lecture].as_slice(),
         _ => false,

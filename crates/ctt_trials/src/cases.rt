@@ -1,14 +1,15 @@
 //! Cases: rows of a table, each of which is a script with its opening and the ways in which it is
 //! run.
 
+ghost use Rattle.std.specs.Prelude.{IfOk};
 ghost use Rattle.ctt_problem.specs.Timetable.{IsTimetable};
 ghost use Rattle.ctt_trials.specs.Scripts.{IsTimetable-prop};
 
-use crate::story::Story;
+use crate::story::{Story, repeated};
 use crate::{desks, drafts, journals, scripts, shared, sheets, shown};
 use ctt_board::Sheet;
 use ctt_grid::{GridSheet, ListSheet};
-use ctt_text::{Instance, Placed, let_go, read_solution};
+use ctt_text::{Instance, Placed, SolutionFault, let_go, read_solution};
 use std::sync::Wait;
 
 /// How a case is run.
@@ -158,9 +159,25 @@ fn play_opened<R: Wait>(
     }
 }
 
+/// Parses the text of a timetable.
+pub(crate) fn read_lectures(
+    story: &mut Story,
+    small: &Instance,
+    text: &[u8],
+) -> Result<Vec<Placed>, SolutionFault>
+    ensures { IfOk result (λ list. IsTimetable small.now list.items) }
+{
+    let alloc = story.alloc();
+    repeated!(
+        story,
+        SolutionFault::NoMemory,
+        read_solution(alloc, small, text)
+    )
+}
+
 /// Runs a case.
 fn play_case<R: Wait>(story: &mut Story, rt: &R, small: &Instance, case: &Case) {
-    match read_solution(story.alloc(), small, case.opening.as_bytes()) {
+    match read_lectures(story, small, case.opening.as_bytes()) {
         Ok(opening) => {
             play_opened(story, rt, small, &opening, case);
             let_go(opening);
@@ -169,7 +186,7 @@ fn play_case<R: Wait>(story: &mut Story, rt: &R, small: &Instance, case: &Case) 
     }
 }
 
-/// Runs cases, each once more if memory ran out for one of its calls.
+/// Runs cases, each once more if memory ran out for one of its calls that cannot be repeated.
 pub(crate) fn play_cases<R: Wait>(story: &mut Story, rt: &R, small: &Instance, cases: &[Case]) {
     for case in cases {
         if !case.name.is_empty() {

@@ -1,19 +1,21 @@
 //! A script as events on a desk, one by one or all at once, and what the desk leaves.
 
-ghost use Rattle.std.specs.Prelude.{IsTrue};
+ghost use Rattle.std.specs.Prelude.{IsTrue, length};
 ghost use Rattle.std.specs.List.{AllByRecursion as Each};
+ghost use Rattle.ctt_problem.specs.Timetable.{Fits};
 ghost use Rattle.ctt_core.specs.Runs.{EventFits};
 
 use crate::cases::{On, Script};
-use crate::story::Story;
+use crate::story::{Story, repeated};
 use ctt_board::Sheet;
-use ctt_core::{Desk, DeskFault, Event};
+use ctt_core::{Answer, Desk, DeskFault, Event};
 use ctt_script::{Lines, PLANNERS, read_line};
-use ctt_text::{Instance, NoMemory, let_go};
+use ctt_text::{Instance, NoMemory, Placed, let_go};
 
 /// Records the lectures and the cost of a desk, and the number of entries of its journal.
 pub(crate) fn tell_desk<'i, S: Sheet<'i>>(desk: &Desk<'i, S>, story: &mut Story) {
-    story.timetable(desk.instance(), desk.list(), desk.cost());
+    let list = repeated!(story, NoMemory, desk.list());
+    story.timetable(desk.instance(), list, desk.cost());
     story.count("entries", desk.journal().len() as u64);
 }
 
@@ -63,14 +65,31 @@ fn all_fit(events: &[Event], instance: &Instance, planners: u16) -> bool
     true
 }
 
+/// Sends events to a desk at once. If memory runs out for the list of answers, no event was taken.
+fn run_all<'i, S: Sheet<'i>>(
+    desk: &mut Desk<'i, S>,
+    story: &mut Story,
+    events: &[Event],
+) -> Result<Vec<Answer>, NoMemory>
+    requires { Each (EventFits desk.old.problem (length desk.old.drafts)) events.now }
+{
+    match desk.run(events) {
+        Ok(answers) => Ok(answers),
+        Err(NoMemory) => {
+            story.call_again();
+            desk.run(events)
+        }
+    }
+}
+
 /// Records the answers of a desk to events at once. If memory runs out for an event, the later ones
-/// find another desk than they should, so the case is run again.
+/// find another desk than they should, so the case is run anew.
 fn tell_answers<'i, S: Sheet<'i>>(desk: &mut Desk<'i, S>, story: &mut Story, events: &[Event]) {
     if !all_fit(events, desk.instance(), desk.planners()) {
         return story.say("unfit");
     }
     let small = desk.instance();
-    match desk.run(events) {
+    match run_all(desk, story, events) {
         Ok(answers) => story.answers(small, answers),
         Err(NoMemory) => story.no_memory(),
     }
@@ -100,9 +119,25 @@ fn play_at<'i, S: Sheet<'i>>(
     tell_desk(desk, story);
 }
 
+/// Creates a desk whose opening has these lectures.
+fn open<'i, S: Sheet<'i>>(
+    story: &mut Story,
+    small: &'i Instance,
+    lectures: &[Placed],
+) -> Result<Desk<'i, S>, DeskFault>
+    requires { Each (Fits small.now) lectures.now }
+{
+    let alloc = story.alloc();
+    repeated!(
+        story,
+        DeskFault::NoMemory,
+        Desk::<S>::new(alloc, small, lectures, PLANNERS)
+    )
+}
+
 /// Runs a script event by event, or all at once.
 pub(crate) fn play<'i, S: Sheet<'i>>(script: &Script<'i>, story: &mut Story, on: &On) {
-    match Desk::<S>::new(story.alloc(), script.small, script.opening, PLANNERS) {
+    match open::<S>(story, script.small, script.opening) {
         Ok(mut desk) => {
             play_at(&mut desk, story, on, script);
             let_go(desk);

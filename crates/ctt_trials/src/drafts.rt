@@ -3,20 +3,20 @@
 ghost use Rattle.std.specs.Prelude.{◌≡◌, IfOk};
 
 use crate::cases::{On, Script};
-use crate::sheets::{call_of, tell_cells, tell_sheet};
-use crate::story::Story;
+use crate::sheets::{call_of, empty, opened, tell_cells, tell_sheet};
+use crate::story::{Story, repeated};
 use ctt_board::Sheet;
-use ctt_core::{Answer, place_all};
+use ctt_core::Answer;
 use ctt_draft::{Draft, replay};
 use ctt_edits::Reply;
 use ctt_text::{NoMemory, let_go};
-use std::alloc::Global;
 
 /// Opens a draft on a sheet.
-fn open<'i, S: Sheet<'i>>(alloc: Global, sheet: &S) -> Result<Draft<'i, S>, NoMemory>
+fn open<'i, S: Sheet<'i>>(story: &mut Story, sheet: &S) -> Result<Draft<'i, S>, NoMemory>
     ensures { IfOk result (λ draft. draft.problem ≡ S.problem sheet.now) }
 {
-    Draft::open(alloc, sheet)
+    let alloc = story.alloc();
+    repeated!(story, NoMemory, Draft::open(alloc, sheet))
 }
 
 /// Makes the call of a line in a draft, once more if memory runs out.
@@ -75,7 +75,7 @@ fn tell_stale<'i, S: Sheet<'i>>(draft: &Draft<'i, S>, story: &mut Story, sheet: 
 
 /// Makes the changes of a draft on a copy of another sheet.
 fn tell_replayed<'i, S: Sheet<'i>>(draft: &Draft<'i, S>, story: &mut Story, sheet: &S) {
-    match sheet.copy() {
+    match repeated!(story, NoMemory, sheet.copy()) {
         Ok(mut copy) => {
             story.count("replayed", u64::from(replay(draft.changes(), &mut copy)));
             tell_sheet(story, &copy);
@@ -138,7 +138,7 @@ fn ask_all<'i, S: Sheet<'i>>(
 fn one_draft<'i, S: Sheet<'i>>(story: &mut Story, on: &On, sheet: &mut S, other: &S)
     requires { S.problem other.now ≡ S.problem sheet.old }
 {
-    let Ok(mut draft) = open(story.alloc(), sheet) else {
+    let Ok(mut draft) = open(story, sheet) else {
         return story.no_memory();
     };
     ask_all(&mut draft, story, on, sheet, other);
@@ -148,11 +148,10 @@ fn one_draft<'i, S: Sheet<'i>>(story: &mut Story, on: &On, sheet: &mut S, other:
 
 /// Runs a draft on an empty sheet, with another sheet that has the lectures of a script.
 pub(crate) fn play<'i, S: Sheet<'i>>(script: &Script<'i>, story: &mut Story, on: &On) {
-    let alloc = story.alloc();
-    let Ok(mut sheet) = place_all::<S>(alloc, script.small, &[]) else {
+    let Ok(mut sheet) = empty::<S>(story, script.small) else {
         return story.no_memory();
     };
-    let Ok(other) = place_all::<S>(alloc, script.small, script.opening) else {
+    let Ok(other) = opened::<S>(story, script) else {
         return story.no_memory();
     };
     one_draft(story, on, &mut sheet, &other);

@@ -1,14 +1,15 @@
 //! Journals: their entries are written, parsed and audited.
 
+ghost use Rattle.std.specs.Prelude.{IfOk};
 ghost use Rattle.std.specs.List.{AllByRecursion as Each};
 ghost use Rattle.ctt_core.specs.Entries.{EntryFits};
 ghost use Rattle.ctt_script.specs.Entries.{IsWritable};
 
 use crate::cases::{On, Script};
-use crate::story::Story;
+use crate::story::{Story, repeated};
 use ctt_board::Sheet;
 use ctt_core::{JournalEntry, NoList, Verdict, audit, list_after};
-use ctt_script::{read_journal, write_journal};
+use ctt_script::{JournalFault, read_journal, write_journal};
 use ctt_text::{Instance, NoMemory, Placed};
 
 /// Records the verdict on a journal.
@@ -51,12 +52,36 @@ fn tell_entries<'i, S: Sheet<'i>>(
 {
     let alloc = story.alloc();
     if matches!(on, On::Left) {
-        let left = list_after::<S>(alloc, script.small, script.opening, entries);
+        let left = repeated!(
+            story,
+            NoList::NoMemory,
+            list_after::<S>(alloc, script.small, script.opening, entries)
+        );
         tell_left(story, script.small, left);
     } else {
-        let found = audit::<S>(alloc, script.small, script.opening, entries);
+        let found = repeated!(
+            story,
+            NoMemory,
+            audit::<S>(alloc, script.small, script.opening, entries)
+        );
         tell_audit(story, script.small, found);
     }
+}
+
+/// Parses the text of a journal.
+fn read_entries(
+    story: &mut Story,
+    small: &Instance,
+    text: &[u8],
+) -> Result<Vec<JournalEntry>, JournalFault>
+    ensures { IfOk result (λ entries. Each (EntryFits small.now) entries.items) }
+{
+    let alloc = story.alloc();
+    repeated!(
+        story,
+        JournalFault::NoMemory,
+        read_journal(alloc, small, text)
+    )
 }
 
 /// Parses the text of a journal, and records the verdict, or the timetable that it leaves.
@@ -66,7 +91,7 @@ pub(crate) fn read_text<'i, S: Sheet<'i>>(
     on: &On,
     text: &[u8],
 ) {
-    match read_journal(story.alloc(), script.small, text) {
+    match read_entries(story, script.small, text) {
         Ok(entries) => tell_entries::<S>(script, story, on, &entries),
         Err(_fault) => story.no_memory(),
     }
@@ -80,7 +105,8 @@ pub(crate) fn tell_journal<'i, S: Sheet<'i>>(
 )
     requires { IsWritable script.now.small.now entries.now }
 {
-    match write_journal(story.alloc(), script.small, entries) {
+    let alloc = story.alloc();
+    match repeated!(story, NoMemory, write_journal(alloc, script.small, entries)) {
         Ok(text) => {
             story.bytes(&text);
             read_text::<S>(script, story, &On::Audit, &text);

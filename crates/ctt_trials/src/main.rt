@@ -1,6 +1,7 @@
 //! Trials: the worked cases, run through the calls of the crates below. The answer of each call is
-//! printed, and at the end the number of calls that were repeated because memory ran out. All that
-//! is printed before that number is the same, whichever one request for memory is refused.
+//! printed. A call that wants memory is made again on the same values, where it left them as they
+//! were; otherwise its case is run anew. At the end the numbers of both are printed. All that is
+//! printed before is the same, whichever one request for memory is refused.
 #![tactic(auto)]
 
 mod barred;
@@ -20,23 +21,24 @@ mod worked;
 
 use cases::play_cases;
 use ctt_files::{Device, INPUT_LIMIT, read_all};
-use ctt_text::{Instance, let_go, read_instance};
+use ctt_text::{Instance, ReadFault, let_go, read_instance};
 use std::alloc::Global;
 use std::process::ExitCode;
 use std::sync::Wait;
-use story::Story;
+use story::{Story, repeated};
 use tables::{of_texts, on_desks, on_shared_desks, on_sheets, refreshed_desks, refusing_desks};
 use texts::SMALL;
 
 /// Reads and parses the small instance.
-fn small_instance(alloc: Global) -> Option<Instance> {
+fn small_instance(story: &mut Story) -> Option<Instance> {
+    let alloc = story.alloc();
     let text = read_all(alloc, &mut Device::new(SMALL.as_bytes()), INPUT_LIMIT).ok()?;
-    read_instance(alloc, &text).ok()
+    repeated!(story, ReadFault::NoMemory, read_instance(alloc, &text)).ok()
 }
 
 /// Runs all cases.
 fn play<R: Wait>(story: &mut Story, rt: &R) {
-    match small_instance(story.alloc()) {
+    match small_instance(story) {
         Some(mut small) => {
             play_cases(story, rt, &small, on_sheets());
             play_cases(story, rt, &small, on_desks());

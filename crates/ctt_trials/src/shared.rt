@@ -4,13 +4,12 @@ ghost use Rattle.std.specs.Prelude.{◌≡◌, IfOk};
 ghost use Rattle.ctt_desk.specs.Names.{IsNamed};
 
 use crate::cases::Script;
-use crate::story::Story;
+use crate::story::{Story, repeated};
 use crate::turns::{Here, leave, sit, take_turns, tell_planner};
 use ctt_board::{Sheet, Timetable};
 use ctt_desk::{Closed, Named, Naming, Opened, Planner, SharedDesk, SharedFault};
 use ctt_grid::GridSheet;
-use ctt_text::{Instance, let_go};
-use std::alloc::Global;
+use ctt_text::{Instance, NoMemory, let_go};
 use std::marker::{Brand, PhantomData};
 use std::sync::Wait;
 
@@ -18,10 +17,18 @@ use std::sync::Wait;
 const PLANNERS: u16 = 4;
 
 /// Opens the timetable of a script.
-fn open_desk<'i, S: Sheet<'i>>(script: &Script<'i>, alloc: Global) -> Result<Opened<S>, SharedFault>
+fn open_desk<'i, S: Sheet<'i>>(
+    script: &Script<'i>,
+    story: &mut Story,
+) -> Result<Opened<S>, SharedFault>
     ensures { IfOk result (λ opened. opened.problem ≡ script.now.small.now) }
 {
-    Opened::<S>::new(alloc, script.small, script.opening)
+    let alloc = story.alloc();
+    repeated!(
+        story,
+        SharedFault::NoMemory,
+        Opened::<S>::new(alloc, script.small, script.opening)
+    )
 }
 
 /// Runs the turns of a script at a desk, and returns the planners from their seats.
@@ -44,7 +51,8 @@ fn tell_closed<S: Timetable, J: Naming>(
     small: &Instance,
     closed: &Closed<S, J>,
 ) {
-    story.timetable(small, closed.list(), closed.cost());
+    let list = repeated!(story, NoMemory, closed.list());
+    story.timetable(small, list, closed.cost());
     for entry in closed.journal() {
         story.entry(small, entry);
     }
@@ -122,7 +130,7 @@ fn play_opened<'i, J: Naming, R: Wait>(
 
 /// Runs a script on a desk of grid sheets.
 pub(crate) fn play<R: Wait>(script: &Script, story: &mut Story, rt: &R) {
-    match open_desk::<GridSheet>(script, story.alloc()) {
+    match open_desk::<GridSheet>(script, story) {
         Ok(opened) => play_opened::<Brand, R>(script, story, rt, opened, PLANNERS),
         Err(SharedFault::Unlawful(at, fault)) => story.unlawful(script.small, at, fault),
         Err(SharedFault::NoPlace | SharedFault::NoMemory) => story.no_memory(),

@@ -1,13 +1,14 @@
 //! Cases on one sheet: edits, looks and refusals.
 
-ghost use Rattle.std.specs.Prelude.{◌↔◌, IfSome, IsTrue};
+ghost use Rattle.std.specs.Prelude.{◌≡◌, ◌↔◌, IfOk, IfSome, IsTrue};
+ghost use Rattle.std.specs.List.{AllByRecursion as Each};
 ghost use Rattle.ctt_problem.specs.Timetable.{Fits};
 ghost use Rattle.ctt_edits.specs.Calls.{CallFits};
 
 use crate::cases::{On, Script};
-use crate::story::Story;
+use crate::story::{Story, repeated};
 use ctt_board::{Cell, Change, Sheet};
-use ctt_core::{Event, PlannerNo, place_all};
+use ctt_core::{DeskFault, Event, PlannerNo, place_all};
 use ctt_edits::{Call, Edit, Look, Row, check, look, reads};
 use ctt_script::{Lines, read_own_line};
 use ctt_text::{CourseNo, Instance, NoMemory, Placed, RoomNo, SlotNo};
@@ -66,12 +67,15 @@ fn show<'i, S: Sheet<'i>>(story: &mut Story, sheet: &S, asked: &Look) {
     if !asked.fits(sheet.instance()) {
         return story.say("unfit");
     }
-    story.reply(sheet.instance(), look(story.alloc(), sheet, asked));
+    let alloc = story.alloc();
+    let reply = repeated!(story, NoMemory, look(alloc, sheet, asked));
+    story.reply(sheet.instance(), reply);
 }
 
 /// Records the lectures and the cost of a sheet.
 pub(crate) fn tell_sheet<'i, S: Sheet<'i>>(story: &mut Story, sheet: &S) {
-    story.timetable(sheet.instance(), sheet.list(), sheet.cost());
+    let list = repeated!(story, NoMemory, sheet.list());
+    story.timetable(sheet.instance(), list, sheet.cost());
 }
 
 /// Makes the calls of a script's lines, and records what the sheet has then.
@@ -96,8 +100,10 @@ fn tell_lecture<'i, S: Sheet<'i>>(story: &mut Story, sheet: &S, lecture: &Placed
         story.count("room", u64::from(room.get()));
     }
     story.count("count", u64::from(sheet.count(lecture.course)));
-    story.lectures(sheet.instance(), sheet.course_row(lecture.course));
-    story.lectures(sheet.instance(), sheet.slot_row(lecture.slot));
+    let of_course = repeated!(story, NoMemory, sheet.course_row(lecture.course));
+    story.lectures(sheet.instance(), of_course);
+    let of_slot = repeated!(story, NoMemory, sheet.slot_row(lecture.slot));
+    story.lectures(sheet.instance(), of_slot);
     tell_sheet(story, sheet);
 }
 
@@ -113,7 +119,7 @@ fn place_geo<'i, S: Sheet<'i>>(story: &mut Story, sheet: &mut S) {
     let edit = Edit::Place(geo.course, geo.slot, geo.room);
     make(story, sheet, &edit, true);
     tell_lecture(story, sheet, &geo);
-    match sheet.copy() {
+    match repeated!(story, NoMemory, sheet.copy()) {
         Ok(copy) => tell_lecture(story, &copy, &geo),
         Err(NoMemory) => story.no_memory(),
     }
@@ -145,9 +151,44 @@ fn tell_all_accepted<'i, S: Sheet<'i>>(story: &mut Story, sheet: &S) {
     tell_accepted(story, sheet, &[cell(3, 1, true)]);
 }
 
+/// Returns a sheet with these lectures.
+fn sheet_of<'i, S: Sheet<'i>>(
+    story: &mut Story,
+    small: &'i Instance,
+    lectures: &[Placed],
+) -> Result<S, DeskFault>
+    requires { Each (Fits small.now) lectures.now }
+    ensures { IfOk result (λ sheet. S.problem sheet ≡ small.now) }
+{
+    let alloc = story.alloc();
+    repeated!(
+        story,
+        DeskFault::NoMemory,
+        place_all::<S>(alloc, small, lectures)
+    )
+}
+
+/// Returns a sheet with the lectures of a script.
+pub(crate) fn opened<'i, S: Sheet<'i>>(
+    story: &mut Story,
+    script: &Script<'i>,
+) -> Result<S, DeskFault>
+    ensures { IfOk result (λ sheet. S.problem sheet ≡ script.now.small.now) }
+{
+    sheet_of::<S>(story, script.small, script.opening)
+}
+
+/// Returns an empty sheet.
+pub(crate) fn empty<'i, S: Sheet<'i>>(story: &mut Story, small: &'i Instance) -> Result<S, NoMemory>
+    ensures { IfOk result (λ sheet. S.problem sheet ≡ small.now) }
+{
+    let alloc = story.alloc();
+    repeated!(story, NoMemory, S::empty(alloc, small))
+}
+
 /// Runs lines or a placement on a sheet with the lectures of a script.
 pub(crate) fn play<'i, S: Sheet<'i>>(script: &Script<'i>, story: &mut Story, on: &On) {
-    match place_all::<S>(story.alloc(), script.small, script.opening) {
+    match opened::<S>(story, script) {
         Ok(mut sheet) => match on {
             On::Placement => place_geo(story, &mut sheet),
             On::Accepted => tell_all_accepted(story, &sheet),
@@ -162,7 +203,8 @@ pub(crate) fn tell_rows(script: &Script, story: &mut Story) {
     let Some(call) = call_of(script.small, script.lines.as_bytes()) else {
         return story.say("bad line");
     };
-    match reads(story.alloc(), script.small, &call) {
+    let alloc = story.alloc();
+    match repeated!(story, NoMemory, reads(alloc, script.small, &call)) {
         Ok(rows) => {
             for row in &rows {
                 match row {

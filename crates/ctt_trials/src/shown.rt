@@ -1,20 +1,31 @@
 //! The reports and the text of a timetable, and an input that is read whole.
 
-use crate::cases::Script;
-use crate::story::Story;
+use crate::cases::{Script, read_lectures};
+use crate::story::{Story, repeated};
 use ctt_files::{Device, InputFault, read_all};
 use ctt_findings::{report_json, report_text};
-use ctt_text::{read_solution, write_solution};
+use ctt_text::{NoMemory, write_solution};
 
 /// Records both reports on a timetable.
 pub(crate) fn play_reports(script: &Script, story: &mut Story) {
-    story.text(report_text(story.alloc(), script.small, script.opening));
-    story.text(report_json(story.alloc(), script.small, script.opening));
+    let alloc = story.alloc();
+    let text = repeated!(
+        story,
+        NoMemory,
+        report_text(alloc, script.small, script.opening)
+    );
+    story.text(text);
+    let json = repeated!(
+        story,
+        NoMemory,
+        report_json(alloc, script.small, script.opening)
+    );
+    story.text(json);
 }
 
 /// Records whether a text is parsed as the timetable.
 fn tell_read(script: &Script, story: &mut Story, text: &[u8]) {
-    match read_solution(story.alloc(), script.small, text) {
+    match read_lectures(story, script.small, text) {
         Ok(read) => {
             if read.as_slice() == script.opening {
                 story.say("read again: the same");
@@ -26,7 +37,12 @@ fn tell_read(script: &Script, story: &mut Story, text: &[u8]) {
 
 /// Writes a timetable, and parses it again.
 pub(crate) fn play_written(script: &Script, story: &mut Story) {
-    match write_solution(story.alloc(), script.small, script.opening) {
+    let alloc = story.alloc();
+    match repeated!(
+        story,
+        NoMemory,
+        write_solution(alloc, script.small, script.opening)
+    ) {
         Ok(text) => {
             story.bytes(&text);
             tell_read(script, story, &text);

@@ -1,4 +1,4 @@
-//! The transcript of the trials, and the number of calls that were repeated.
+//! The transcript of the trials, and how many calls were repeated and how many cases run anew.
 
 ghost use Rattle.std.specs.Prelude.{◌↔◌, IsTrue, None};
 ghost use Rattle.ctt_script.specs.Entries.{AnswerFits, RowFits};
@@ -10,6 +10,22 @@ use ctt_rules::Cost;
 use ctt_script::{write_answer, write_entry};
 use ctt_text::{Instance, NoMemory, Placed};
 use std::alloc::Global;
+
+/// Makes a call, and makes it again on the same values if it wants memory. The values must be left as
+/// they were.
+macro_rules! repeated {
+    ($story:expr, $want:pat, $call:expr) => {
+        match $call {
+            Err($want) => {
+                $story.call_again();
+                $call
+            }
+            told => told,
+        }
+    };
+}
+
+pub(crate) use repeated;
 
 /// The capacity of the transcript, in bytes.
 const ROOM: usize = 65_536;
@@ -23,6 +39,7 @@ pub(crate) struct Story {
     text: Vec<u8>,
     line: String,
     again: u64,
+    anew: u64,
     is_wanting: bool,
     is_lost: bool,
     /// Whether it refuses to flush, as a writer.
@@ -73,6 +90,7 @@ impl Story {
             text,
             line,
             again: 0,
+            anew: 0,
             is_wanting: false,
             is_lost: false,
             is_deaf: false,
@@ -96,12 +114,13 @@ impl Story {
         self.again = self.again.saturating_add(1);
     }
 
-    /// Notes that memory ran out for a call, so that the case is run again.
+    /// Notes that memory ran out for a call that did not leave its values as they were, so that the
+    /// case is run anew.
     pub(crate) fn no_memory(&mut self) {
         self.is_wanting = true;
     }
 
-    /// Appends an element to a list. If memory runs out, the case is run again.
+    /// Appends an element to a list. If memory runs out, the case is run anew.
     pub(crate) fn add<T: Drop>(&mut self, list: &mut Vec<T>, one: T) {
         match list.push(one) {
             Ok(()) => {}
@@ -117,7 +136,7 @@ impl Story {
         }
         self.is_wanting = false;
         self.text.truncate(from);
-        self.call_again();
+        self.anew = self.anew.saturating_add(1);
         true
     }
 
@@ -192,7 +211,7 @@ impl Story {
         true
     }
 
-    /// Records an answer. If it is `NoMemory`, the case is run again instead.
+    /// Records an answer. If it is `NoMemory`, the case is run anew instead.
     pub(crate) fn answer(&mut self, instance: &Instance, answer: Answer) {
         if !self.tells(instance, answer) {
             self.no_memory();
@@ -278,10 +297,11 @@ impl Story {
         }
     }
 
-    /// Writes the transcript and the number of repeated calls, and returns whether nothing was
-    /// lost.
+    /// Writes the transcript and the numbers of calls that were repeated and of cases that were run
+    /// anew, and returns whether nothing was lost.
     pub(crate) fn write<W: Sink>(&mut self, writer: &mut W) -> bool {
-        self.count("again", self.again);
+        self.pair("again", self.again);
+        self.count(" anew", self.anew);
         !self.is_lost && put_all(writer, &self.text).is_ok() && writer.flush().is_ok()
     }
 }

@@ -9,10 +9,9 @@ use Rattle.std.proofs.lemmas.List.{length-map}
 use Rattle.clap.specs.Words.{Row, Text, all_of, first_of, subcommand_of}
 use Rattle.ctt_clap.specs.Flags.{IsOnOrOff}
 use Rattle.ctt_words.specs.CommandLine.{is_on, timedesk}
-use Rattle.ctt_words.specs.Jobs.{HasAll, HasScripts, IsJobIn, IsJobOf, IsTaskBy, count_given}
+use Rattle.ctt_words.specs.Jobs.{HasAll, HasScripts, IsJobIn, IsJobOf, IsJobBy, count_given}
 use Rattle.ctt_words.specs.declared.job.Job.{Job}
-use Rattle.ctt_words.specs.declared.job.Task.{Task}
-use Rattle.ctt_words.specs.declared.job.Task.TheVariants.{Audit, Compare, Crew, Desk, Journal, Listing, Mending, Run, Show, Where}
+use Rattle.ctt_words.specs.declared.job.Job.TheVariants.{Audit, Check, Compare, Crew, Desk, Journal, List as Listing, Mend, Page, Run, Week, Where}
 
 given_here : (o : Option Row) → is_some (option_and_then (λ (r : Row). slice_get r.values 0) o) ≡ true → is_some (option_map (λ (r : Row). r.values) o) ≡ true
 given_here None first = first
@@ -55,21 +54,23 @@ count_more None None others left before after all same more (inl (some, counted)
 count_more None None others left before after all same more (inr (none, counted)) was = omega (arith, counted, was, ap count_given more)
 
 -- a job that words ask for has the scripts or seats that it needs
-pub job_has_scripts : (words : List Text) (job : Job) → IsJobOf words job → HasScripts job.task
+pub job_has_scripts : (words : List Text) (job : Job) → IsJobOf words job → HasScripts job
 job_has_scripts words job is = in_matched (subcommand_of timedesk words) job is
   where
-    in_task : (name : Text) (rows : List Row) (task : Task) → IsTaskBy name rows task → HasScripts task
-    in_task name rows (Show solution showing) is = tt
-    in_task name rows (Compare solutions form strict) is = is.1.1
-    in_task name rows (Run script start journal) is = tt
-    in_task name rows (Audit journal start) is = tt
-    in_task name rows (Crew scripts) is = is.1.1
-    in_task name rows (Desk seats start minutes) is = is.1.1
-    in_task name rows (Journal minutes) is = tt
-    in_task name rows (Listing journal start) is = tt
-    in_task name rows (Mending solution) is = tt
-    in_task name rows (Where word) is = tt
+    by_name : (name : Text) (rows : List Row) (job : Job) → IsJobBy name rows job → HasScripts job
+    by_name name rows (Compare instance barred solutions csv json strict) is = is.2.1
+    by_name name rows (Crew instance barred scripts) is = is.2.1
+    by_name name rows (Desk instance barred seats start minutes) is = is.2.1
+    by_name name rows (Check instance barred solution json named explain strict) is = tt
+    by_name name rows (Week instance barred solution whose) is = tt
+    by_name name rows (Page instance barred solution days) is = tt
+    by_name name rows (Run instance barred script start journal) is = tt
+    by_name name rows (Audit instance barred journal start) is = tt
+    by_name name rows (Journal instance barred minutes) is = tt
+    by_name name rows (Listing instance barred journal start) is = tt
+    by_name name rows (Mend instance barred solution) is = tt
+    by_name name rows (Where file word) is = tt
 
-    in_matched : (matched : Option (Text × List Row)) (job : Job) → IsJobIn matched job → HasScripts job.task
+    in_matched : (matched : Option (Text × List Row)) (job : Job) → IsJobIn matched job → HasScripts job
     in_matched None job is = absurd is
-    in_matched (Some (name, rows)) job is = in_task name rows job.task is.2
+    in_matched (Some (name, rows)) job is = by_name name rows job is

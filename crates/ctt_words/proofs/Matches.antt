@@ -8,12 +8,10 @@ use Rattle.clap.specs.declared.error.kind.ErrorKind.{ErrorKind}
 use Rattle.clap.specs.declared.error.kind.ErrorKind.TheVariants.{OutOfMemory}
 use Rattle.clap.proofs.OnLiterals.{clap_on_literals}
 use Rattle.ctt_words.specs.CommandLine.{audit, check, compare, crew, desk, find, journal, list, mend, page, run, timedesk, week}
-use Rattle.ctt_words.specs.Jobs.{AsksForSeveral, IsFaultOf, IsHelp, IsJobIn, IsNoJobIn, IsOfKind, IsRequest, IsTaskBy, SaysSeveral, WantsSeveral, WantsSeveralIn, choices, choices_of, count_given, faults_of}
+use Rattle.ctt_words.specs.Jobs.{AsksForSeveral, IsFaultOf, IsHelp, IsJobIn, IsNoJobIn, IsOfKind, IsRequest, IsJobBy, SaysSeveral, WantsSeveral, WantsSeveralIn, choices, choices_of, count_given, faults_of}
 use Rattle.ctt_words.specs.Outlines.{commands, name_of, named, named_in, with_name}
 use Rattle.ctt_words.specs.declared.job.Job.{Job}
-use Rattle.ctt_words.specs.declared.job.Showing.TheVariants.{Page, Report, Week}
-use Rattle.ctt_words.specs.declared.job.Task.{Task}
-use Rattle.ctt_words.specs.declared.job.Task.TheVariants.{Audit, Compare, Crew, Desk, Journal, Listing, Mending, Run, Show, Where}
+use Rattle.ctt_words.specs.declared.job.Job.TheVariants.{Audit, Check, Compare, Crew, Desk, Journal, List as Listing, Mend, Page, Run, Week, Where}
 use Rattle.ctt_words.specs.declared.job.Whose.{Whose}
 use Rattle.ctt_words.specs.declared.job.Whose.TheVariants.{Course, Curriculum, Room, Teacher}
 use Rattle.ctt_words.specs.declared.job.WordsFault.{WordsFault}
@@ -68,23 +66,23 @@ other_name : (name a b : Text) → bytes_eq a b ≡ false → name ≡ a → nam
 other_name name a b other is_a is_b = true≢false (sym ((bytes_eq-Decides a b).1 (sym is_a ∙ is_b)) ∙ other)
 
 -- such words do not ask for a job
-task_not_several : (name : Text) (rows : List Row) (task : Task) → IsTaskBy name rows task → WantsSeveral name rows → ⊥
-task_not_several name rows (Show solution (Report form explain strict)) is several = other_name name _ _ refl is.0.0 several.0
-task_not_several name rows (Show solution (Week whose)) is several = no_several rows whose is.0.1 several.1
-task_not_several name rows (Show solution (Page days)) is several = other_name name _ _ refl is.0.0 several.0
-task_not_several name rows (Compare solutions form strict) is several = other_name name _ _ refl is.0 several.0
-task_not_several name rows (Run script start stored) is several = other_name name _ _ refl is.0 several.0
-task_not_several name rows (Audit audited start) is several = other_name name _ _ refl is.0 several.0
-task_not_several name rows (Crew scripts) is several = other_name name _ _ refl is.0 several.0
-task_not_several name rows (Desk seats start minutes) is several = other_name name _ _ refl is.0 several.0
-task_not_several name rows (Journal minutes) is several = other_name name _ _ refl is.0 several.0
-task_not_several name rows (Listing audited start) is several = other_name name _ _ refl is.0 several.0
-task_not_several name rows (Mending mended) is several = other_name name _ _ refl is.0 several.0
-task_not_several name rows (Where word) is several = other_name name _ _ refl is.0 several.0
+job_not_several : (name : Text) (rows : List Row) (job : Job) → IsJobBy name rows job → WantsSeveral name rows → ⊥
+job_not_several name rows (Week instance barred solution whose) is several = no_several rows whose is.3 several.1
+job_not_several name rows (Check instance barred solution json named explain strict) is several = other_name name _ _ refl is.0 several.0
+job_not_several name rows (Compare instance barred solutions csv json strict) is several = other_name name _ _ refl is.0 several.0
+job_not_several name rows (Page instance barred solution days) is several = other_name name _ _ refl is.0 several.0
+job_not_several name rows (Run instance barred script start stored) is several = other_name name _ _ refl is.0 several.0
+job_not_several name rows (Audit instance barred audited start) is several = other_name name _ _ refl is.0 several.0
+job_not_several name rows (Crew instance barred scripts) is several = other_name name _ _ refl is.0 several.0
+job_not_several name rows (Desk instance barred seats start minutes) is several = other_name name _ _ refl is.0 several.0
+job_not_several name rows (Journal instance barred minutes) is several = other_name name _ _ refl is.0 several.0
+job_not_several name rows (Listing instance barred audited start) is several = other_name name _ _ refl is.0 several.0
+job_not_several name rows (Mend instance barred mended) is several = other_name name _ _ refl is.0 several.0
+job_not_several name rows (Where file word) is several = other_name name _ _ refl is.0 several.0
 
 not_several : (matched : Option (Text × List Row)) (job : Job) → IsJobIn matched job → WantsSeveralIn matched → ⊥
 not_several None job is several = several
-not_several (Some (name, rows)) job is several = task_not_several name rows job.task is.2 several
+not_several (Some (name, rows)) job is several = job_not_several name rows job is several
 
 -- such words are refused with the message for them
 pub several_refused : (words : List Text) (r : Result Job WordsFault) → IfOk r (IsJobIn (subcommand_of timedesk words)) → IfErr r (IsNoJobIn (subcommand_of timedesk words))

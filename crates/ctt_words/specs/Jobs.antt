@@ -10,14 +10,7 @@ use Rattle.ctt_clap.specs.Flags.{IsOnOrOff}
 use Rattle.ctt_words.specs.CommandLine.{is_on, timedesk}
 use Rattle.ctt_words.specs.Outlines.{named}
 use Rattle.ctt_words.specs.declared.job.Job.{Job}
-use Rattle.ctt_words.specs.declared.job.ReportForm.{ReportForm}
-use Rattle.ctt_words.specs.declared.job.ReportForm.TheVariants as report
-use Rattle.ctt_words.specs.declared.job.Showing.{Showing}
-use Rattle.ctt_words.specs.declared.job.Showing.TheVariants.{Page, Report, Week}
-use Rattle.ctt_words.specs.declared.job.TableForm.{TableForm}
-use Rattle.ctt_words.specs.declared.job.TableForm.TheVariants as table
-use Rattle.ctt_words.specs.declared.job.Task.{Task}
-use Rattle.ctt_words.specs.declared.job.Task.TheVariants.{Audit, Compare, Crew, Desk, Journal, Listing, Mending, Run, Show, Where}
+use Rattle.ctt_words.specs.declared.job.Job.TheVariants.{Audit, Check, Compare, Crew, Desk, Journal, List as Listing, Mend, Page, Run, Week, Where}
 use Rattle.ctt_words.specs.declared.job.Whose.{Whose}
 use Rattle.ctt_words.specs.declared.job.Whose.TheVariants.{Course, Curriculum, Room, Teacher}
 use Rattle.ctt_words.specs.declared.job.WordsFault.{WordsFault}
@@ -116,48 +109,33 @@ IsMatched (Some (name, rows)) = IsWhole name rows
 
 -- ---- the job
 
--- the form of a report, by whether JSON and the name of the file are asked for
-abbrev pub report_form : Bool → Bool → ReportForm
-report_form false name = report.Text
-report_form true false = report.Json
-report_form true true = report.NamedJson
-
--- the form of a comparison, by whether JSON and CSV are asked for
-abbrev pub table_form : Bool → Bool → TableForm
-table_form true csv = table.Json
-table_form false true = table.Csv
-table_form false false = table.Aligned
-
--- whether the option is given
-abbrev pub set_in : List Row → Text → Bool
-set_in rows id = is_on (one_of id rows)
-
--- the command of this name, with these matches, shows a solution this way
-abbrev pub IsShowingBy : Text → List Row → Showing → Type 0
-IsShowingBy name rows (Report form explain strict) = (name ≡ codes "check")
-    × (form ≡ report_form (set_in rows (codes "json")) (set_in rows (codes "name"))) × IsSet rows (codes "explain") explain × IsSet rows (codes "strict") strict
-IsShowingBy name rows (Week whose) = (name ≡ codes "week") × (choices rows ≡ choices_of whose)
-IsShowingBy name rows (Page days) = (name ≡ codes "page") × MayHave rows (codes "days") days
-
--- the task is that of the command of this name, with these matches
-abbrev pub IsTaskBy : Text → List Row → Task → Type 0
-IsTaskBy name rows (Show solution showing) = IsShowingBy name rows showing × Has rows (codes "solution") solution
-IsTaskBy name rows (Compare solutions form strict) = (name ≡ codes "compare") × HasAll rows (codes "solution") solutions.items
-    × (form ≡ table_form (set_in rows (codes "json")) (set_in rows (codes "csv"))) × IsSet rows (codes "strict") strict
-IsTaskBy name rows (Run script start journal) = (name ≡ codes "run") × Has rows (codes "script") script
-    × MayHave rows (codes "start") start × MayHave rows (codes "journal") journal
-IsTaskBy name rows (Audit journal start) = (name ≡ codes "audit") × Has rows (codes "journal") journal × MayHave rows (codes "start") start
-IsTaskBy name rows (Crew scripts) = (name ≡ codes "crew") × HasAll rows (codes "script") scripts.items
-IsTaskBy name rows (Desk seats start minutes) = (name ≡ codes "desk") × HasAll rows (codes "seat") seats.items
-    × MayHave rows (codes "start") start × MayHave rows (codes "minutes") minutes
-IsTaskBy name rows (Journal minutes) = (name ≡ codes "journal") × Has rows (codes "minutes") minutes
-IsTaskBy name rows (Listing journal start) = (name ≡ codes "list") × Has rows (codes "journal") journal × MayHave rows (codes "start") start
-IsTaskBy name rows (Mending solution) = (name ≡ codes "mend") × Has rows (codes "solution") solution
-IsTaskBy name rows (Where word) = (name ≡ codes "where") × Has rows (codes "word") word
+-- the instance is given, and the file of barred rooms is the one that is given, if one is
+abbrev pub HasInstance : List Row → String Global → Option (String Global) → Type 0
+HasInstance rows instance barred = Has rows (codes "instance") instance × MayHave rows (codes "barred") barred
 
 -- the job is that of the command of this name, with these matches
 abbrev pub IsJobBy : Text → List Row → Job → Type 0
-IsJobBy name rows job = Has rows (codes "instance") job.instance × MayHave rows (codes "barred") job.barred × IsTaskBy name rows job.task
+IsJobBy name rows (Check instance barred solution json named explain strict) = (name ≡ codes "check") × HasInstance rows instance barred
+    × Has rows (codes "solution") solution × IsSet rows (codes "json") json × IsSet rows (codes "name") named
+    × IsSet rows (codes "explain") explain × IsSet rows (codes "strict") strict
+IsJobBy name rows (Compare instance barred solutions csv json strict) = (name ≡ codes "compare") × HasInstance rows instance barred
+    × HasAll rows (codes "solution") solutions.items × IsSet rows (codes "csv") csv × IsSet rows (codes "json") json × IsSet rows (codes "strict") strict
+IsJobBy name rows (Week instance barred solution whose) = (name ≡ codes "week") × HasInstance rows instance barred
+    × Has rows (codes "solution") solution × (choices rows ≡ choices_of whose)
+IsJobBy name rows (Page instance barred solution days) = (name ≡ codes "page") × HasInstance rows instance barred
+    × Has rows (codes "solution") solution × MayHave rows (codes "days") days
+IsJobBy name rows (Run instance barred script start journal) = (name ≡ codes "run") × HasInstance rows instance barred
+    × Has rows (codes "script") script × MayHave rows (codes "start") start × MayHave rows (codes "journal") journal
+IsJobBy name rows (Audit instance barred journal start) = (name ≡ codes "audit") × HasInstance rows instance barred
+    × Has rows (codes "journal") journal × MayHave rows (codes "start") start
+IsJobBy name rows (Crew instance barred scripts) = (name ≡ codes "crew") × HasInstance rows instance barred × HasAll rows (codes "script") scripts.items
+IsJobBy name rows (Desk instance barred seats start minutes) = (name ≡ codes "desk") × HasInstance rows instance barred
+    × HasAll rows (codes "seat") seats.items × MayHave rows (codes "start") start × MayHave rows (codes "minutes") minutes
+IsJobBy name rows (Journal instance barred minutes) = (name ≡ codes "journal") × HasInstance rows instance barred × Has rows (codes "minutes") minutes
+IsJobBy name rows (Listing instance barred journal start) = (name ≡ codes "list") × HasInstance rows instance barred
+    × Has rows (codes "journal") journal × MayHave rows (codes "start") start
+IsJobBy name rows (Mend instance barred solution) = (name ≡ codes "mend") × HasInstance rows instance barred × Has rows (codes "solution") solution
+IsJobBy name rows (Where file word) = (name ≡ codes "where") × Has rows (codes "instance") file × Has rows (codes "word") word
 
 -- the job is that of the command that was matched
 abbrev pub IsJobIn : Option (Text × List Row) → Job → Type 0
@@ -169,11 +147,11 @@ abbrev pub IsJobOf : List Text → Job → Type 0
 IsJobOf words job = IsJobIn (subcommand_of timedesk words) job
 
 -- a comparison has at least one solution, a crew at least one script, and a desk at least one seat
-abbrev pub HasScripts : Task → Type 0
-HasScripts (Compare solutions form strict) = 1 ≤ length solutions.items
-HasScripts (Crew scripts) = 1 ≤ length scripts.items
-HasScripts (Desk seats start minutes) = 1 ≤ length seats.items
-HasScripts task = Unit {0}
+abbrev pub HasScripts : Job → Type 0
+HasScripts (Compare instance barred solutions csv json strict) = 1 ≤ length solutions.items
+HasScripts (Crew instance barred scripts) = 1 ≤ length scripts.items
+HasScripts (Desk instance barred seats start minutes) = 1 ≤ length seats.items
+HasScripts job = Unit {0}
 
 -- ---- words that ask for no job
 

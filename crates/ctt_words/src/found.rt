@@ -1,65 +1,43 @@
-//! Building the task of each command from the matches that `clap` found for it.
+//! Building the job of each command from the matches that `clap` found for it.
 
 ghost use Rattle.std.specs.Prelude.{◌≡◌, ◌≤◌, codes, IfOk};
 ghost use Rattle.clap.specs.Words.{found_of, rows_of};
-ghost use Rattle.ctt_words.specs.Jobs.{HasCheckFlags, HasCompareFlags, HasFiles, IsTaskBy, choices, choices_of, count_given, report_form, table_form};
+ghost use Rattle.ctt_words.specs.Jobs.{HasCheckFlags, HasCompareFlags, HasFiles, IsJobBy, choices, choices_of, count_given};
 
 use crate::arguments::{is_set, option, text, texts};
-use crate::job::{ReportForm, Showing, TableForm, Task, Whose};
+use crate::job::{Job, Whose};
 use clap::ArgMatches;
 use std::alloc::{AllocError, Global};
 
-/// Returns the form of a report, by whether JSON and the name of the file are asked for.
-fn report_form(json: bool, name: bool) -> ReportForm
-    ensures { result ≡ report_form json name }
-{
-    if !json {
-        ReportForm::Text
-    } else if name {
-        ReportForm::NamedJson
-    } else {
-        ReportForm::Json
-    }
-}
-
-/// Returns the form of a comparison, by whether JSON and CSV are asked for. JSON comes first.
-fn table_form(json: bool, csv: bool) -> TableForm
-    ensures { result ≡ table_form json csv }
-{
-    if json {
-        TableForm::Json
-    } else if csv {
-        TableForm::Csv
-    } else {
-        TableForm::Aligned
-    }
-}
-
-/// Builds the task of the command `check` from its matches.
-pub(crate) fn check_task(alloc: Global, given: &ArgMatches<'_>) -> Result<Task, AllocError>
+/// Builds the job of the command `check` from its matches.
+pub(crate) fn check_job(alloc: Global, given: &ArgMatches<'_>) -> Result<Job, AllocError>
     requires files { HasFiles (codes "solution") (rows_of (found_of given.now)) }
     requires flags { HasCheckFlags (rows_of (found_of given.now)) }
-    ensures { IfOk result (IsTaskBy (codes "check") (rows_of (found_of given.now))) }
+    ensures { IfOk result (IsJobBy (codes "check") (rows_of (found_of given.now))) }
 {
-    Ok(Task::Show {
+    Ok(Job::Check {
+        instance: text(alloc, given, "instance")?,
+        barred: option(alloc, given, "barred")?,
         solution: text(alloc, given, "solution")?,
-        showing: Showing::Report {
-            form: report_form(is_set(given, "json"), is_set(given, "name")),
-            explain: is_set(given, "explain"),
-            strict: is_set(given, "strict"),
-        },
+        json: is_set(given, "json"),
+        name: is_set(given, "name"),
+        explain: is_set(given, "explain"),
+        strict: is_set(given, "strict"),
     })
 }
 
-/// Builds the task of the command `compare` from its matches.
-pub(crate) fn compare_task(alloc: Global, given: &ArgMatches<'_>) -> Result<Task, AllocError>
+/// Builds the job of the command `compare` from its matches.
+pub(crate) fn compare_job(alloc: Global, given: &ArgMatches<'_>) -> Result<Job, AllocError>
     requires files { HasFiles (codes "solution") (rows_of (found_of given.now)) }
     requires flags { HasCompareFlags (rows_of (found_of given.now)) }
-    ensures { IfOk result (IsTaskBy (codes "compare") (rows_of (found_of given.now))) }
+    ensures { IfOk result (IsJobBy (codes "compare") (rows_of (found_of given.now))) }
 {
-    Ok(Task::Compare {
+    Ok(Job::Compare {
+        instance: text(alloc, given, "instance")?,
+        barred: option(alloc, given, "barred")?,
         solutions: texts(alloc, given, "solution")?,
-        form: table_form(is_set(given, "json"), is_set(given, "csv")),
+        csv: is_set(given, "csv"),
+        json: is_set(given, "json"),
         strict: is_set(given, "strict"),
     })
 }
@@ -84,111 +62,130 @@ fn whose(alloc: Global, given: &ArgMatches<'_>) -> Result<Option<Whose>, AllocEr
     }
 }
 
-/// Builds the task of the command `week` from its matches.
-pub(crate) fn week_task(alloc: Global, given: &ArgMatches<'_>) -> Result<Task, AllocError>
+/// Builds the job of the command `week` from its matches.
+pub(crate) fn week_job(alloc: Global, given: &ArgMatches<'_>) -> Result<Job, AllocError>
     requires files { HasFiles (codes "solution") (rows_of (found_of given.now)) }
     requires one { count_given (choices (rows_of (found_of given.now))) ≤ 1 }
-    ensures { IfOk result (IsTaskBy (codes "week") (rows_of (found_of given.now))) }
+    ensures { IfOk result (IsJobBy (codes "week") (rows_of (found_of given.now))) }
 {
-    Ok(Task::Show {
+    Ok(Job::Week {
+        instance: text(alloc, given, "instance")?,
+        barred: option(alloc, given, "barred")?,
         solution: text(alloc, given, "solution")?,
-        showing: Showing::Week(whose(alloc, given)?),
+        whose: whose(alloc, given)?,
     })
 }
 
-/// Builds the task of the command `page` from its matches.
-pub(crate) fn page_task(alloc: Global, given: &ArgMatches<'_>) -> Result<Task, AllocError>
+/// Builds the job of the command `page` from its matches.
+pub(crate) fn page_job(alloc: Global, given: &ArgMatches<'_>) -> Result<Job, AllocError>
     requires { HasFiles (codes "solution") (rows_of (found_of given.now)) }
-    ensures { IfOk result (IsTaskBy (codes "page") (rows_of (found_of given.now))) }
+    ensures { IfOk result (IsJobBy (codes "page") (rows_of (found_of given.now))) }
 {
-    Ok(Task::Show {
+    Ok(Job::Page {
+        instance: text(alloc, given, "instance")?,
+        barred: option(alloc, given, "barred")?,
         solution: text(alloc, given, "solution")?,
-        showing: Showing::Page(option(alloc, given, "days")?),
+        days: option(alloc, given, "days")?,
     })
 }
 
-/// Builds the task of the command `run` from its matches.
-pub(crate) fn run_task(alloc: Global, given: &ArgMatches<'_>) -> Result<Task, AllocError>
+/// Builds the job of the command `run` from its matches.
+pub(crate) fn run_job(alloc: Global, given: &ArgMatches<'_>) -> Result<Job, AllocError>
     requires { HasFiles (codes "script") (rows_of (found_of given.now)) }
-    ensures { IfOk result (IsTaskBy (codes "run") (rows_of (found_of given.now))) }
+    ensures { IfOk result (IsJobBy (codes "run") (rows_of (found_of given.now))) }
 {
-    Ok(Task::Run {
+    Ok(Job::Run {
+        instance: text(alloc, given, "instance")?,
+        barred: option(alloc, given, "barred")?,
         script: text(alloc, given, "script")?,
         start: option(alloc, given, "start")?,
         journal: option(alloc, given, "journal")?,
     })
 }
 
-/// Builds the task of the command `audit` from its matches.
-pub(crate) fn audit_task(alloc: Global, given: &ArgMatches<'_>) -> Result<Task, AllocError>
+/// Builds the job of the command `audit` from its matches.
+pub(crate) fn audit_job(alloc: Global, given: &ArgMatches<'_>) -> Result<Job, AllocError>
     requires { HasFiles (codes "journal") (rows_of (found_of given.now)) }
-    ensures { IfOk result (IsTaskBy (codes "audit") (rows_of (found_of given.now))) }
+    ensures { IfOk result (IsJobBy (codes "audit") (rows_of (found_of given.now))) }
 {
-    Ok(Task::Audit {
+    Ok(Job::Audit {
+        instance: text(alloc, given, "instance")?,
+        barred: option(alloc, given, "barred")?,
         journal: text(alloc, given, "journal")?,
         start: option(alloc, given, "start")?,
     })
 }
 
-/// Builds the task of the command `crew` from its matches.
-pub(crate) fn crew_task(alloc: Global, given: &ArgMatches<'_>) -> Result<Task, AllocError>
+/// Builds the job of the command `crew` from its matches.
+pub(crate) fn crew_job(alloc: Global, given: &ArgMatches<'_>) -> Result<Job, AllocError>
     requires { HasFiles (codes "script") (rows_of (found_of given.now)) }
-    ensures { IfOk result (IsTaskBy (codes "crew") (rows_of (found_of given.now))) }
+    ensures { IfOk result (IsJobBy (codes "crew") (rows_of (found_of given.now))) }
 {
-    Ok(Task::Crew {
+    Ok(Job::Crew {
+        instance: text(alloc, given, "instance")?,
+        barred: option(alloc, given, "barred")?,
         scripts: texts(alloc, given, "script")?,
     })
 }
 
-/// Builds the task of the command `desk` from its matches.
-pub(crate) fn desk_task(alloc: Global, given: &ArgMatches<'_>) -> Result<Task, AllocError>
+/// Builds the job of the command `desk` from its matches.
+pub(crate) fn desk_job(alloc: Global, given: &ArgMatches<'_>) -> Result<Job, AllocError>
     requires { HasFiles (codes "seat") (rows_of (found_of given.now)) }
-    ensures { IfOk result (IsTaskBy (codes "desk") (rows_of (found_of given.now))) }
+    ensures { IfOk result (IsJobBy (codes "desk") (rows_of (found_of given.now))) }
 {
-    Ok(Task::Desk {
+    Ok(Job::Desk {
+        instance: text(alloc, given, "instance")?,
+        barred: option(alloc, given, "barred")?,
         seats: texts(alloc, given, "seat")?,
         start: option(alloc, given, "start")?,
         minutes: option(alloc, given, "minutes")?,
     })
 }
 
-/// Builds the task of the command `journal` from its matches.
-pub(crate) fn journal_task(alloc: Global, given: &ArgMatches<'_>) -> Result<Task, AllocError>
+/// Builds the job of the command `journal` from its matches.
+pub(crate) fn journal_job(alloc: Global, given: &ArgMatches<'_>) -> Result<Job, AllocError>
     requires { HasFiles (codes "minutes") (rows_of (found_of given.now)) }
-    ensures { IfOk result (IsTaskBy (codes "journal") (rows_of (found_of given.now))) }
+    ensures { IfOk result (IsJobBy (codes "journal") (rows_of (found_of given.now))) }
 {
-    Ok(Task::Journal {
+    Ok(Job::Journal {
+        instance: text(alloc, given, "instance")?,
+        barred: option(alloc, given, "barred")?,
         minutes: text(alloc, given, "minutes")?,
     })
 }
 
-/// Builds the task of the command `list` from its matches.
-pub(crate) fn list_task(alloc: Global, given: &ArgMatches<'_>) -> Result<Task, AllocError>
+/// Builds the job of the command `list` from its matches.
+pub(crate) fn list_job(alloc: Global, given: &ArgMatches<'_>) -> Result<Job, AllocError>
     requires { HasFiles (codes "journal") (rows_of (found_of given.now)) }
-    ensures { IfOk result (IsTaskBy (codes "list") (rows_of (found_of given.now))) }
+    ensures { IfOk result (IsJobBy (codes "list") (rows_of (found_of given.now))) }
 {
-    Ok(Task::Listing {
+    Ok(Job::List {
+        instance: text(alloc, given, "instance")?,
+        barred: option(alloc, given, "barred")?,
         journal: text(alloc, given, "journal")?,
         start: option(alloc, given, "start")?,
     })
 }
 
-/// Builds the task of the command `mend` from its matches.
-pub(crate) fn mend_task(alloc: Global, given: &ArgMatches<'_>) -> Result<Task, AllocError>
+/// Builds the job of the command `mend` from its matches.
+pub(crate) fn mend_job(alloc: Global, given: &ArgMatches<'_>) -> Result<Job, AllocError>
     requires { HasFiles (codes "solution") (rows_of (found_of given.now)) }
-    ensures { IfOk result (IsTaskBy (codes "mend") (rows_of (found_of given.now))) }
+    ensures { IfOk result (IsJobBy (codes "mend") (rows_of (found_of given.now))) }
 {
-    Ok(Task::Mending {
+    Ok(Job::Mend {
+        instance: text(alloc, given, "instance")?,
+        barred: option(alloc, given, "barred")?,
         solution: text(alloc, given, "solution")?,
     })
 }
 
-/// Builds the task of the command `where` from its matches.
-pub(crate) fn where_task(alloc: Global, given: &ArgMatches<'_>) -> Result<Task, AllocError>
+/// Builds the job of the command `where` from its matches.
+pub(crate) fn where_job(alloc: Global, given: &ArgMatches<'_>) -> Result<Job, AllocError>
     requires { HasFiles (codes "word") (rows_of (found_of given.now)) }
-    ensures { IfOk result (IsTaskBy (codes "where") (rows_of (found_of given.now))) }
+    ensures { IfOk result (IsJobBy (codes "where") (rows_of (found_of given.now))) }
 {
-    Ok(Task::Where {
+    Ok(Job::Where {
+        file: text(alloc, given, "instance")?,
         word: text(alloc, given, "word")?,
     })
 }

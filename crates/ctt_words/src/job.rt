@@ -16,108 +16,100 @@ pub enum Whose {
     Room(String),
 }
 
-/// The form of a report.
-#[derive(Clone, Copy, PartialEq, Eq)]
-pub enum ReportForm {
-    /// Lines of text.
-    Text,
-    /// A JSON object.
-    Json,
-    /// A JSON object that begins with the name of the solution's file.
-    NamedJson,
-}
-
-/// The form of a comparison.
-#[derive(Clone, Copy, PartialEq, Eq)]
-pub enum TableForm {
-    /// A table with aligned columns.
-    Aligned,
-    /// Comma-separated values.
-    Csv,
-    /// A JSON array.
-    Json,
-}
-
-/// How a solution is shown.
+/// What the program is asked to do, by its command. Files are given by name. `barred` is the file of
+/// the rooms that are barred for courses, if there is one, and `start` the solution that a desk opens
+/// with, or none if it opens empty.
 #[derive(Drop)]
-pub enum Showing {
-    /// As a report. `explain` adds the findings, and `strict` makes the exit status say whether the
-    /// solution is lawful and complete.
-    Report {
-        form: ReportForm,
+pub enum Job {
+    /// To report on a solution. `name` begins a JSON report with the name of the solution's file,
+    /// `explain` adds the findings, and `strict` makes the exit status say whether the solution is
+    /// lawful and complete.
+    Check {
+        instance: String,
+        barred: Option<String>,
+        solution: String,
+        json: bool,
+        name: bool,
         explain: bool,
         strict: bool,
-    },
-    /// As tables of its week, for all rooms or for what is named.
-    Week(Option<Whose>),
-    /// As a page for a browser, with the names of days if they are given, separated by commas.
-    Page(Option<String>),
-}
-
-/// What the program is asked to do. Files are given by name.
-#[derive(Drop)]
-pub struct Job {
-    /// The file of the instance, or the file that `where` looks into.
-    pub instance: String,
-    /// The file of the rooms that are barred for courses, if there is one.
-    pub barred: Option<String>,
-    /// The task with this instance.
-    pub task: Task,
-}
-
-/// A task with an instance.
-#[derive(Drop)]
-pub enum Task {
-    /// To show a solution.
-    Show {
-        solution: String,
-        showing: Showing,
     },
     /// To compare solutions. `strict` makes the exit status say whether all of them are lawful and
     /// complete.
     Compare {
+        instance: String,
+        barred: Option<String>,
         solutions: Vec<String>,
-        form: TableForm,
+        csv: bool,
+        json: bool,
         strict: bool,
     },
-    /// To run a script on a desk that opens with a solution or empty, and to store the journal if a
-    /// file is given for it.
+    /// To show the week of a solution as tables, for all rooms or for what is named.
+    Week {
+        instance: String,
+        barred: Option<String>,
+        solution: String,
+        whose: Option<Whose>,
+    },
+    /// To show a solution as a page for a browser, with the names of days if they are given,
+    /// separated by commas.
+    Page {
+        instance: String,
+        barred: Option<String>,
+        solution: String,
+        days: Option<String>,
+    },
+    /// To run a script on a desk, and to store the journal if a file is given for it.
     Run {
+        instance: String,
+        barred: Option<String>,
         script: String,
         start: Option<String>,
         journal: Option<String>,
     },
-    /// To audit a journal on a desk that opens with a solution or empty.
+    /// To audit a journal on a desk.
     Audit {
+        instance: String,
+        barred: Option<String>,
         journal: String,
         start: Option<String>,
     },
     /// To run scripts on one desk that opens empty, each by a planner on its own thread.
     Crew {
+        instance: String,
+        barred: Option<String>,
         scripts: Vec<String>,
     },
-    /// To run a desk that opens with a solution or empty, with a seat for each planner, and to
-    /// write the minutes if a file is given for them.
+    /// To run a desk with a seat for each planner, and to write the minutes if a file is given for
+    /// them.
     Desk {
+        instance: String,
+        barred: Option<String>,
         seats: Vec<String>,
         start: Option<String>,
         minutes: Option<String>,
     },
     /// To print the journal of the minutes of a desk.
     Journal {
+        instance: String,
+        barred: Option<String>,
         minutes: String,
     },
     /// To print the timetable after a journal as a solution.
-    Listing {
+    List {
+        instance: String,
+        barred: Option<String>,
         journal: String,
         start: Option<String>,
     },
     /// To print a solution without the lectures that cannot be placed.
-    Mending {
+    Mend {
+        instance: String,
+        barred: Option<String>,
         solution: String,
     },
     /// To find the word of this number in a file.
     Where {
+        file: String,
         word: String,
     },
 }

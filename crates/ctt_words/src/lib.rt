@@ -8,5 +8,5 @@ mod job;
 mod outline;
 mod words;
 
-pub use job::{Job, ReportForm, Showing, TableForm, Task, Whose, WordsFault};
+pub use job::{Job, Whose, WordsFault};
 pub use words::read_words;

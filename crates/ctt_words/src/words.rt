@@ -2,15 +2,15 @@
 
 ghost use Rattle.std.specs.Prelude.{◌≡◌, ◌↔◌, [], map, IfOk, IfErr, IsErrAnd, IsTrue, OnOk};
 ghost use Rattle.clap.specs.Words.{found_of, kind_of, rows_of, subcommand_rows_of};
-ghost use Rattle.ctt_words.specs.Jobs.{AsksForSeveral, IsFaultOf, IsJobBy, IsJobIn, IsJobOf, IsMatched, IsNoJobIn, IsOfKind, IsTaskBy, IsWhole, SaysSeveral, WantsSeveral, faults_of};
+ghost use Rattle.ctt_words.specs.Jobs.{AsksForSeveral, IsFaultOf, IsJobBy, IsJobIn, IsJobOf, IsMatched, IsNoJobIn, IsOfKind, IsWhole, SaysSeveral, WantsSeveral, faults_of};
 
-use crate::arguments::{count, option, text};
+use crate::arguments::count;
 use crate::commands::{command_line, command_named};
 use crate::found::{
-    audit_task, check_task, compare_task, crew_task, desk_task, journal_task, list_task, mend_task,
-    page_task, run_task, week_task, where_task,
+    audit_job, check_job, compare_job, crew_job, desk_job, journal_job, list_job, mend_job,
+    page_job, run_job, week_job, where_job,
 };
-use crate::job::{Job, Task, WordsFault};
+use crate::job::{Job, WordsFault};
 use crate::outline::Name;
 use clap::ArgMatches;
 use clap::error::ErrorKind;
@@ -47,40 +47,27 @@ fn fault_of_words(alloc: Global, error: clap::Error) -> WordsFault
     }
 }
 
-/// Builds the task of the command of this name from its matches.
-fn task_by(alloc: Global, name: &str, given: &ArgMatches<'_>) -> Result<Task, AllocError>
-    requires whole { IsWhole name.now (rows_of (found_of given.now)) }
-    requires one { ¬ WantsSeveral name.now (rows_of (found_of given.now)) }
-    ensures { IfOk result (IsTaskBy name.now (rows_of (found_of given.now))) }
-{
-    match command_named(name) {
-        Some(Name::Check) => check_task(alloc, given),
-        Some(Name::Compare) => compare_task(alloc, given),
-        Some(Name::Week) => week_task(alloc, given),
-        Some(Name::Page) => page_task(alloc, given),
-        Some(Name::Run) => run_task(alloc, given),
-        Some(Name::Audit) => audit_task(alloc, given),
-        Some(Name::Crew) => crew_task(alloc, given),
-        Some(Name::Desk) => desk_task(alloc, given),
-        Some(Name::Journal) => journal_task(alloc, given),
-        Some(Name::List) => list_task(alloc, given),
-        Some(Name::Mend) => mend_task(alloc, given),
-        Some(Name::Where) => where_task(alloc, given),
-        None => unreachable!(),
-    }
-}
-
 /// Builds the job of the command of this name from its matches.
 fn job_by(alloc: Global, name: &str, given: &ArgMatches<'_>) -> Result<Job, AllocError>
     requires whole { IsWhole name.now (rows_of (found_of given.now)) }
     requires one { ¬ WantsSeveral name.now (rows_of (found_of given.now)) }
     ensures { IfOk result (IsJobBy name.now (rows_of (found_of given.now))) }
 {
-    Ok(Job {
-        instance: text(alloc, given, "instance")?,
-        barred: option(alloc, given, "barred")?,
-        task: task_by(alloc, name, given)?,
-    })
+    match command_named(name) {
+        Some(Name::Check) => check_job(alloc, given),
+        Some(Name::Compare) => compare_job(alloc, given),
+        Some(Name::Week) => week_job(alloc, given),
+        Some(Name::Page) => page_job(alloc, given),
+        Some(Name::Run) => run_job(alloc, given),
+        Some(Name::Audit) => audit_job(alloc, given),
+        Some(Name::Crew) => crew_job(alloc, given),
+        Some(Name::Desk) => desk_job(alloc, given),
+        Some(Name::Journal) => journal_job(alloc, given),
+        Some(Name::List) => list_job(alloc, given),
+        Some(Name::Mend) => mend_job(alloc, given),
+        Some(Name::Where) => where_job(alloc, given),
+        None => unreachable!(),
+    }
 }
 
 /// Builds the job from the matches of all words.

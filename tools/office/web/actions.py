@@ -3,7 +3,7 @@ from __future__ import annotations
 
 from typing import Any, Dict, List
 
-from office.keys import ACTIONS, BY_NAME
+from office.keys import ACTIONS, BY_NAME, NAMED
 
 # keys that a browser has otherwise: Tab leaves the week there, and / is a key of searches
 KEYS = {
@@ -13,8 +13,8 @@ KEYS = {
     "view": ["v", "/"],
     "take out": ["x", "Delete"],
 }
-# what has no key there: one leaves by closing the window, and prints by the browser
-NONE = ("leave", "last", "print")
+# what has no key there, and what does it
+ELSEWHERE = {"last": "the arrows in the list of rooms"}
 HELP = {
     "cheapest": "goes to the slot with the cheapest price.",
     "history": "lists the drafts that have changed the course at the cursor, or the week if "
@@ -27,6 +27,7 @@ HELP = {
     "findings": "lists what breaks a rule or costs points, the worst first, and gaps; each leads "
     "where it is.",
     "next": "lists the rooms of a slot by price, of a swap the lectures to change places with.",
+    "print": "makes a page to print or to send of the week that is seen, with your draft in it.",
 }
 BUTTONS = {
     "redo": "Make my edits again",
@@ -54,7 +55,7 @@ class KeyNames(Dict[str, str]):
 
     def __missing__(self, name: str) -> str:
         keys = keys_of(name)
-        return said_key(keys[0]) if keys else "closing the window"
+        return said_key(keys[0]) if keys else ELSEWHERE[name]
 
 
 def button(name: str) -> str:
@@ -63,8 +64,14 @@ def button(name: str) -> str:
     return BUTTONS.get(name, short[:1].upper() + short[1:])
 
 
+def letter(name: str) -> str:
+    """The letter of an answer, where nothing is typed; not all have one."""
+    key = BY_NAME[name].key
+    return "" if key in NAMED else key
+
+
 def keys_of(name: str) -> List[str]:
-    if name in NONE:
+    if name in ELSEWHERE:
         return []
     return KEYS.get(name, [BY_NAME[name].key])
 

@@ -116,7 +116,10 @@ class Picture:
             "mine": cell.is_mine,
             "others": [self.wording.notice(changed.data["who"])] if changed else [],
             "changed": self.wording.notice(changed) if changed else "",
-            "now": [brief(one) for one in newest] if cell.is_others else [],
+            # what stands there for all others, if that is not what is drawn
+            "now": [brief(one) for one in newest]
+            if cell.is_others and newest != cell.lectures
+            else None,
             "closed": cell.is_closed,
             "gone": [brief(one) for one in gone] if cell.is_mine else [],
             "working": sorted({self.wording.safe(one.name) for one in cell.at_work}),
@@ -164,7 +167,9 @@ class Picture:
             "course": lecture.course,
             "said": wording.course(lecture.course),
             "where": wording.slot(lecture.slot),
-            "lines": [room, *self.course_lines(lecture.course), *wording.lines(told)],
+            "lines": [room, *self.course_lines(lecture.course)],
+            # what others have to do with it
+            "told": wording.lines(told),
             "weeks": [[view, wording.short(*view)] for view in weeks_of(instance, lecture)],
         }
 

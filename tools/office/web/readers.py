@@ -62,7 +62,7 @@ class Readers:
         self.pictures += 1
         closed = self.instance.closed[view.name] if view.kind == "course" else set()
         lectures = by_slot(of_view(self.timetable, view))
-        blank: Data = {"mine": False, "others": [], "now": [], "gone": [], "working": []}
+        blank: Data = {"mine": False, "others": [], "now": None, "gone": [], "working": []}
         cells = [
             {
                 "at": slot,
@@ -83,6 +83,12 @@ class Readers:
             for window in self.windows.all():
                 if window.is_listening:
                     window.tell({"picture": self.picture(window)})
+
+    async def rename(self) -> None:
+        """Tells who reads what things are called now."""
+        for window in self.windows.all():
+            if window.is_listening:
+                window.tell({"names": self.frame.told(), "picture": self.picture(window)})
 
     def tell(self, event: Data) -> None:
         for window in self.windows.all():

@@ -18,7 +18,7 @@ from tornado.iostream import IOStream
 
 from office.at import instance_of
 from office.folder import Day
-from office.label_files import read_labels
+from office.label_files import Watched
 from office.refused import Refused
 from office.web.actions import KeyNames
 from office.web.frame import Frame, PageWording, isolated
@@ -77,8 +77,10 @@ class Office:
         self.day, self.guard = day, guard
         self.pages = read_pages()
         self.connections = Connections()
-        wording = PageWording(KeyNames(), read_labels(day.path), isolated)
-        frame = Frame(instance_of(day), wording)
+        self.labels = Watched(day.path)
+        self.frame = frame = Frame(
+            instance_of(day), PageWording(KeyNames(), self.labels.labels, isolated)
+        )
         self.readers = Readers(day, frame)
         self.sitters = [Sitter(day, planner, frame) for planner in range(day.facts()["planners"])]
         self.keys_at = self.stat_keys()
@@ -98,7 +100,7 @@ class Office:
             known = place.windows.known(window)
         found: Data = await place.answer(known, verb, told)
         if verb == "hello":
-            found.update(day=self.day.name, closes=self.closes)
+            found.update(day=self.day.name, closes=self.closes, now=time.time())
         if verb == "hello" and who != READER:
             # the others are told at the next look
             found.update(people=self.who_sits())
@@ -115,13 +117,18 @@ class Office:
     async def watch(self, stop: asyncio.Event) -> None:
         """Looks for news until the office closes, or the server is ended."""
         while not stop.is_set() and not self.is_over():
-            with contextlib.suppress(asyncio.TimeoutError):
-                await asyncio.wait_for(stop.wait(), TICK)
             self.look_at_keys()
+            await self.look_at_labels()
             await self.look()
             self.tell_closing()
+            with contextlib.suppress(asyncio.TimeoutError):
+                await asyncio.wait_for(stop.wait(), TICK)
+        if self.closes is None:
+            # a desk that has died closes no office: its seats are told so first
+            await self.look()
         for place in self.places():
             place.tell({"over": True})
+            place.windows.end_all()
         await asyncio.sleep(FAREWELL)
         for sitter in self.sitters:
             await sitter.leave()
@@ -152,6 +159,13 @@ class Office:
             self.closes = at
             for place in self.places():
                 place.tell({"closes": at})
+
+    async def look_at_labels(self) -> None:
+        """Takes up names and times that have changed."""
+        if self.labels.read_on():
+            self.frame.wording.labels = self.labels.labels
+            for place in self.places():
+                await place.rename()
 
     def stat_keys(self) -> int:
         try:

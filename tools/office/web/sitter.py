@@ -12,6 +12,7 @@ from office.costs import COSTS
 from office.folder import Day, is_locked
 from office.notice import NOTHING, Question, say
 from office.planning import Planning
+from office.print_week import page_of
 from office.refused import Refused
 from office.seat import DEAD, DeskEnded, NoAnswer, Seat, read_sitter
 from office.web.actions import key_table
@@ -27,6 +28,8 @@ from office.work import Work
 # so many requests of a seat may wait for their turn; a seat without a window is left after so many
 # seconds; so many drafts are told when a window begins; letters of a name
 WAIT, IDLE, DRAFTS, NAME = 16, 30.0, 40, 40
+# the status of a seat whose desk has ended or does not answer
+LOST = 503
 FAREWELL = (
     "The office has closed: what you have committed is on the disk, and open edits are offered "
     "again on the next day."
@@ -49,12 +52,14 @@ class Sitter:
         # by how much each edit of the draft has changed the cost when it was made
         self.prices: Dict[str, int] = {}
         self._waiting = 0
+        # whether the windows were told that the desk does not answer
+        self._is_slow = False
         self._thread = ThreadPoolExecutor(1, f"seat-{planner}")
 
     # what is asked
 
     async def answer(self, window: Window, verb: str, data: Data) -> Data:
-        if verb != "hello" and verb not in ("answer", "close", "about") and verb not in VERBS:
+        if verb not in ("hello", "answer", "close", "about", "print") and verb not in VERBS:
             raise Fault(404, "nothing is here")
         if verb == "hello":
             self.loop = asyncio.get_running_loop()
@@ -72,8 +77,17 @@ class Sitter:
         self._waiting += 1
         try:
             return await asyncio.get_running_loop().run_in_executor(self._thread, self._do, work)
+        except Fault as fault:
+            if fault.status == LOST:
+                # all windows hear it, whichever of them has asked
+                self.tell({"fault": fault.why})
+                self.windows.end_all()
+            raise
         finally:
             self._waiting -= 1
+            if self._is_slow:
+                self._is_slow = False
+                self.tell({"waits": ""})
 
     def _do(self, work: Callable[[], Data]) -> Data:
         try:
@@ -82,10 +96,10 @@ class Sitter:
             raise Fault(409, refused.reason) from None
         except DeskEnded:
             self._go()
-            raise Fault(503, DEAD) from None
+            raise Fault(LOST, DEAD) from None
         except NoAnswer:
             self._go()
-            raise Fault(503, "the desk does not answer") from None
+            raise Fault(LOST, "the desk does not answer") from None
 
     # in the seat's thread
 
@@ -107,7 +121,6 @@ class Sitter:
             self._hold_again(shown, data.get("held"))
         if self.first is not None:
             shown.ask(self.first)
-        news = planning.news.accepted[-DRAFTS:]
         return {
             "seat": self.planner,
             "name": self.frame.wording.safe(planning.seat.name),
@@ -115,7 +128,7 @@ class Sitter:
             "parts": COSTS,
             "farewell": FAREWELL,
             **self.frame.told(),
-            "news": [news_data(planning, self.frame.wording, one) for one in news],
+            "news": self._news(planning),
             "picture": self._picture(shown),
             "question": question_data(self.frame.wording, shown),
             "notice": self._notice(),
@@ -147,6 +160,7 @@ class Sitter:
     def _tell_waiting(self, seconds: float) -> None:
         """The windows are told that the desk does not answer; this runs in the seat's thread."""
         told = self.frame.wording.notice(say("no answer yet", seconds=round(seconds)))
+        self._is_slow = True
         self.loop.call_soon_threadsafe(self.tell, {"waits": told})
 
     def _go(self) -> None:
@@ -173,6 +187,8 @@ class Sitter:
             lecture = told.lecture()
             picture = Picture(self.frame, shown.work, self.prices)
             return {"about": picture.about(lecture) if lecture else None}
+        if verb == "print":
+            return self._print(shown)
         accepted, cost = len(planning.seat.story.accepted), sum(planning.costs().values())
         planning.notice = planning.alarm = NOTHING
         self._act(shown, verb, told)
@@ -188,6 +204,12 @@ class Sitter:
             found["others"] = self._pictures(window)
             found["committed"] = len(planning.seat.story.accepted) > accepted
         return found
+
+    def _print(self, shown: Shown) -> Data:
+        """The week that is seen as a page that needs nothing else."""
+        page = page_of(shown.planning, shown.work.view)
+        told = notice_data(self.frame.wording, say("page made", path=page.name))
+        return {"page": page._asdict(), "notice": told}
 
     def _act(self, shown: Shown, verb: str, told: Told) -> None:
         """Does what is asked, and keeps what is to be asked then."""
@@ -243,14 +265,10 @@ class Sitter:
         if self.windows.idle_for() > IDLE:
             await self.leave()
         else:
-            try:
+            with contextlib.suppress(Fault):
                 found = await self.do(self._look)
-            except Fault as fault:
-                self.tell({"fault": fault.why})
-                self.windows.end_all()
-                return
-            for window, event in found["others"]:
-                window.tell({"news": found["news"], **event})
+                for window, event in found["others"]:
+                    window.tell({"news": found["news"], **event})
 
     def _look(self) -> Data:
         planning = self.planning
@@ -264,6 +282,25 @@ class Sitter:
         self.heard += len(new)
         news = [news_data(planning, self.frame.wording, one) for one in new]
         return {"news": news, "others": self._pictures() if new or is_new else []}
+
+    def _news(self, planning: Planning) -> List[Data]:
+        """The last drafts that were accepted."""
+        found = planning.news.accepted[-DRAFTS:]
+        return [news_data(planning, self.frame.wording, one) for one in found]
+
+    async def rename(self) -> None:
+        """Tells the windows what things are called now."""
+        if self.planning is None:
+            return
+        with contextlib.suppress(Fault):
+            for window, event in (await self.do(self._renamed))["others"]:
+                window.tell(event)
+
+    def _renamed(self) -> Data:
+        if self.planning is None:
+            return {"others": []}
+        told = {"names": self.frame.told(), "accepted": self._news(self.planning)}
+        return {"others": [(window, {**event, **told}) for window, event in self._pictures()]}
 
     def tell(self, event: Data) -> None:
         for window in self.windows.all():

@@ -9,7 +9,7 @@ from office.news import Accepted
 from office.notice import Notice
 from office.planning import Planning
 from office.text import counted
-from office.web.actions import button
+from office.web.actions import button, letter
 from office.web.asking import Shown
 from office.wording import Wording
 
@@ -31,7 +31,10 @@ def question_data(wording: Wording, shown: Shown) -> Optional[Data]:
         "number": shown.asked,
         "title": wording.notice(question.title),
         "lines": [{"code": one.code, "text": wording.notice(one)} for one in lines],
-        "answers": [{"name": name, "said": button(name)} for name in answers],
+        "answers": [
+            {"name": name, "said": button(name), "key": "" if line else letter(name)}
+            for name in answers
+        ],
         "choices": wording.lines([told for told, _ in question.choices]),
         "canWait": question.can_wait,
     }

@@ -11,7 +11,6 @@ from office.timetable import Lecture, Slot
 from office.web.asking import Asking, Shown
 from office.web.guard import Fault
 from office.week import KINDS, View
-from office.work import Work
 
 Data = Dict[str, Any]
 # letters of a line that is typed by hand
@@ -147,15 +146,19 @@ class Turn:
         line = self.told.text("line", LINE)
         if not line:
             return None
-        if line.split()[0] == "leave":
-            raise Fault(400, "`leave` ends the seat for the day: that is typed at a terminal")
         self.work.carry = None
-        return self.work.drafting.type_line(line)
+        if line == "leave":
+            self.work.leave()
+        elif line == "commit":
+            Asking(self.shown).show_box()
+        else:
+            return self.work.drafting.type_line(line)
+        return None
 
-    def act(self) -> Optional[Question]:
-        """An action of the draft, by its name."""
+    def acts(self) -> Dict[str, Callable[[], Optional[Question]]]:
+        """The actions that ask nothing but their name, and perhaps a lecture."""
         drafting, asking = self.work.drafting, Asking(self.shown)
-        acts: Dict[str, Callable[[], Optional[Question]]] = {
+        return {
             "undo": drafting.undo,
             "history": lambda: self.work.drafts_of(self.told.lecture()),
             "pin": lambda: asking.pin(self.told.lecture()),
@@ -169,8 +172,12 @@ class Turn:
             "refresh": drafting.refresh,
             "redo": drafting.redo,
             "abandon": drafting.ask_abandon,
+            "leave": self.work.leave,
         }
-        name = self.told.data.get("name")
+
+    def act(self) -> Optional[Question]:
+        """An action of the draft, by its name."""
+        acts, name = self.acts(), self.told.data.get("name")
         if not isinstance(name, str) or name not in acts:
             raise Fault(400, "nothing of this name is done here")
         if name not in LOOKS:

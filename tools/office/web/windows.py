@@ -72,9 +72,17 @@ class Windows:
         """A window that begins."""
         if name not in self.by_name:
             if len(self.by_name) >= self.most:
-                raise Fault(429, f"{self.most} windows of this link are open: close one of them")
+                self._make_room()
             self.by_name[name] = Window(self, name)
         return self.by_name[name]
+
+    def _make_room(self) -> None:
+        """Forgets the oldest of those that do not listen, as a page that was loaded anew before it
+        did."""
+        silent = [window for window in self.all() if not window.is_listening]
+        if not silent:
+            raise Fault(429, f"{self.most} windows of this link are open: close one of them")
+        self.forget(min(silent, key=lambda window: window.met))
 
     def known(self, name: str) -> Window:
         """A window that has begun here."""

@@ -1,6 +1,6 @@
 // What each key, button and drag does: it is asked of the office, with what was seen.
 import * as boxes from "./boxes.js";
-import { announce, find } from "./dom.js";
+import { announce, find, save } from "./dom.js";
 import { chosen, heldSaid, heldShort } from "./held.js";
 import { openMenu } from "./menu.js";
 import { same } from "./numbers.js";
@@ -140,6 +140,12 @@ class Acts {
     return this.turn("answer", { question, answer, ...more });
   }
 
+  // the week that is seen as a page of its own
+  async print() {
+    const { page } = await this.turn("print");
+    if (page) save(page.name, page.text);
+  }
+
   typeLine() {
     boxes.askLine((line) => this.queue(() => this.turn("line", { line })));
   }
@@ -157,8 +163,9 @@ class Acts {
       "take out": () => this.takeOut(lecture),
       view: () => this.search(),
       weeks: () => this.nextWeek(lecture),
+      print: () => this.print(),
       line: () => this.typeLine(),
-      help: () => boxes.help(this.app.day.keys),
+      help: () => boxes.help(this.app.day.keys, this.queued),
       next: () => this.rooms(slot, lecture),
       "lay down": () => this.layDown(),
     }[name];
@@ -186,6 +193,7 @@ export function makeActs(parts) {
     },
   };
   for (const name of QUEUED) acts[name] = (...told) => raw.queue(() => raw[name](...told));
+  raw.queued = acts.act;
   acts.more = (slot) => acts.rooms(slot, raw.week.seen(slot));
   acts.tap = (slot) => {
     raw.app.recent.clear();

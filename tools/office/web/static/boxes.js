@@ -4,13 +4,27 @@ import { kindOf, number, signed } from "./numbers.js";
 
 let before = null;
 
-function open(title, parts, { cls = "", cancel } = {}) {
+// letters: what is done by a letter, where nothing is typed
+function open(title, parts, { cls = "", cancel, letters = {} } = {}) {
   const box = find("box");
   if (!box.open) before = document.activeElement;
   box.className = cls;
   box.oncancel = (event) => {
     event.preventDefault();
     cancel?.();
+  };
+  // a browser may close a box by itself, whatever the page says
+  box.onclose = () => {
+    if (!find("box-title") || box.open) return;
+    if (cancel) cancel();
+    else box.showModal();
+  };
+  box.onkeydown = (event) => {
+    const act = letters[event.key.toLowerCase()];
+    const isTyped = event.ctrlKey || event.metaKey || event.altKey || event.target.matches("input");
+    if (!act || isTyped || event.repeat) return;
+    event.preventDefault();
+    act();
   };
   box.replaceChildren(el("h2", { id: "box-title" }, name(title)), ...parts.filter(Boolean));
   if (!box.open) box.showModal();
@@ -21,9 +35,9 @@ function open(title, parts, { cls = "", cancel } = {}) {
 
 export function close() {
   const box = find("box");
-  if (!box.open) return;
-  box.close();
+  if (!find("box-title")) return;
   box.replaceChildren();
+  if (box.open) box.close();
   const week = find("week").querySelector("[tabindex='0']");
   const target = before?.isConnected && before !== document.body ? before : week;
   target?.focus();
@@ -53,9 +67,10 @@ export function askName({ seat, last }, proposed) {
     };
     const value = last || proposed;
     const more = { maxlength: "40", value, autofocus: true, autocomplete: "name" };
-    const told =
-      `This link is seat ${seat} of the day. ` +
-      "Your name is shown to the other planners, and is in the log.";
+    const told = [
+      `This link is seat ${seat} of the day. `,
+      "Your name is shown to the other planners, and is in the log.",
+    ];
     open(
       "Who sits down?",
       [
@@ -158,11 +173,12 @@ export function ask(question, acts) {
   const first = answers.length ? go(answers[0].name) : back;
   const isRead = !answers.length && !choices.length;
   const made = answers.map((one, at) =>
-    button(one.name, one.said, go(one.name), {
+    button(one.name, [one.said, one.key ? [" ", key(one.key.toUpperCase())] : null], go(one.name), {
       cls: at === 0 ? "primary" : "",
       autofocus: at === 0 && !why,
     })
   );
+  const keyed = answers.filter((one) => one.key);
   const shown = el("div", { cls: "lines" }, lines.map(linePart));
   const backButton = button("back", isRead ? "Go on" : "Back", back, { autofocus: isRead });
   open(
@@ -174,7 +190,10 @@ export function ask(question, acts) {
       ...(why ? field("why", why.label, { maxlength: "200", autofocus: true }, first) : []),
       buttons(canWait ? backButton : null, made.reverse()),
     ],
-    { cancel: canWait ? back : null }
+    {
+      cancel: canWait ? back : null,
+      letters: Object.fromEntries(keyed.map((one) => [one.key, go(one.name)])),
+    }
   );
 }
 
@@ -186,20 +205,26 @@ export function foretell(text) {
   line.replaceChildren(name(text));
 }
 
-// each key in a sentence, and the signs
-export function help(keys) {
+// each key in a sentence, which does the same if it is pressed here; and the signs
+export function help(keys, act) {
   const keyList = keys.filter((one) => one.help);
   const term = (one, text) => [el("dt", {}, one), el("dd", {}, text)];
   const sign = (cls, text) => el("span", { cls: `${cls} static` }, text);
+  const press = (one) => () => {
+    before = null;
+    close();
+    act(one.name);
+  };
+  const made = (one) => button(one.name, key(one.said), press(one), { "aria-label": one.name });
   open(
     "Keys and signs",
     [
-      el("h3", {}, "Keys, in the week"),
+      el("h3", {}, "Keys, in the week; each can be pressed here, too"),
       el(
         "dl",
         { cls: "keys" },
         term(key("arrows"), "move the cursor over the week; Tab leaves the week for the panels"),
-        keyList.map((one) => term(key(one.said), one.help))
+        keyList.map((one) => term(made(one), one.help))
       ),
       el("h3", {}, "Signs"),
       el(

@@ -18,14 +18,16 @@ export function signs(lecture, kind) {
 
 const line = (cls, ...parts) => el("div", { cls: `line ${cls}` }, ...parts);
 
+const pencil = () => el("span", { cls: "pencil", "aria-hidden": "true" }, "✎");
+
 // what the week's title says already is dim
-export function card(lecture, [kind], { canMove }) {
+export function card(lecture, [kind], { canMove }, isMine) {
   const grip = el("span", { cls: "grip", "aria-hidden": "true", title: "drag" }, "⠿");
   const people = `${lecture.students}/${lecture.seats}`;
   return el(
     "div",
     { cls: "card", css: { "--hue": lecture.hue } },
-    line("", name(lecture.said, "course"), canMove ? grip : null),
+    line("", name(lecture.said, "course"), isMine ? pencil() : null, canMove ? grip : null),
     line(
       "place",
       name(lecture.room_said, kind === "room" ? "room dim" : "room"),

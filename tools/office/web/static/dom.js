@@ -46,6 +46,13 @@ export function refill(box, ...children) {
   (again && !again.disabled ? again : week)?.focus({ preventScroll: true });
 }
 
+// hands a page to the browser, to be kept as a file
+export function save(file, text) {
+  const href = URL.createObjectURL(new Blob([text], { type: "text/html" }));
+  el("a", { href, download: file }).click();
+  setTimeout(() => URL.revokeObjectURL(href), 60000);
+}
+
 export const key = (text) => el("kbd", {}, text);
 
 // what a person hears who does not see

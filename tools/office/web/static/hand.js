@@ -45,6 +45,13 @@ class Hand {
     if (slot && (!this.over || keyOf(slot) !== keyOf(this.over))) this.acts.hover(slot);
     this.mark(slot);
     this.tell(slot);
+    this.at = [event.clientX, event.clientY].join();
+  }
+
+  // where a hand lets go: where it is marked if it has rested, whatever has been drawn under it
+  slotOf(event) {
+    if (this.at === [event.clientX, event.clientY].join()) return this.over;
+    return this.week.slotAt(document.elementFromPoint(event.clientX, event.clientY));
   }
 
   lift() {
@@ -63,8 +70,17 @@ class Hand {
     document.body.classList.add("dragging");
     const { pickUp, place } = this.acts;
     pressed.ready = pressed.missing ? place(pressed.missing) : pickUp(pressed.slot);
-    // a hand that rests sees the prices, too, when they come
-    pressed.ready.then(() => this.pressed === pressed && this.tell(this.over));
+    // a hand that rests sees the prices, too, when they come, and is where the cursor is
+    pressed.ready.then(() => {
+      if (this.pressed !== pressed || !this.over) return;
+      this.acts.hover(this.over);
+      this.renew();
+    });
+  }
+
+  // what is drawn anew is told anew, also if the hand rests
+  renew() {
+    if (this.ghost) this.tell(this.over);
   }
 
   tell(slot) {
@@ -82,7 +98,7 @@ class Hand {
   async end(event) {
     const { pressed } = this;
     if (!pressed || event.pointerId !== pressed.id) return;
-    const slot = this.week.slotAt(document.elementFromPoint(event.clientX, event.clientY));
+    const slot = this.slotOf(event);
     this.stop();
     if (!pressed.isDragging) return;
     swallowClick();
@@ -92,7 +108,7 @@ class Hand {
   }
 
   stop() {
-    this.pressed = null;
+    this.pressed = this.at = null;
     this.mark(null);
     this.ghost?.remove();
     this.ghost = null;
@@ -145,6 +161,7 @@ export function makeHand(week, acts) {
     const slot = week.slotAt(event.target);
     if (slot && keyOf(slot) !== keyOf(week.cursor)) acts.hover(slot);
   });
+  return hand;
 }
 
 const leaving = { key: "Escape", stopPropagation() {} };

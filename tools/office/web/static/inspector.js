@@ -48,6 +48,8 @@ function chosenParts({ about, picture }, week, acts) {
       act(acts, "take out", "Take out", "X")
     ),
     el("div", { cls: "weeks" }, el("span", { cls: "label" }, "Week of"), weeks),
+    // at the end, so that no button moves when others do something
+    about.told.map(line),
   ];
 }
 

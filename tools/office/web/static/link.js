@@ -64,9 +64,12 @@ export async function ask(verb, told = {}) {
   });
 }
 
-// Lines of JSON by fetch, which can send the key in a header.
+// Lines of JSON by fetch, which can send the key in a header. A page that is left may be kept by
+// the browser, to be gone back to; it must not listen meanwhile, as a window that nobody sees.
 async function readNews(hear) {
-  const response = await request("news", { headers: fields() });
+  const away = new AbortController();
+  addEventListener("pagehide", () => away.abort(), { once: true });
+  const response = await request("news", { headers: fields(), signal: away.signal });
   const reader = response.body.pipeThrough(new TextDecoderStream()).getReader();
   let text = "";
   for (;;) {
@@ -90,7 +93,8 @@ export async function keepListening({ begin, hear, lost, isOver }) {
       await readNews(hear);
       if (!isOver()) lost(new Fault(0, SILENT));
     } catch (fault) {
-      if (!(fault instanceof Fault) && !(fault instanceof TypeError)) throw fault;
+      const isBroken = fault instanceof TypeError || fault.name === "AbortError";
+      if (!(fault instanceof Fault) && !isBroken) throw fault;
       lost(fault instanceof Fault ? fault : new Fault(0, SILENT));
       if (fault.status === 401) return;
     }

@@ -5,6 +5,7 @@ import { kindOf, signed } from "./numbers.js";
 let shown = null;
 
 export const isMenuOpen = () => shown !== null;
+export const menuInFront = () => shown;
 
 export function closeMenu() {
   if (!shown) return;
@@ -74,6 +75,8 @@ export function openMenu(anchor, label, offers, choose, back) {
     event.preventDefault();
     event.stopPropagation();
   });
+  // without the focus no key would close it
+  list.addEventListener("focusout", (event) => event.relatedTarget && closeMenu());
   document.addEventListener("pointerdown", outside, true);
   go(0);
   list.focus();

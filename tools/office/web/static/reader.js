@@ -8,6 +8,7 @@ const VIEW = "read-view";
 const LOST = "The office does not answer just now; this page tries again.";
 const app = { day: null, isOver: false };
 let week = null;
+let search = null;
 
 function draw(told) {
   week.draw(told, null);
@@ -28,7 +29,7 @@ function build(found) {
   find("day").textContent = found.day;
   document.title = `${found.day} · timedesk`;
   week = new Week(found, false);
-  const search = makeSearch(found.named, show, () => week.setCursor(week.cursor, true));
+  search = makeSearch(found.named, show, () => week.setCursor(week.cursor, true));
   const steps = { ArrowLeft: [-1, 0], ArrowRight: [1, 0], ArrowUp: [0, -1], ArrowDown: [0, 1] };
   find("week").addEventListener("keydown", (event) => {
     const [days, periods] = steps[event.key] || [0, 0];
@@ -47,14 +48,21 @@ function build(found) {
 async function begin() {
   const view = JSON.parse(sessionStorage.getItem(VIEW) || "null");
   const found = await ask("hello", { view });
-  if (!app.day) build(found);
+  if (app.day) rename(found);
+  else build(found);
   app.day = found;
   banner("");
   draw(found.picture.week);
   performance.mark("ready");
 }
 
+function rename(names) {
+  week.rename(names);
+  search.rename(names.named);
+}
+
 function hear(event) {
+  if (event.names) rename(event.names);
   if (event.picture) draw(event.picture.week);
   if (event.over) {
     app.isOver = true;

@@ -2,38 +2,56 @@
 import { el, find, name } from "./dom.js";
 
 const MOST = 40;
+const STEPS = { ArrowDown: 1, ArrowUp: -1, PageDown: 10, PageUp: -10 };
 
-// named: for each kind its codes, each with what it is called
-export function makeSearch(named, choose, back) {
-  const input = find("search-input");
-  const list = find("search-list");
-  const all = Object.entries(named).flatMap(([kind, names]) =>
-    names.map(([code, said]) => ({ kind, code, said, text: `${said} ${code}`.toLowerCase() }))
-  );
-  let found = [];
-  let at = 0;
+class Search {
+  // choose(view) when a week is taken, back() when none is
+  constructor(choose, back) {
+    Object.assign(this, { choose, back, all: [], found: [], at: 0 });
+    this.input = find("search-input");
+    this.list = find("search-list");
+    const begin = () => {
+      this.at = 0;
+      this.show();
+    };
+    this.input.addEventListener("input", begin);
+    this.input.addEventListener("focus", begin);
+    this.input.addEventListener("blur", () => this.close());
+    this.input.addEventListener("keydown", (event) => this.press(event));
+  }
 
-  function matches() {
-    const words = input.value.toLowerCase().split(/\s+/).filter(Boolean);
+  // named: for each kind its codes, each with what it is called
+  rename(named) {
+    this.all = Object.entries(named).flatMap(([kind, names]) =>
+      names.map(([code, said]) => ({ kind, code, said, text: `${said} ${code}`.toLowerCase() }))
+    );
+  }
+
+  focus() {
+    this.input.focus();
+  }
+
+  matches() {
+    const words = this.input.value.toLowerCase().split(/\s+/).filter(Boolean);
     const isIn = (one, word) => one.text.includes(word) || one.kind.startsWith(word);
     const has = (one) => words.every((word) => isIn(one, word));
     const begins = (one) =>
       words.some((word) => one.text.startsWith(word) || one.code.toLowerCase().startsWith(word));
-    const hits = all.filter(has);
+    const hits = this.all.filter(has);
     return [...hits.filter(begins), ...hits.filter((one) => !begins(one))];
   }
 
-  function item(one, place) {
+  item(one, place) {
     const press = (event) => {
       event.preventDefault();
-      take(place);
+      this.take(place);
     };
     return el(
       "li",
       {
         role: "option",
         id: `hit-${place}`,
-        "aria-selected": String(place === at),
+        "aria-selected": String(place === this.at),
         on: { pointerdown: press },
       },
       name(one.said, "hit"),
@@ -41,58 +59,53 @@ export function makeSearch(named, choose, back) {
     );
   }
 
-  function show() {
-    const hits = matches();
-    found = hits.slice(0, MOST);
-    at = Math.min(at, Math.max(0, found.length - 1));
-    const rest = hits.length - found.length;
+  show() {
+    const hits = this.matches();
+    this.found = hits.slice(0, MOST);
+    this.at = Math.min(this.at, Math.max(0, this.found.length - 1));
+    const rest = hits.length - this.found.length;
     const more = hits.length ? `${rest} more: type on` : "nothing has these letters";
     const last = rest || !hits.length ? [el("li", { cls: "more", role: "none" }, more)] : [];
-    list.replaceChildren(...found.map(item), ...last);
-    list.hidden = false;
-    input.setAttribute("aria-expanded", "true");
-    if (found.length) input.setAttribute("aria-activedescendant", `hit-${at}`);
-    else input.removeAttribute("aria-activedescendant");
-    find(`hit-${at}`)?.scrollIntoView({ block: "nearest" });
+    const items = this.found.map((one, place) => this.item(one, place));
+    this.list.replaceChildren(...items, ...last);
+    this.list.hidden = false;
+    this.input.setAttribute("aria-expanded", "true");
+    if (items.length) this.input.setAttribute("aria-activedescendant", `hit-${this.at}`);
+    else this.input.removeAttribute("aria-activedescendant");
+    find(`hit-${this.at}`)?.scrollIntoView({ block: "nearest" });
   }
 
-  function close() {
-    list.hidden = true;
-    input.setAttribute("aria-expanded", "false");
-    input.removeAttribute("aria-activedescendant");
+  close() {
+    this.input.value = "";
+    this.list.hidden = true;
+    this.input.setAttribute("aria-expanded", "false");
+    this.input.removeAttribute("aria-activedescendant");
   }
 
-  function take(place) {
-    const one = found[place];
+  take(place) {
+    const one = this.found[place];
     if (!one) return;
-    input.value = "";
-    close();
-    choose([one.kind, one.code]);
+    this.close();
+    this.choose([one.kind, one.code]);
   }
 
-  function begin() {
-    at = 0;
-    show();
-  }
-
-  input.addEventListener("input", begin);
-  input.addEventListener("focus", begin);
-  input.addEventListener("blur", () => {
-    input.value = "";
-    close();
-  });
-  input.addEventListener("keydown", (event) => {
-    const step = { ArrowDown: 1, ArrowUp: -1, PageDown: 10, PageUp: -10 }[event.key];
+  press(event) {
+    const step = STEPS[event.key];
     if (step) {
-      at = Math.max(0, Math.min(found.length - 1, at + step));
-      show();
-    } else if (event.key === "Enter") take(at);
+      this.at = Math.max(0, Math.min(this.found.length - 1, this.at + step));
+      this.show();
+    } else if (event.key === "Enter") this.take(this.at);
     else if (event.key === "Escape") {
-      close();
-      back();
+      this.close();
+      this.back();
     } else return;
     event.preventDefault();
     event.stopPropagation();
-  });
-  return { focus: () => input.focus() };
+  }
+}
+
+export function makeSearch(named, choose, back) {
+  const search = new Search(choose, back);
+  search.rename(named);
+  return search;
 }

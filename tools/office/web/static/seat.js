@@ -6,6 +6,7 @@ import { makeHand } from "./hand.js";
 import { listenToKeys } from "./keys.js";
 import { ask, Fault, keepListening, takeKey } from "./link.js";
 import { Look } from "./look.js";
+import { menuInFront } from "./menu.js";
 import { keyOf } from "./numbers.js";
 import { makeSearch } from "./search.js";
 import * as side from "./side.js";
@@ -28,6 +29,8 @@ const app = {
   unseen: new Set(),
   recent: new Map(),
   closes: null,
+  // by how many seconds the clock here is before that of the office
+  ahead: 0,
   isOver: false,
   // why nothing can be done now, and what the office said of it
   lost: "",
@@ -38,6 +41,8 @@ const LEFT = "You have left the seat: load this page anew to sit down.";
 let week = null;
 let acts = null;
 let look = null;
+let search = null;
+let hand = null;
 
 // drawing
 
@@ -50,6 +55,7 @@ function drawWeek() {
   const working = names ? el("span", { cls: "pill" }, "at work on it: ", name(names)) : null;
   fill(find("week-about"), name(told.about), missing, working);
   look.drawTray();
+  hand?.renew();
 }
 
 function drawState() {
@@ -59,9 +65,14 @@ function drawState() {
   drawBanner();
 }
 
+// whether the office has closed at the time that it had told
+const toClose = () => app.closes - (Date.now() / 1000 - app.ahead);
+const hasClosed = () => app.closes !== null && toClose() < 0;
+
+// a desk that has died is told before the farewell; one that ends in its time has closed
 function drawBanner() {
-  const lost = app.fault || (app.isOver ? "" : app.lost);
-  banner(lost || app.waits || closing() || app.picture?.state.alarm || "");
+  const why = (hasClosed() ? "" : app.fault) || (app.isOver ? "" : app.lost);
+  banner(why || app.waits || closing() || app.picture?.state.alarm || "");
 }
 
 function leave() {
@@ -74,7 +85,7 @@ function leave() {
 function closing() {
   if (app.isOver) return app.day.farewell;
   if (!app.closes) return "";
-  const seconds = Math.max(0, Math.round(app.closes - Date.now() / 1000));
+  const seconds = Math.max(0, Math.round(toClose()));
   return `The office closes in ${seconds} s: commit now, or your edits are offered again.`;
 }
 
@@ -115,28 +126,46 @@ async function turn(verb, told = {}) {
 }
 
 // acts one after another: what was pressed before has its effect first, and a key that was meant
-// for the week does nothing behind a box that has come up meanwhile
+// for the week does nothing behind a box or a list that has come up meanwhile
 let last = Promise.resolve();
 
 function queue(act) {
-  const before = app.question;
-  last = last.then(() => (app.question === before ? act() : null));
+  const [question, menu] = [app.question, menuInFront()];
+  const isFree = () => app.question === question && (!menuInFront() || menuInFront() === menu);
+  const done = last.then(() => (isFree() ? act() : null));
+  // those behind one that fails have their turn all the same
+  last = done.catch(failed);
   return last;
+}
+
+function failed(fault) {
+  console.error(fault);
+  toast("bad", "This page has failed at what was asked last; load it anew if it goes on so.");
 }
 
 // what the office says by itself
 
 function hear(event) {
+  if (event.names) rename(event);
   if (event.people) side.drawPeople(event.people, app.day);
   if (event.closes !== undefined) app.closes = event.closes;
   if (event.fault) app.lost = app.fault = event.fault;
-  if (event.waits) app.waits = event.waits;
+  if (event.waits !== undefined) app.waits = event.waits;
   if (event.over) app.isOver = true;
   if (event.left) leave();
   if (event.news) event.news.forEach(tellNews);
   if (event.picture) take(event);
   if (event.news) side.drawNews(app);
   drawBanner();
+}
+
+// names and times have changed
+function rename({ names, accepted }) {
+  Object.assign(app.day, names);
+  app.news = accepted;
+  week.rename(names);
+  search.rename(names.named);
+  side.drawNews(app);
 }
 
 function tellNews(one) {
@@ -155,7 +184,7 @@ function tellNews(one) {
 
 function lost(fault) {
   // an office that has closed answers no more
-  if (app.closes && Date.now() / 1000 > app.closes) app.isOver = true;
+  if (hasClosed()) app.isOver = true;
   app.lost = app.fault || fault.message;
   document.body.classList.add("lost");
   drawBanner();
@@ -183,10 +212,12 @@ async function begin() {
     found = await ask("hello", told);
   }
   const isFirst = app.day === null;
+  app.ahead = Date.now() / 1000 - found.now;
   Object.assign(app, { day: found, news: found.news, closes: found.closes, lost: "", fault: "" });
   app.picture = null;
   document.body.classList.remove("lost");
   if (isFirst) build(found);
+  else rename({ names: found, accepted: found.news });
   side.drawPeople(found.people, app.day);
   side.drawNews(app);
   take(found);
@@ -200,10 +231,10 @@ function build(found) {
   document.title = `${found.day} · ${found.name} · timedesk`;
   week = new Week(found, true);
   look = new Look(app, week);
-  const search = makeSearch(found.named, (view) => acts.show(view), () => acts.toWeek());
+  search = makeSearch(found.named, (view) => acts.show(view), () => acts.toWeek());
   acts = makeActs({ app, week, turn, queue, look, search: () => search.focus() });
   look.acts = acts;
-  makeHand(week, acts);
+  hand = makeHand(week, acts);
   listenToKeys(acts, found.keys);
   setInterval(() => (app.closes || app.isOver) && drawBanner(), 1000);
 }

@@ -121,17 +121,19 @@ export function drawDraft({ picture }, acts) {
     title("Your draft", edits.length),
     el("ol", { cls: "edits" }, edits.map((edit, at) => editItem(edit, at === last ? undo : null))),
     left.length ? [el("h3", {}, "Not made again"), el("ul", {}, left.map(told))] : null,
-    foretold ? el("p", { cls: "warn" }, name(foretold)) : null,
     el(
       "div",
       { cls: "buttons" },
       act("commit", ["Commit… ", key("C")], { cls: "primary", disabled: !edits.length }),
       act("refresh", ["Bring up to date ", key("F")]),
       act("abandon", ["Give up… ", key("A")])
-    )
+    ),
+    // always there, so that what is below stays where it is when others commit
+    el("p", { cls: foretold ? "stands warn" : "stands" }, name(foretold || STANDS))
   );
 }
 
+const STANDS = "Nothing that it stands on has changed.";
 const told = (text) => el("li", {}, name(text));
 
 // what is missing

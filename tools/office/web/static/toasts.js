@@ -29,12 +29,9 @@ export function toastNotice({ code, text, isBad, price }, acts) {
     acts.toWeek();
     acts.act("undo");
   };
-  const more =
-    price === undefined
-      ? []
-      : [
-          el("span", { cls: `delta ${kindOf(price)}` }, signed(price)),
-          button("undo", "Undo", undo, { cls: "link" }),
-        ];
-  toast(isBad ? "bad" : "said", text, more);
+  const more = [
+    el("span", { cls: `delta ${kindOf(price)}` }, signed(price ?? 0)),
+    button("undo", "Undo", undo, { cls: "link" }),
+  ];
+  toast(isBad ? "bad" : "said", text, price === undefined ? [] : more);
 }

@@ -1,10 +1,10 @@
 // The week: days as columns, periods as rows. Cells stay, what is in them is drawn anew.
 import { card, cardSaid } from "./card.js";
-import { el, find, name } from "./dom.js";
+import { el, fill, find, name } from "./dom.js";
 import { heldParts, heldSaid } from "./held.js";
 import { keyOf, same } from "./numbers.js";
 
-const EMPTY = { lectures: [], others: [], gone: [], now: [], working: [] };
+const EMPTY = { lectures: [], others: [], gone: [], now: null, working: [] };
 
 export class Week {
   // slots: for each day what each of its periods is called
@@ -15,6 +15,15 @@ export class Week {
     // what is drawn
     this.told = new Map();
     this.build();
+  }
+
+  // what days, periods and slots are called now; they are as many as before
+  rename({ days, periods, slots }) {
+    Object.assign(this, { days, periods, slots });
+    const write = (place, texts) =>
+      find("week").querySelectorAll(place).forEach((one, at) => fill(one, name(texts[at])));
+    write(".day", days);
+    write(".period", periods);
   }
 
   build() {
@@ -93,13 +102,16 @@ export class Week {
     for (const [key, cell] of this.cells) {
       const slot = key.split(",").map(Number);
       const one = this.told.get(key) || EMPTY;
-      const who = recent.get(key) || one.others.join(", ");
+      const who = one.others.join(", ");
+      // a hand that rests over it stays over it
+      const isOver = cell.classList.contains("over");
       cell.className = "cell";
+      cell.classList.toggle("over", isOver);
       cell.classList.toggle("at", same(slot, this.cursor));
       cell.classList.toggle("mine", !!one.mine);
       cell.classList.toggle("theirs", one.others.length > 0);
       cell.classList.toggle("closed", !!one.closed);
-      cell.classList.toggle("fresh", recent.has(key));
+      cell.classList.toggle("fresh", !!who && recent.has(key));
       const parts = held
         ? heldParts(cell, one, held, offers.get(key), week.view)
         : this.freeParts(one, week.view);
@@ -111,13 +123,13 @@ export class Week {
   }
 
   freeParts(one, view) {
-    const isChanged = one.others.length > 0;
-    const now = name(one.now.join(", ") || "empty");
-    const news = isChanged ? [el("div", { cls: "now" }, "now ", now)] : [];
+    // what stands there for all others, if that is not what is drawn
+    const now = one.now && name(one.now.join(", ") || "empty");
+    const news = now ? [el("div", { cls: "now" }, "now ", now)] : [];
     if (one.lectures.length) {
-      return [...one.lectures.map((lecture) => card(lecture, view, this)), ...news];
+      return [...one.lectures.map((lecture) => card(lecture, view, this, one.mine)), ...news];
     }
-    if (isChanged) return news;
+    if (now) return news;
     if (one.gone.length) return [el("div", { cls: "ghost" }, "was ", name(one.gone.join(", ")))];
     return one.closed ? [el("span", { cls: "closed-text" }, "closed")] : [];
   }

@@ -10,5 +10,5 @@ use Rattle.ctt_office.proofs.sitting.sit.Given as goal
 -- fit
 abbrev pub invariant-loop : goal.invariant-loop
 invariant-loop g l =
-    IsSitting (asked_by l.instance l.number) (IsAnswer l.book (IsInMinutes g.W.Sink.taken g.W.Durable.kept g.J.Naming.problem) (HasFailed g.W.Sink.taken g.W.Sink.has_failed g.J.Naming.problem) l.instance g.J.Naming.opening)
+    IsSitting (asked_by l.instance l.number) (IsAnswer l.book (IsInMinutes g.W.Sink.taken g.W.Durable.kept g.J.Naming.problem g.J.Begun.start) (HasFailed g.W.Sink.taken g.W.Sink.has_failed g.J.Naming.problem g.J.Begun.start) l.instance g.J.Naming.opening)
     l.fn.place (coming l.fn.lines) (g.O.Sink.taken l.fn.out) (g.O.Sink.taken l.out) (coming l.lines) l.place × EndedFits l.instance l.place.ended

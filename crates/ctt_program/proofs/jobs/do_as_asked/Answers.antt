@@ -16,7 +16,7 @@ returns-in-Ok-clause-quiet g c = IfOk-weaker c.do_job.result _ _ (λ outcome qui
 
 pub do_job-requires : goal.do_job-requires
 do_job-requires g c =
-    let has : HasScripts c.in-Ok.job.task = job_has_scripts _ c.in-Ok.job c.in-Ok.ensures.job in
+    let has : HasScripts c.in-Ok.job = job_has_scripts _ c.in-Ok.job c.in-Ok.ensures.job in
     search rules
 
 pub returns-in-Ok-clause-unstored : goal.returns-in-Ok-clause-unstored

@@ -1,7 +1,7 @@
 use Rattle.std.proofs.Common.{IfOk, ℕ, List, ◌++◌, ◌∙◌, true, false, ap, subst, sym}
 use Rattle.std.proofs.lemmas.Result.{IfOk-weaker}
 use Rattle.ctt_findings.specs.Findings.{findings}
-use Rattle.ctt_words.specs.declared.job.ReportForm.{ReportForm}
+use Rattle.ctt_reports.specs.declared.forms.ReportForm.{ReportForm}
 use Rattle.ctt_reports.specs.Checks.{IsExplained, found_texts, is_json, named}
 use Rattle.ctt_reports.proofs.ReportLemmas.{json_explained, named_more, text_explained}
 use Rattle.ctt_reports.proofs.checking.around.Goals as goal

@@ -1,5 +1,5 @@
 use Rattle.std.proofs.Common.{◌≡◌, ◌∷◌, IfOk, ℕ, List, map, subst, sym}
-use Rattle.ctt_words.specs.declared.job.TableForm.{TableForm}
+use Rattle.ctt_reports.specs.declared.forms.TableForm.{TableForm}
 use Rattle.ctt_reports.specs.Compare.{text_of}
 use Rattle.ctt_reports.specs.Tables.{aligned}
 use Rattle.ctt_reports.proofs.comparing.text_of.Goals as goal

@@ -7,3 +7,9 @@ look-requires g c κs =
     let asked : LookFits c.instance.result.now c.args.asked.now = search rules in
     let fits : LookFits (g.S.Rooms.problem c.args.sheet.now) c.args.asked.now = subst (λ i. LookFits i c.args.asked.now) c.instance.ensures asked in
     search rules
+
+pub look-reply-requires : goal.look-reply-requires
+look-reply-requires g c κs =
+    let asked : LookFits c.instance.result.now c.args.asked.now = search rules in
+    let fits : LookFits (g.S.Rooms.problem c.args.sheet.now) c.args.asked.now = subst (λ i. LookFits i c.args.asked.now) c.instance.ensures asked in
+    search rules

@@ -1,7 +1,7 @@
-use Rattle.std.proofs.Common.{◌≡◌, ◌⊎◌, ◌+◌, ◌≤◌, length, false, true, arith, rules, subst, sym}
+use Rattle.std.proofs.Common.{◌≡◌, ◌⊎◌, ◌+◌, ◌≤◌, Some, length, false, true, arith, rules, subst, sym, inl}
 use mathlib.Core.List.{IsPrefix}
-use Rattle.ctt_office.specs.Pages.{AreMinutesOf, AreTaken, seen}
-use Rattle.ctt_office.proofs.PagesLemmas.{has_some, is_out, minutes_grow}
+use Rattle.ctt_office.specs.Pages.{AreFrontOf, AreMinutesOf, seen}
+use Rattle.ctt_office.proofs.PagesLemmas.{front_grows, front_of, has_some, is_out, minutes_grow}
 use Rattle.ctt_office.proofs.book.Pages.enter.Goals as goal
 
 pub invariant_of-self-in-Ok : goal.invariant_of-self-in-Ok
@@ -10,18 +10,31 @@ invariant_of-self-in-Ok g c =
     let a = c.self.inside in
     let before = seen a.last in
     let history = c.args.receipt.now in
+    let start = g.J.Begun.start in
+    let now = g.W.Sink.taken c.write-written.new.writer in
     let sound : a.failed ≡ false = search rules in
-    let minutes : AreTaken g.W.Sink.taken i before (g.W.Sink.taken a.writer) = c.self.invariant.0 sound in
-    let start = g.W.Sink.taken minutes.0 in
+    let minutes : AreMinutesOf i before start (g.W.Sink.taken a.writer) = c.self.invariant.0 sound in
     let prefix : IsPrefix before history = search rules in
-    let long : length history ≡ length before + 1 = (let n = c.number-number.ensures.number in let m = c.count-written.ensures in omega (arith, n, m, c.if-number-written.false, c.if-number-written-gt1.false)) in (
-      λ _. (
-        minutes.0,
-        subst (λ h. AreMinutesOf i h start (g.W.Sink.taken c.write.new.writer)) (sym c.again.ensures)
-            (minutes_grow i start (g.W.Sink.taken a.writer) (g.W.Sink.taken c.write.new.writer) before history c.args.entry.now minutes.1 c.in-Ok.ensures.taken prefix long c.requires),
-      ),
-      λ (out : a.failed ≡ true). cc,
-    )
+    let long : length history ≡ length before + 1 = (let n = c.number-number.ensures.number in let m = c.count-written.ensures.number in omega (arith, n, m, c.if-number-written.false, c.if-number-written-gt1.false)) in
+    let grown : AreMinutesOf i (seen (Some c.again.result)) start now = subst (λ h. AreMinutesOf i h start now) (sym c.again.ensures)
+    (minutes_grow i start (g.W.Sink.taken a.writer) now before history c.args.entry.now minutes c.in-Ok.ensures.taken prefix long c.requires) in
+    (λ _. grown, λ (out : a.failed ≡ true). cc, front_of i _ start now grown)
+
+pub invariant_of-self-in-Err : goal.invariant_of-self-in-Err
+invariant_of-self-in-Err g c =
+    let i = g.J.Naming.problem in
+    let a = c.self.inside in
+    let before = seen a.last in
+    let history = c.args.receipt.now in
+    let start = g.J.Begun.start in
+    let now = g.W.Sink.taken c.write-written.new.writer in
+    let sound : a.failed ≡ false = search rules in
+    let minutes : AreMinutesOf i before start (g.W.Sink.taken a.writer) = c.self.invariant.0 sound in
+    let prefix : IsPrefix before history = search rules in
+    let long : length history ≡ length before + 1 = (let n = c.number-number.ensures.number in let m = c.count-written.ensures.number in omega (arith, n, m, c.if-number-written.false, c.if-number-written-gt1.false)) in
+    let grown : AreFrontOf i (seen (Some c.again.result)) start now = subst (λ h. AreFrontOf i h start now) (sym c.again.ensures)
+    (front_grows i start (g.W.Sink.taken a.writer) now before history c.args.entry.now minutes c.in-Err.ensures.front prefix long c.requires) in
+    (λ (out : true ≡ false). cc, λ _. inl c.in-Err.ensures.marked, grown)
 
 pub returns-in-Ok-clause-kept : goal.returns-in-Ok-clause-kept
 returns-in-Ok-clause-kept g c = λ entered.
@@ -30,12 +43,12 @@ returns-in-Ok-clause-kept g c = λ entered.
     let before = seen a.last in
     let history = c.args.receipt.now in
     let sound : a.failed ≡ false = search rules in
-    let minutes : AreTaken g.W.Sink.taken i before (g.W.Sink.taken a.writer) = c.self.invariant.0 sound in
-    let start = g.W.Sink.taken minutes.0 in
+    let minutes : AreMinutesOf i before g.J.Begun.start (g.W.Sink.taken a.writer) = c.self.invariant.0 sound in
+    let start = g.J.Begun.start in
     let prefix : IsPrefix before history = search rules in
-    let long : length history ≡ length before + 1 = (let n = c.number-number.ensures.number in let m = c.count-written.ensures in omega (arith, n, m, c.if-number-written.false, c.if-number-written-gt1.false)) in (
-      c.write.new.writer,
-      (minutes.0, minutes_grow i start (g.W.Sink.taken a.writer) (g.W.Sink.taken c.write.new.writer) before history c.args.entry.now minutes.1 c.in-Ok.ensures.taken prefix long c.requires),
+    let long : length history ≡ length before + 1 = (let n = c.number-number.ensures.number in let m = c.count-written.ensures.number in omega (arith, n, m, c.if-number-written.false, c.if-number-written-gt1.false)) in (
+      c.write-written.new.writer,
+      minutes_grow i start (g.W.Sink.taken a.writer) (g.W.Sink.taken c.write-written.new.writer) before history c.args.entry.now minutes c.in-Ok.ensures.taken prefix long c.requires,
       c.in-Ok.ensures.kept,
     )
 
@@ -45,4 +58,4 @@ returns-then-self-clause-out g c = λ _.
     let a = c.self.inside in
     let history = c.args.receipt.now in
     let why : (a.failed ≡ true) ⊎ (length history ≤ length (seen a.last)) = search rules in
-    (a.writer, seen a.last, is_out g.W.Sink.taken g.W.Sink.has_failed i (seen a.last) history a.writer a.failed c.self.invariant.0 c.self.invariant.1 (has_some i history c.args.entry.now c.requires) why)
+    (a.writer, seen a.last, is_out g.W.Sink.taken g.W.Sink.has_failed i g.J.Begun.start (seen a.last) history a.writer a.failed c.self.invariant.0 c.self.invariant.1 (has_some i history c.args.entry.now c.requires) why)

@@ -1,8 +1,0 @@
-use Rattle.std.proofs.Common.{rules, subst, sym}
-use Rattle.ctt_office.specs.Ended.{EndedFits}
-use Rattle.ctt_office.proofs.sitting.open_and_sit.Goals as goal
-
-pub sit-planner-requires : goal.sit-planner-requires
-sit-planner-requires g c κs =
-    let fits : EndedFits c.args.station.instance.now c.new-place.result.ended = subst (EndedFits c.args.station.instance.now) (sym c.new-place.ensures.ended) tt in
-    search rules

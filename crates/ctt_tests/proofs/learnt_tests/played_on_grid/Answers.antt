@@ -1,0 +1,8 @@
+use Rattle.std.proofs.Common.{rules}
+use Rattle.std.proofs.Crossing.{crosses}
+use denote.Param.Send.{sendable}
+use Rattle.ctt_problem.proofs.SharingLemmas.{instance_shared}
+use Rattle.ctt_tests.proofs.learnt_tests.played_on_grid.Goals as goal
+
+pub empty-requires : goal.empty-requires
+empty-requires g c κs = (search (instance_shared, sendable, crosses) depth 60 fits 20000, (search (instance_shared, sendable, crosses) depth 60 fits 20000, search rules))

@@ -1,9 +1,0 @@
-use Rattle.std.proofs.Common.{rules}
-use Rattle.std.specs.List.{AllByRecursion as Each}
-use Rattle.ctt_problem.specs.Timetable.{Fits}
-use Rattle.ctt_trials.proofs.sheets.play.Goals as goal
-
-pub place_all-requires : goal.place_all-requires
-place_all-requires g c κs =
-    let fit : Each (Fits c.args.script.now.small.now) c.args.script.now.opening.now = c.args.script.now.timetable.fits in
-    search rules
