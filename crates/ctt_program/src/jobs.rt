@@ -1,6 +1,6 @@
 //! The program, from the words of its command line to its exit status.
 
-ghost use Rattle.std.specs.Prelude.{◌≡◌, ◌≢◌, ◌≤◌, ◌⊎◌, [], true, false, OnOk, OnErr, IfOk, IfErr};
+ghost use Rattle.std.specs.Prelude.{◌≡◌, ◌≤◌, ◌⊎◌, [], true, false, OnOk, OnErr, IfOk, IfErr};
 ghost use Rattle.ctt_words.specs.Jobs.{HasScripts, faults_of};
 ghost use Rattle.ctt_files.specs.Faults.{IfUnwritten, MayHaveWritten, status_of};
 ghost use Rattle.ctt_files.specs.declared.fault.Fault.TheVariants.{NoMemory};

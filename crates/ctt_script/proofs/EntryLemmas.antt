@@ -90,6 +90,7 @@ module _ (i : Problem) (is : IsProblem i) where
   yields_fault_after fault.CourseFull = yields_done JournalFault (FaultFits i) _ tt
   yields_fault_after fault.Unavailable = yields_done JournalFault (FaultFits i) _ tt
   yields_fault_after fault.Barred = yields_done JournalFault (FaultFits i) _ tt
+  yields_fault_after fault.Blocked = yields_done JournalFault (FaultFits i) _ tt
   yields_fault_after fault.Clash = yields_bind _ (FaultFits i) _ _ (yields_course i is) (λ c f. yields_done JournalFault (FaultFits i) _ f)
   yields_fault_after fault.RoomTaken = yields_bind _ (FaultFits i) _ _ (yields_course i is) (λ c f. yields_done JournalFault (FaultFits i) _ f)
 

@@ -138,6 +138,7 @@ names_fault_after i fault.AlreadyThere = tt
 names_fault_after i fault.CourseFull = tt
 names_fault_after i fault.Unavailable = tt
 names_fault_after i fault.Barred = tt
+names_fault_after i fault.Blocked = tt
 names_fault_after i fault.Clash = names_bind _ _ (names_course i) (λ c. tt)
 names_fault_after i fault.RoomTaken = names_bind _ _ (names_course i) (λ c. tt)
 

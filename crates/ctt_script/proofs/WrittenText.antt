@@ -6,7 +6,7 @@ use Rattle.std.specs.Fmt.{decimal, signed_decimal}
 use Rattle.std.proofs.lemmas.Bool.{and_parts, ltb-true}
 use Rattle.ctt_text.specs.Words.{words}
 use Rattle.ctt_problem.specs.Named.{is_blank, IsWord, IsNamed}
-use Rattle.ctt_problem.specs.Problem.{Problem, IsProblem, day_of, period_of, course_count, room_count, slot_count, teacher_count, curriculum_count}
+use Rattle.ctt_problem.specs.Problem.{Problem, IsProblem, course_count, room_count, slot_count, teacher_count, curriculum_count}
 use Rattle.ctt_problem.specs.Timetable.{Fits}
 use Rattle.ctt_problem.specs.declared.placed.Placed.{Placed}
 use Rattle.ctt_problem.proofs.TimetableLemmas.{Each-at}
@@ -23,7 +23,7 @@ use Rattle.ctt_edits.specs.Patterns.{FitsIfGiven, IsRoomIfGiven, PatternFits}
 use Rattle.ctt_edits.specs.declared.call.Call.{Call}
 use Rattle.ctt_edits.specs.declared.call.Call.TheVariants.{Look as Looks, Edit as Edits}
 use Rattle.ctt_edits.specs.declared.fault.EditFault.{EditFault}
-use Rattle.ctt_edits.specs.declared.fault.EditFault.TheVariants.{NotPlaced, SameSlot, SameCourse, AlreadyThere, CourseFull, Unavailable, Barred, Clash, RoomTaken}
+use Rattle.ctt_edits.specs.declared.fault.EditFault.TheVariants.{NotPlaced, SameSlot, SameCourse, AlreadyThere, CourseFull, Unavailable, Barred, Blocked, Clash, RoomTaken}
 use Rattle.ctt_edits.specs.Edits.{EditFits}
 use Rattle.ctt_edits.specs.Looks.{LookFits}
 use Rattle.ctt_edits.specs.declared.reply.Reply.{Reply}
@@ -208,6 +208,7 @@ module _ (i : Problem) (is : IsProblem i) (named : IsNamed i) where
   fault_are CourseFull f = (is_solid (codes "full") refl, tt)
   fault_are Unavailable f = (is_solid (codes "unavailable") refl, tt)
   fault_are Barred f = (is_solid (codes "barred") refl, tt)
+  fault_are Blocked f = (is_solid (codes "blocked") refl, tt)
   fault_are (Clash c) f = (is_solid (codes "clash") refl, (course_is c f, tt))
   fault_are (RoomTaken c) f = (is_solid (codes "roomtaken") refl, (course_is c f, tt))
 

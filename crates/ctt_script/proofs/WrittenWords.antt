@@ -32,7 +32,7 @@ use Rattle.ctt_edits.specs.Patterns.{FitsIfGiven, IsRoomIfGiven, PatternFits}
 use Rattle.ctt_edits.specs.declared.call.Call.{Call}
 use Rattle.ctt_edits.specs.declared.call.Call.TheVariants.{Look as Looks, Edit as Edits}
 use Rattle.ctt_edits.specs.declared.fault.EditFault.{EditFault}
-use Rattle.ctt_edits.specs.declared.fault.EditFault.TheVariants.{NotPlaced, SameSlot, SameCourse, AlreadyThere, CourseFull, Unavailable, Barred, Clash, RoomTaken}
+use Rattle.ctt_edits.specs.declared.fault.EditFault.TheVariants.{NotPlaced, SameSlot, SameCourse, AlreadyThere, CourseFull, Unavailable, Barred, Blocked, Clash, RoomTaken}
 use Rattle.ctt_edits.specs.Edits.{EditFits}
 use Rattle.ctt_edits.specs.Looks.{LookFits}
 use Rattle.ctt_edits.specs.declared.reply.Reply.{Reply}
@@ -239,6 +239,7 @@ module _ (i : Problem) (is : IsProblem i) (named : IsNamed i) where
   fault_fills CourseFull f = word_then fault_kind _ _ _ _ _ _ refl refl
   fault_fills Unavailable f = word_then fault_kind _ _ _ _ _ _ refl refl
   fault_fills Barred f = word_then fault_kind _ _ _ _ _ _ refl refl
+  fault_fills Blocked f = word_then fault_kind _ _ _ _ _ _ refl refl
   fault_fills (Clash c) f = word_then fault_kind _ _ _ _ _ _ refl (course_then _ c _ _ f refl)
   fault_fills (RoomTaken c) f = word_then fault_kind _ _ _ _ _ _ refl (course_then _ c _ _ f refl)
 

@@ -15,7 +15,7 @@ use Rattle.ctt_script.specs.declared.kinds.StepKind.TheVariants.{Open, Commit, R
 use Rattle.ctt_script.specs.declared.kinds.ReplyKind.{ReplyKind}
 use Rattle.ctt_script.specs.declared.kinds.ReplyKind.TheVariants.{Done, Refused, Lectures, Costs, Price as Priced, Missing as AreMissing, Edits as AreCheapest}
 use Rattle.ctt_script.specs.declared.kinds.FaultKind.{FaultKind}
-use Rattle.ctt_script.specs.declared.kinds.FaultKind.TheVariants.{NotPlaced, SameSlot, SameCourse, AlreadyThere, CourseFull, Unavailable, Barred, Clash, RoomTaken}
+use Rattle.ctt_script.specs.declared.kinds.FaultKind.TheVariants.{NotPlaced, SameSlot, SameCourse, AlreadyThere, CourseFull, Unavailable, Barred, Blocked, Clash, RoomTaken}
 
 -- the kind that a keyword stands for; none for any other word
 unfoldable pub edit_kind : List ℕ → Option EditKind
@@ -86,6 +86,7 @@ fault_kind word =
     else if bytes_eq word (codes "full") then Some CourseFull
     else if bytes_eq word (codes "unavailable") then Some Unavailable
     else if bytes_eq word (codes "barred") then Some Barred
+    else if bytes_eq word (codes "blocked") then Some Blocked
     else if bytes_eq word (codes "clash") then Some Clash
     else if bytes_eq word (codes "roomtaken") then Some RoomTaken
     else None

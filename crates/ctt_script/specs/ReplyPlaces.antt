@@ -6,7 +6,7 @@ use Rattle.ctt_text.specs.Places.{number}
 use Rattle.ctt_text.specs.Forms.{Form, done, ◌>>=◌, list_of}
 use Rattle.ctt_rules.specs.declared.cost.Cost.{Cost}
 use Rattle.ctt_edits.specs.declared.fault.EditFault.{EditFault}
-use Rattle.ctt_edits.specs.declared.fault.EditFault.TheVariants.{NotPlaced, SameSlot, SameCourse, AlreadyThere, CourseFull, Unavailable, Barred, Clash, RoomTaken}
+use Rattle.ctt_edits.specs.declared.fault.EditFault.TheVariants.{NotPlaced, SameSlot, SameCourse, AlreadyThere, CourseFull, Unavailable, Barred, Blocked, Clash, RoomTaken}
 use Rattle.ctt_edits.specs.declared.priced_edit.PricedEdit.{PricedEdit}
 use Rattle.ctt_edits.specs.declared.shortfall.Shortfall.{Shortfall}
 use Rattle.ctt_edits.specs.declared.reply.Reply.{Reply}
@@ -31,6 +31,7 @@ fault_after i fault.AlreadyThere = done AlreadyThere
 fault_after i fault.CourseFull = done CourseFull
 fault_after i fault.Unavailable = done Unavailable
 fault_after i fault.Barred = done Barred
+fault_after i fault.Blocked = done Blocked
 fault_after i fault.Clash = do
   c ← course i
   done (Clash c)

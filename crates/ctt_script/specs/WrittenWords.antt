@@ -15,7 +15,7 @@ use Rattle.ctt_edits.specs.declared.shortfall.Shortfall.{Shortfall}
 use Rattle.ctt_edits.specs.declared.call.Call.{Call}
 use Rattle.ctt_edits.specs.declared.call.Call.TheVariants.{Look as Looks, Edit as Edits}
 use Rattle.ctt_edits.specs.declared.fault.EditFault.{EditFault}
-use Rattle.ctt_edits.specs.declared.fault.EditFault.TheVariants.{NotPlaced, SameSlot, SameCourse, AlreadyThere, CourseFull, Unavailable, Barred, Clash, RoomTaken}
+use Rattle.ctt_edits.specs.declared.fault.EditFault.TheVariants.{NotPlaced, SameSlot, SameCourse, AlreadyThere, CourseFull, Unavailable, Barred, Blocked, Clash, RoomTaken}
 use Rattle.ctt_edits.specs.declared.reply.Reply.{Reply}
 use Rattle.ctt_edits.specs.declared.reply.Reply.TheVariants.{Done, Refused, Lectures, Costs, Price as Priced, Missing as AreMissing, Edits as AreCheapest}
 use Rattle.ctt_draft.specs.declared.asked.Asked.{Asked}
@@ -83,6 +83,7 @@ fault_words i AlreadyThere = codes "already" ∷ []
 fault_words i CourseFull = codes "full" ∷ []
 fault_words i Unavailable = codes "unavailable" ∷ []
 fault_words i Barred = codes "barred" ∷ []
+fault_words i Blocked = codes "blocked" ∷ []
 fault_words i (Clash c) = codes "clash" ∷ course_word i c ∷ []
 fault_words i (RoomTaken c) = codes "roomtaken" ∷ course_word i c ∷ []
 

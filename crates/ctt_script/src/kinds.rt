@@ -78,6 +78,7 @@ pub(crate) enum FaultKind {
     CourseFull,
     Unavailable,
     Barred,
+    Blocked,
     Clash,
     RoomTaken,
 }
@@ -246,6 +247,8 @@ pub(crate) fn fault_kind(word: &str) -> Option<FaultKind>
         Some(FaultKind::Unavailable)
     } else if is_word(word, "barred") {
         Some(FaultKind::Barred)
+    } else if is_word(word, "blocked") {
+        Some(FaultKind::Blocked)
     } else if is_word(word, "clash") {
         Some(FaultKind::Clash)
     } else if is_word(word, "roomtaken") {

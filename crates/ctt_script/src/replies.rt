@@ -34,6 +34,7 @@ fn read_fault_after(
         FaultKind::CourseFull => Ok(EditFault::CourseFull),
         FaultKind::Unavailable => Ok(EditFault::Unavailable),
         FaultKind::Barred => Ok(EditFault::Barred),
+        FaultKind::Blocked => Ok(EditFault::Blocked),
         FaultKind::Clash => Ok(EditFault::Clash(read_course(reader, instance)?)),
         FaultKind::RoomTaken => Ok(EditFault::RoomTaken(read_course(reader, instance)?)),
     }

@@ -28,6 +28,7 @@ pub fn words_of_fault<'i>(instance: &'i Instance, fault: &EditFault) -> Words<'i
         EditFault::CourseFull => one(Word::text("full")),
         EditFault::Unavailable => one(Word::text("unavailable")),
         EditFault::Barred => one(Word::text("barred")),
+        EditFault::Blocked => one(Word::text("blocked")),
         EditFault::Clash(number) => two("clash", course(instance, *number)),
         EditFault::RoomTaken(number) => two("roomtaken", course(instance, *number)),
     }
