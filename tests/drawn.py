@@ -56,6 +56,22 @@ def draw_instance(draw, pieces_of=PIECES):
     return set_out(draw, words), set_out(draw, barred) if draw.random() < 0.5 else None
 
 
+def draw_blocked(draw, instance):
+    """A text of closures of an instance, or none: of rooms, teachers and courses, in one slot or many, some named twice."""
+    if draw.random() < 0.4:
+        return None
+    names = {"room": [room[0] for room in instance.rooms], "teacher": instance.teachers, "course": [it[0] for it in instance.courses]}
+    kinds = [kind for kind in names if names[kind]]
+    entries = []
+    for _ in range(draw.choice((0, 1, 3, 6))):
+        kind = draw.choice(kinds)
+        day, period = (draw.choice(("*", f"{draw.randrange(many):0{draw.randint(1, 3)}}")) for many in (instance.days, instance.periods))
+        entries += [[kind, draw.choice(names[kind]), day, period]] * draw.choice((1, 1, 1, 2))
+    draw.shuffle(entries)
+    more = draw.choice(([], [], ["and", "more"]))
+    return set_out(draw, ["Blocked:", len(entries), *itertools.chain.from_iterable(entries), "END.", *more])
+
+
 def draw_solution(draw, instance):
     """A solution: any lectures, or all in few slots, or as many as the rules allow, and of those perhaps some moved."""
     slots = [(d, p) for d in range(instance.days) for p in range(instance.periods)]

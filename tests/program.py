@@ -28,20 +28,22 @@ def read_files(files):
     return texts
 
 
-def write_files(folder, instance, solution, barred=None):
-    """Files of an instance, a solution and perhaps barred rooms, as the words of a command give them."""
+def write_files(folder, instance, solution, barred=None, blocked=None):
+    """Files of an instance, a solution and perhaps barred rooms and closures, as the words of a command give them."""
     files = []
-    for name, text in ("drawn.ctt", instance), ("drawn.sol", solution), ("drawn.barred", barred):
+    texts = {"ctt": instance, "sol": solution, "barred": barred, "blocked": blocked}
+    for ending, text in texts.items():
         if text is not None:
-            files.append(os.path.join(folder, name))
+            files.append(os.path.join(folder, f"drawn.{ending}"))
             with open(files[-1], "wb") as opened:
                 opened.write(text)
     return files
 
 
 def words_of(files):
-    """The words of a command by which it is given these files."""
-    return [*files[:2], *(("--barred", files[2]) if len(files) > 2 else ())]
+    """The words of a command by which it is given these files. The option of a side file is its ending."""
+    sides = (("--" + os.path.splitext(file)[1][1:], file) for file in files[2:])
+    return [*files[:2], *itertools.chain.from_iterable(sides)]
 
 
 def build(folder, name):

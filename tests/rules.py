@@ -3,7 +3,8 @@ import itertools
 
 # the counts of a report and the kinds of findings, both in the order in which they are told
 KINDS = {"lectures": "lectures", "conflicts": "conflict", "availability": "availability", "occupancy": "occupancy",
-         "barred": "barred", "capacity": "capacity", "days": "days", "compactness": "compactness", "stability": "stability"}
+         "barred": "barred", "blocked": "blocked", "capacity": "capacity", "days": "days", "compactness": "compactness",
+         "stability": "stability"}
 
 
 def line(finding):
@@ -12,9 +13,9 @@ def line(finding):
 
 
 class Instance:
-    """An instance by the text of its file, and the text of its barred rooms, if there is one."""
+    """An instance by the text of its file, and the texts of its barred rooms and of its closures, if there are such."""
 
-    def __init__(self, text, barred=None):
+    def __init__(self, text, *sides):
         take = map(bytes.decode, text.split()).__next__
 
         def head():
@@ -35,11 +36,29 @@ class Instance:
         take()
         self.curricula = [(take(), {number[take()] for _ in range(int(take()))}) for _ in range(curricula)]
         take()
-        self.unavailable = {(number[take()], int(take()), int(take())) for _ in range(constraints)}
-        self.barred = set()
-        if barred is not None:
-            take = map(bytes.decode, barred.split()).__next__
-            self.barred = {(number[take()], room_number[take()]) for _ in range(head())}
+        self.listed = {(number[take()], int(take()), int(take())) for _ in range(constraints)}
+        self.barred, self.blocked, self.closed = set(), set(), set()
+        for side in filter(None, sides):
+            words = [word.decode() for word in side.split()]
+            if words[0] == "Barred:":
+                pairs = zip(words[2::2], words[3::2])
+                self.barred = {(number[c], room_number[r]) for c, r in itertools.islice(pairs, int(words[1]))}
+            else:
+                entries = zip(words[2::4], words[3::4], words[4::4], words[5::4])
+                self.close(itertools.islice(entries, int(words[1])))
+        self.unavailable = self.listed | self.closed
+
+    def close(self, entries):
+        """What these entries of closures block: rooms in slots, and courses in slots, by themselves and by their teachers."""
+        for kind, name, day, period in entries:
+            days = range(self.days) if day == "*" else [int(day)]
+            periods = range(self.periods) if period == "*" else [int(period)]
+            slots = [(d, p) for d in days for p in periods]
+            if kind == "room":
+                self.blocked |= {(r, *slot) for r, room in enumerate(self.rooms) if room[0] == name for slot in slots}
+            else:
+                who = {"course": 0, "teacher": 1}[kind]
+                self.closed |= {(c, *slot) for c, course in enumerate(self.courses) if course[who] == name for slot in slots}
 
     def names(self):
         """The names of what has a week of its own, by kind."""
@@ -102,6 +121,8 @@ class Instance:
                 yield "occupancy", at, {"room": room, **when, "course": course}
             if (c, r) in self.barred:
                 yield "barred", at, where
+            if (r, day, period) in self.blocked:
+                yield "blocked", at, where
             if students > seats:
                 yield "capacity", at, {**where, "points": students - seats}
 
@@ -132,6 +153,7 @@ class Instance:
         counts["availability"] = sum(lecture[:3] in self.unavailable for lecture in t)
         counts["occupancy"] = sum(len(row) - len({lecture[3] for lecture in row}) for row in standing.values())
         counts["barred"] = sum((lecture[0], lecture[3]) in self.barred for lecture in t)
+        counts["blocked"] = sum((lecture[3], *lecture[1:3]) in self.blocked for lecture in t)
         counts["capacity"] = sum(max(0, self.courses[c][4] - self.rooms[r][1]) for c, _, _, r in t)
         counts["days"] = sum(5 * max(0, course[3] - len({l[1] for l in row})) for row, course in zip(own, self.courses))
         counts["compactness"] = 0
@@ -141,7 +163,7 @@ class Instance:
                 for before, here, behind in zip([0] + at, at, at[1:] + [0]):
                     counts["compactness"] += 2 * here if before == behind == 0 else 0
         counts["stability"] = sum(max(0, len({lecture[3] for lecture in row}) - 1) for row in own)
-        lawful = not any(counts[kind] for kind in ("conflicts", "availability", "occupancy", "barred"))
+        lawful = not any(counts[kind] for kind in ("conflicts", "availability", "occupancy", "barred", "blocked"))
         lawful = lawful and all(len(row) <= course[2] for row, course in zip(own, self.courses))
         return counts, lawful, lawful and counts["lectures"] == 0
 
@@ -150,6 +172,8 @@ class Instance:
         counts, lawful, complete = self.count(t)
         if not self.barred:
             del counts["barred"]
+        if not self.blocked:
+            del counts["blocked"]
         counts["total"] = sum(counts[kind] for kind in ("capacity", "days", "compactness", "stability"))
         lines = [f"instance {self.name}"] + [f"{kind} {count}" for kind, count in counts.items()]
         lines += [f"lawful {'yes' if lawful else 'no'}", f"complete {'yes' if complete else 'no'}"]
