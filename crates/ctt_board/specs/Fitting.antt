@@ -1,6 +1,6 @@
 -- The test whether a change fits.
 use Rattle.std.specs.Prelude.{◌≡◌, ◌↔◌, ℕ, Bool, true, false, not, ◌&&◌, nat_lt, List, [], ◌∷◌, length, Option, Some, None, is_some, is_none}
-use Rattle.ctt_problem.specs.Problem.{Problem, course_of, course_count, slot_count, room_count, is_unavailable, is_barred}
+use Rattle.ctt_problem.specs.Problem.{Problem, course_of, course_count, slot_count, room_count, is_unavailable, is_barred, is_blocked}
 use Rattle.ctt_problem.specs.Timetable.{course_row}
 use Rattle.ctt_problem.specs.declared.placed.Placed.{Placed}
 use Rattle.ctt_rules.specs.Hard.{Lawful}
@@ -11,9 +11,9 @@ use Rattle.ctt_board.specs.declared.cell.Cell.{Cell}
 abbrev pub is_known : Problem → Placed → Bool
 is_known i l = nat_lt l.course (course_count i) && (nat_lt l.slot (slot_count i) && nat_lt l.room (room_count i))
 
--- the course is available in the slot, and the room is not barred for it
+-- the course is available in the slot, and the room is neither barred for it nor blocked there
 abbrev pub is_allowed : Problem → Placed → Bool
-is_allowed i l = not (is_unavailable i l.course l.slot) && not (is_barred i l.course l.room)
+is_allowed i l = not (is_unavailable i l.course l.slot) && (not (is_barred i l.course l.room) && not (is_blocked i l.room l.slot))
 
 -- the course has lectures left to place and none in this slot, and slot and room are allowed
 abbrev pub is_wanted : Problem → List Placed → Placed → Bool

@@ -18,7 +18,9 @@ nothing = record {
   days = 0;
   periods = 0;
   unavailable = [];
+  closed = [];
   barred = [];
+  blocked = [];
 }
 
 -- a desk's opening: its instance, its lectures, and the logbook of its history

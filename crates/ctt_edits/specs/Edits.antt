@@ -2,7 +2,7 @@
 use Rattle.std.specs.Prelude.{ℕ, ◌<◌, Bool, cond, ◌||◌, List, [], ◌∷◌, length, ◌==◌, nat_le, Option, Some, None, is_none, is_some, Result, Ok, Err}
 use Rattle.std.specs.List.{find}
 use Rattle.std.specs.Option.{option_map}
-use Rattle.ctt_problem.specs.Problem.{Problem, course_of, course_count, slot_count, room_count, clash, is_unavailable, is_barred}
+use Rattle.ctt_problem.specs.Problem.{Problem, course_of, course_count, slot_count, room_count, clash, is_unavailable, is_barred, is_blocked}
 use Rattle.ctt_problem.specs.Timetable.{course_row, slot_row, without}
 use Rattle.ctt_problem.specs.declared.placed.Placed.{Placed}
 use Rattle.ctt_board.specs.Changes.{room_of, room_at, clash_at, cell, apply, apply_at}
@@ -10,7 +10,7 @@ use Rattle.ctt_board.specs.declared.cell.Cell.{Cell}
 use Rattle.ctt_edits.specs.declared.edit.Edit.{Edit}
 use Rattle.ctt_edits.specs.declared.edit.Edit.TheVariants.{Place, Move, Swap, Reroom, Drop}
 use Rattle.ctt_edits.specs.declared.fault.EditFault.{EditFault}
-use Rattle.ctt_edits.specs.declared.fault.EditFault.TheVariants.{NotPlaced, SameSlot, SameCourse, AlreadyThere, CourseFull, Unavailable, Barred, Clash, RoomTaken}
+use Rattle.ctt_edits.specs.declared.fault.EditFault.TheVariants.{NotPlaced, SameSlot, SameCourse, AlreadyThere, CourseFull, Unavailable, Barred, Blocked, Clash, RoomTaken}
 
 -- its numbers are those of the instance
 abbrev pub EditFits : Problem → Edit → Type 0
@@ -35,7 +35,7 @@ first_course p ls = option_map (λ (l : Placed). l.course) (find p ls)
 
 -- the first fault of a lecture by itself, which depends on no row
 abbrev pub fault_alone : Problem → ℕ → ℕ → ℕ → Option EditFault
-fault_alone i c s r = or_else (fault_if (is_unavailable i c s) Unavailable) (fault_if (is_barred i c r) Barred)
+fault_alone i c s r = or_else (fault_if (is_unavailable i c s) Unavailable) (or_else (fault_if (is_barred i c r) Barred) (fault_if (is_blocked i r s) Blocked))
 
 -- the first fault of placing a lecture, given the row of its course and the row of its slot
 abbrev pub try_in : Problem → ℕ → ℕ → ℕ → List Placed → List Placed → Option EditFault
@@ -56,12 +56,13 @@ try_room_of i t c s None = None
 try_room_of i t c s (Some r) = try_fault i t c s r
 
 -- the first fault of placing a lecture of course c in the slot and room of lecture l, which leaves;
--- the course is not full, and the room is free
+-- the course is not full, and the room is free, and not blocked in the slot
 abbrev pub fault_in_place_of : Problem → List Placed → ℕ → Placed → Option EditFault
 fault_in_place_of i t c l =
     or_else (fault_if (is_some (room_at c l.slot t)) AlreadyThere)
-    (or_else (fault_alone i c l.slot l.room)
-    (option_map Clash (clash_at i c l.slot (without l.course l.slot t))))
+    (or_else (fault_if (is_unavailable i c l.slot) Unavailable)
+    (or_else (fault_if (is_barred i c l.room) Barred)
+    (option_map Clash (clash_at i c l.slot (without l.course l.slot t)))))
 
 -- the change of an edit: its removals, then its additions
 abbrev pub change : List Placed → Edit → List Cell

@@ -40,6 +40,9 @@ fn place_fault<R: Rooms>(
     if instance.barred(course, room) {
         return Some(EditFault::Barred);
     }
+    if instance.blocked(room, slot) {
+        return Some(EditFault::Blocked);
+    }
     if let Some(other) = first_clash(instance, rooms, course, slot) {
         return Some(EditFault::Clash(other));
     }
@@ -95,7 +98,8 @@ fn replace_fault<'i, S: Sheet<'i>>(
 }
 
 /// Returns the first fault of placing a course's lecture in the slot and room of another one, which
-/// leaves. The course is not full, since a lecture of its own has left too.
+/// leaves. The course is not full, since a lecture of its own has left too, and the room is not
+/// blocked in the slot, since a lecture stands there.
 fn fault_in_place_of<'i, S: Sheet<'i>>(
     sheet: &S,
     course: CourseNo,

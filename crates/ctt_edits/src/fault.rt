@@ -30,6 +30,9 @@ pub enum EditFault {
     /// The room is barred for the course.
     #[error("the room is barred")]
     Barred,
+    /// The room is blocked in the slot.
+    #[error("the room is blocked")]
+    Blocked,
     /// A clashing course has a lecture in the slot; of several, the one with the lowest number.
     #[error("a clash with {0:?}")]
     Clash(CourseNo),
@@ -51,7 +54,8 @@ impl EditFault {
             | EditFault::AlreadyThere
             | EditFault::CourseFull
             | EditFault::Unavailable
-            | EditFault::Barred => true,
+            | EditFault::Barred
+            | EditFault::Blocked => true,
         }
     }
 }

@@ -15,13 +15,15 @@ fn is_known(instance: &Instance, lecture: &Placed) -> bool
         && (lecture.slot.get() < instance.slots() && lecture.room.get() < instance.rooms())
 }
 
-/// Returns whether the course is available in the slot, and the room is not barred for it.
+/// Returns whether the course is available in the slot, and the room is neither barred for it nor
+/// blocked there.
 fn is_allowed(instance: &Instance, lecture: &Placed) -> bool
     requires { Fits instance.now lecture.now }
     ensures { result ≡ is_allowed instance.now lecture.now }
 {
     !instance.unavailable(lecture.course, lecture.slot)
-        && !instance.barred(lecture.course, lecture.room)
+        && (!instance.barred(lecture.course, lecture.room)
+            && !instance.blocked(lecture.room, lecture.slot))
 }
 
 /// Returns whether the course has lectures left to place and none in this slot, and slot and room

@@ -21,7 +21,9 @@ problem_in i = record {
   days = i.days;
   periods = i.periods;
   unavailable = marks_of i.unavailable;
+  closed = marks_of i.closed;
   barred = marks_of i.barred;
+  blocked = marks_of i.blocked;
 }
 
 -- the table marks for each course the courses that it clashes with
@@ -35,6 +37,8 @@ pub record IsInstance (i : Inside) : Type 0 where
   pub named : IsNamed (problem_in i)
   pub clashes : AreClashes (problem_in i) i.clashes
   pub available : HasSize i.unavailable (course_count (problem_in i)) (slot_count (problem_in i))
+  pub closed : HasSize i.closed (course_count (problem_in i)) (slot_count (problem_in i))
   pub barred : HasSize i.barred (course_count (problem_in i)) (room_count (problem_in i))
+  pub blocked : HasSize i.blocked (room_count (problem_in i)) (slot_count (problem_in i))
   pub belonging : AreCurricula (problem_in i) (map (λ q. q.items) i.belonging.items)
   pub taught : AreTaught (problem_in i) (map (λ q. q.items) i.taught.items)

@@ -1,4 +1,5 @@
--- The problem that the parts of an instance state: in it no room is barred.
+-- The problem that the parts of an instance state: in it nothing is closed, and no room is barred or
+-- blocked.
 use Rattle.std.specs.Prelude.{◌*◌, false, length, map, replicate}
 use Rattle.ctt_problem.specs.Problem.{Problem}
 use Rattle.ctt_problem.specs.BitRows.{marks_of}
@@ -17,5 +18,7 @@ problem_by p = record {
   days = p.days;
   periods = p.periods;
   unavailable = marks_of p.unavailable;
+  closed = replicate (length p.courses.items * (p.days * p.periods)) false;
   barred = replicate (length p.courses.items * length p.capacities.items) false;
+  blocked = replicate (length p.capacities.items * (p.days * p.periods)) false;
 }

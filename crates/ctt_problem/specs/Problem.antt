@@ -19,7 +19,9 @@ pub record Problem : Type 0 where
   pub days : ℕ
   pub periods : ℕ  -- per day
   pub unavailable : List Bool  -- for each course in turn, for each slot in turn
+  pub closed : List Bool  -- by closures: for each course in turn, for each slot in turn
   pub barred : List Bool  -- for each course in turn, for each room in turn
+  pub blocked : List Bool  -- for each room in turn, for each slot in turn
 
 abbrev pub course_of : Problem → ℕ → CourseFacts
 course_of i c = get_or i.courses c (record { teacher = 0; lectures = 0; min_days = 0; students = 0 })
@@ -63,9 +65,10 @@ mates i c d = list_any (λ q. has c q && has d q) i.curricula
 abbrev pub clash : Problem → ℕ → ℕ → Bool
 clash i c d = not (c == d) && ((course_of i c).teacher == (course_of i d).teacher || mates i c d)
 
--- the course is unavailable in the slot
+-- the course is unavailable in the slot: as the text of the instance lists it, or by a closure of
+-- the course or of its teacher
 abbrev pub is_unavailable : Problem → ℕ → ℕ → Bool
-is_unavailable i c s = nat_lt s (slot_count i) && get_or i.unavailable (c * slot_count i + s) false
+is_unavailable i c s = nat_lt s (slot_count i) && (get_or i.unavailable (c * slot_count i + s) false || get_or i.closed (c * slot_count i + s) false)
 
 -- the room is barred for the course
 abbrev pub is_barred : Problem → ℕ → ℕ → Bool
@@ -74,6 +77,14 @@ is_barred i c r = nat_lt r (room_count i) && get_or i.barred (c * room_count i +
 -- some room is barred for some course
 abbrev pub has_barred : Problem → Bool
 has_barred i = list_any (λ b. b) i.barred
+
+-- the room is blocked in the slot
+abbrev pub is_blocked : Problem → ℕ → ℕ → Bool
+is_blocked i r s = nat_lt s (slot_count i) && get_or i.blocked (r * slot_count i + s) false
+
+-- some room is blocked in some slot
+abbrev pub has_blocked : Problem → Bool
+has_blocked i = list_any (λ b. b) i.blocked
 
 -- whether a word is one of the names
 abbrev pub is_among : List (List ℕ) → List ℕ → Bool
@@ -113,7 +124,9 @@ pub record IsProblem (i : Problem) : Type 0 where
   pub periods_few : i.periods ≤ 2000
   pub slots_few : i.days * i.periods ≤ 2000
   pub marked : length i.unavailable ≡ length i.courses * (i.days * i.periods)
+  pub closures_marked : length i.closed ≡ length i.courses * (i.days * i.periods)
   pub rooms_marked : length i.barred ≡ length i.courses * length i.capacities
+  pub rooms_blocked : length i.blocked ≡ length i.capacities * (i.days * i.periods)
   pub courses_named : length i.course_names ≡ length i.courses
   pub rooms_named : length i.room_names ≡ length i.capacities
   pub curricula_named : length i.curriculum_names ≡ length i.curricula
@@ -122,5 +135,5 @@ pub record IsProblem (i : Problem) : Type 0 where
   pub curricula : Each (AreMembers (length i.courses)) i.curricula
   -- each teacher has a course, and their numbers ascend as they are first named
   pub teachers_seen : teachers_named i ≡ range_with_len 0 (length i.teacher_names)
-  -- the pairs of a course and a slot in which it is unavailable
+  -- the pairs of a course and a slot in which the text of the instance lists it as unavailable
   pub pairs_few : length (filter (λ b. b) i.unavailable) ≤ 2000000

@@ -2,7 +2,7 @@
 
 ghost use Rattle.std.specs.Prelude.{◌≡◌, ◌<◌, ◌≤◌, ◌*◌, ◌&&◌, ℕ, length, nat_lt, IfSome};
 ghost use Rattle.std.specs.List.{AllByRecursion as Each};
-ghost use Rattle.ctt_problem.specs.Problem.{IsProblem, course_of, capacity_of, members, course_count, room_count, teacher_count, curriculum_count, slot_count, slot_of, day_of, period_of, clash, is_unavailable, is_barred, has_barred, IsSmall, AreMembers};
+ghost use Rattle.ctt_problem.specs.Problem.{IsProblem, course_of, capacity_of, members, course_count, room_count, teacher_count, curriculum_count, slot_count, slot_of, day_of, period_of, clash, is_unavailable, is_barred, has_barred, is_blocked, has_blocked, IsSmall, AreMembers};
 ghost use Rattle.ctt_problem.specs.Marks.{is_marked};
 ghost use Rattle.ctt_problem.specs.BitRows.{marks_of, HasSize};
 ghost use Rattle.ctt_problem.specs.Named.{IsNamed};
@@ -24,7 +24,7 @@ pub use parts::Parts;
 use std::marker::Model;
 
 /// An instance of curriculum-based course timetabling, with the rooms that are barred for each
-/// course.
+/// course, and the slots in which closures block courses and rooms.
 ///
 /// There are at most 2,000 courses, 1,000 rooms, 2,000 teachers, 20,000 curricula and 2,000 slots.
 pub struct Instance {
@@ -38,10 +38,14 @@ pub struct Instance {
     curricula: Vec<Vec<CourseNo>>,
     days: u16,
     periods: u16,
-    /// For each course, the slots in which it is unavailable.
+    /// For each course, the slots in which the text of the instance lists it as unavailable.
     unavailable: BitRows,
+    /// For each course, the slots in which it is blocked, or its teacher.
+    closed: BitRows,
     /// For each course, the rooms that are barred for it.
     barred: BitRows,
+    /// For each room, the slots in which it is blocked.
+    blocked: BitRows,
     /// For each course, the courses that it clashes with.
     clashes: BitRows,
     /// For each course, its curricula.
@@ -65,7 +69,9 @@ impl Drop for Instance {
             days: _,
             periods: _,
             unavailable: _,
+            closed: _,
             barred: _,
+            blocked: _,
             clashes: _,
             belonging: _,
             taught: _,
@@ -262,14 +268,16 @@ impl Instance {
         self.clashes.row(course.get() as usize)
     }
 
-    /// Returns whether a course is unavailable in a slot.
+    /// Returns whether a course is unavailable in a slot, as the text of the instance lists it or by
+    /// a closure.
     pub fn unavailable(&self, course: CourseNo, slot: SlotNo) -> bool
         requires course { course < course_count self.now }
         requires slot { slot < slot_count self.now }
         ensures { result ≡ is_unavailable self.now course slot }
     {
-        self.unavailable
-            .is_marked(course.get() as usize, slot.get() as usize)
+        let row = course.get() as usize;
+        let mark = slot.get() as usize;
+        self.unavailable.is_marked(row, mark) || self.closed.is_marked(row, mark)
     }
 
     /// Returns whether a room is barred for a course.
@@ -295,6 +303,35 @@ impl Instance {
         ensures { result ≡ has_barred self.now }
     {
         self.barred.has_marks()
+    }
+
+    /// Returns whether a room is blocked in a slot.
+    pub fn blocked(&self, room: RoomNo, slot: SlotNo) -> bool
+        requires room { room < room_count self.now }
+        requires slot { slot < slot_count self.now }
+        ensures { result ≡ is_blocked self.now room slot }
+    {
+        self.blocked
+            .is_marked(room.get() as usize, slot.get() as usize)
+    }
+
+    /// Blocks the courses in the slots that the first table marks, and the rooms in those that the
+    /// second one marks, and no others. What the text of the instance lists as unavailable stays.
+    pub fn set_blocked(&mut self, closed: BitRows, blocked: BitRows)
+        requires closed { HasSize closed (course_count self.old) (slot_count self.old) }
+        requires blocked { HasSize blocked (room_count self.old) (slot_count self.old) }
+        ensures { self.new
+            ≡ record self.old { closed = marks_of closed; blocked = marks_of blocked } }
+    {
+        self.closed = closed;
+        self.blocked = blocked;
+    }
+
+    /// Returns whether any room is blocked in any slot.
+    pub fn has_blocked(&self) -> bool
+        ensures { result ≡ has_blocked self.now }
+    {
+        self.blocked.has_marks()
     }
 
     /// Returns the slot of a period of a day.

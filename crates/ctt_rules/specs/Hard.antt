@@ -2,7 +2,7 @@
 use Rattle.std.specs.Prelude.{ℕ, ◌+◌, ◌-◌, ◌≤◌, ◌≡◌, Bool, false, List, [], ◌∷◌, length, count_by, ◌==◌, ◌&&◌}
 use Rattle.std.specs.List.{AllByRecursion as Each}
 use Rattle.ctt_problem.specs.Lists.{Pairwise, sum_below}
-use Rattle.ctt_problem.specs.Problem.{Problem, course_of, course_count, slot_count, room_count, clash, is_unavailable, is_barred}
+use Rattle.ctt_problem.specs.Problem.{Problem, course_of, course_count, slot_count, room_count, clash, is_unavailable, is_barred, is_blocked}
 use Rattle.ctt_problem.specs.Timetable.{IsTimetable, course_row}
 use Rattle.ctt_problem.specs.declared.placed.Placed.{Placed}
 use Rattle.ctt_rules.specs.declared.hard.Hard.{Hard}
@@ -15,10 +15,10 @@ conflicts i a b = a.slot == b.slot && clash i a.course b.course
 abbrev pub share_room : Placed → Placed → Bool
 share_room a b = a.slot == b.slot && a.room == b.room
 
--- a lecture breaks no rule by itself: its course is available in the slot, and its room is not
--- barred for the course
+-- a lecture breaks no rule by itself: its course is available in the slot, and its room is neither
+-- barred for the course nor blocked in the slot
 abbrev pub IsAllowed : Problem → Placed → Type 0
-IsAllowed i l = (is_unavailable i l.course l.slot ≡ false) × (is_barred i l.course l.room ≡ false)
+IsAllowed i l = (is_unavailable i l.course l.slot ≡ false) × (is_barred i l.course l.room ≡ false) × (is_blocked i l.room l.slot ≡ false)
 
 -- the timetable breaks no hard rule, missing lectures aside
 pub record Lawful (i : Problem) (t : List Placed) : Type 0 where
@@ -50,6 +50,10 @@ unavailable_count i t = count_by (λ l. is_unavailable i l.course l.slot) t
 abbrev pub barred_count : Problem → List Placed → ℕ
 barred_count i t = count_by (λ l. is_barred i l.course l.room) t
 
+-- lectures in rooms in slots in which the rooms are blocked
+abbrev pub blocked_count : Problem → List Placed → ℕ
+blocked_count i t = count_by (λ l. is_blocked i l.room l.slot) t
+
 -- lectures beyond the first in each room and slot
 abbrev pub occupancy_count : Problem → List Placed → ℕ
 occupancy_count i t = sum_below (λ r. sum_below (λ s. count_by (λ l. l.room == r && l.slot == s) t - 1) (slot_count i)) (room_count i)
@@ -62,4 +66,5 @@ hard_counts i t = record {
   availability = unavailable_count i t;
   occupancy = occupancy_count i t;
   barred = barred_count i t;
+  blocked = blocked_count i t;
 }

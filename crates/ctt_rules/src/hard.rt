@@ -3,14 +3,15 @@
 ghost use Rattle.std.specs.Prelude.{◌≡◌};
 ghost use Rattle.std.specs.List.{AllByRecursion as Each};
 ghost use Rattle.ctt_problem.specs.Timetable.{IsTimetable, Fits};
-ghost use Rattle.ctt_rules.specs.Hard.{hard_counts, missing_count, unavailable_count, barred_count};
+ghost use Rattle.ctt_rules.specs.Hard.{hard_counts, missing_count, unavailable_count, barred_count, blocked_count};
 
 use crate::row::cut_row;
 use crate::sharing::count_sharing;
 use ctt_problem::{CourseNo, Instance, Placed};
 
 /// How often a timetable breaks each of the four hard constraints of the technical report of
-/// Di Gaspero, McCollum and Schaerf for ITC 2007, and how many lectures are in barred rooms.
+/// Di Gaspero, McCollum and Schaerf for ITC 2007, and how many lectures are in barred and in blocked
+/// rooms.
 #[derive(Clone, Copy, Default, PartialEq, Eq)]
 pub struct Hard {
     /// Missing and surplus lectures, over all courses.
@@ -23,6 +24,8 @@ pub struct Hard {
     pub occupancy: u64,
     /// Lectures in rooms that are barred for their courses.
     pub barred: u64,
+    /// Lectures in rooms that are blocked in their slots.
+    pub blocked: u64,
 }
 
 /// Counts the missing and surplus lectures of all courses.
@@ -70,6 +73,20 @@ fn barred(instance: &Instance, lectures: &[Placed]) -> u64
     count
 }
 
+/// Counts the lectures in rooms that are blocked in their slots.
+fn blocked(instance: &Instance, lectures: &[Placed]) -> u64
+    requires { Each (Fits instance.now) lectures.now }
+    ensures { result ≡ blocked_count instance.now lectures.now }
+{
+    let mut count = 0;
+    for lecture in lectures {
+        if instance.blocked(lecture.room, lecture.slot) {
+            count += 1;
+        }
+    }
+    count
+}
+
 /// Counts how often a timetable breaks each of the hard rules.
 pub fn hard_counts(instance: &Instance, timetable: &[Placed]) -> Hard
     requires { IsTimetable instance.now timetable.now }
@@ -82,5 +99,6 @@ pub fn hard_counts(instance: &Instance, timetable: &[Placed]) -> Hard
         availability: unavailable(instance, timetable),
         occupancy: sharing.occupancy,
         barred: barred(instance, timetable),
+        blocked: blocked(instance, timetable),
     }
 }

@@ -32,9 +32,12 @@ fn has_no_surplus(instance: &Instance, timetable: &[Placed], hard: &Hard) -> boo
 fn breaks_none(hard: &Hard) -> bool
     ensures { result
         ≡ (hard.now.conflicts == 0
-        && (hard.now.availability == 0 && (hard.now.occupancy == 0 && hard.now.barred == 0))) }
+        && (hard.now.availability == 0
+        && (hard.now.occupancy == 0 && (hard.now.barred == 0 && hard.now.blocked == 0)))) }
 {
-    hard.conflicts == 0 && (hard.availability == 0 && (hard.occupancy == 0 && hard.barred == 0))
+    hard.conflicts == 0
+        && (hard.availability == 0
+            && (hard.occupancy == 0 && (hard.barred == 0 && hard.blocked == 0)))
 }
 
 /// Returns whether a timetable with these hard counts is lawful.
@@ -58,7 +61,8 @@ pub(crate) fn has_all(instance: &Instance, timetable: &[Placed], hard: &Hard, la
 
 /// Returns whether a timetable breaks no hard rule, unplaced lectures aside: no two lectures in one
 /// slot have courses that clash, no lecture is in a slot in which its course is unavailable or in a
-/// room that is barred for it, no two share a room and slot, and no course has surplus lectures.
+/// room that is barred for it or blocked in that slot, no two share a room and slot, and no course
+/// has surplus lectures.
 pub fn is_lawful(instance: &Instance, timetable: &[Placed]) -> bool
     requires { IsTimetable instance.now timetable.now }
     ensures { IsTrue result ↔ Lawful instance.now timetable.now }

@@ -45,7 +45,9 @@ pub struct Parts<'a> {
 #[derive(Drop)]
 struct Tables {
     name: String,
+    closed: BitRows,
     barred: BitRows,
+    blocked: BitRows,
     clashes: BitRows,
     belonging: Vec<Vec<CurriculumNo>>,
     taught: Vec<Vec<CourseNo>>,
@@ -59,9 +61,15 @@ impl<'a> Parts<'a> {
         requires available { HasSize self.unavailable (course_count (problem_by self))
             (slot_count (problem_by self)) }
         requires name { string_bytes tables.name ≡ self.name.now }
+        requires closed { HasSize tables.closed (course_count (problem_by self))
+            (slot_count (problem_by self)) }
+        requires none_closed { marks_of tables.closed ≡ (problem_by self).closed }
         requires barred { HasSize tables.barred (course_count (problem_by self))
             (room_count (problem_by self)) }
         requires none_barred { marks_of tables.barred ≡ (problem_by self).barred }
+        requires blocked { HasSize tables.blocked (room_count (problem_by self))
+            (slot_count (problem_by self)) }
+        requires none_blocked { marks_of tables.blocked ≡ (problem_by self).blocked }
         requires clashes { AreClashes (problem_by self) tables.clashes }
         requires belonging { AreCurricula (problem_by self)
             (map (λ q. q.items) tables.belonging.items) }
@@ -93,11 +101,27 @@ impl<'a> Parts<'a> {
             days,
             periods,
             unavailable,
+            closed: tables.closed,
             barred: tables.barred,
+            blocked: tables.blocked,
             clashes: tables.clashes,
             belonging: tables.belonging,
             taught: tables.taught,
         }
+    }
+
+    /// Returns a table in which no course is closed in a slot.
+    #[tactic(auto, using(crate::proofs::BitRowLemmas::marks_none))]
+    fn closed(&self, alloc: Global) -> Result<BitRows, AllocError>
+        requires problem { IsProblem (problem_by self.now) }
+        ensures size { IfOk result (λ table.
+            HasSize table (course_count (problem_by self.now))
+            (slot_count (problem_by self.now))) }
+        ensures none { IfOk result (λ table. marks_of table ≡ (problem_by self.now).closed) }
+    {
+        let slots = self.days * self.periods;
+        let table = BitRows::new(alloc, self.courses.len(), slots as usize)?;
+        Ok(table)
     }
 
     /// Returns a table in which no room is barred.
@@ -110,6 +134,20 @@ impl<'a> Parts<'a> {
         ensures none { IfOk result (λ table. marks_of table ≡ (problem_by self.now).barred) }
     {
         let table = BitRows::new(alloc, self.courses.len(), self.capacities.len())?;
+        Ok(table)
+    }
+
+    /// Returns a table in which no room is blocked in a slot.
+    #[tactic(auto, using(crate::proofs::BitRowLemmas::marks_none))]
+    fn blocked(&self, alloc: Global) -> Result<BitRows, AllocError>
+        requires problem { IsProblem (problem_by self.now) }
+        ensures size { IfOk result (λ table.
+            HasSize table (room_count (problem_by self.now))
+            (slot_count (problem_by self.now))) }
+        ensures none { IfOk result (λ table. marks_of table ≡ (problem_by self.now).blocked) }
+    {
+        let slots = self.days * self.periods;
+        let table = BitRows::new(alloc, self.capacities.len(), slots as usize)?;
         Ok(table)
     }
 
@@ -150,24 +188,37 @@ impl<'a> Parts<'a> {
     fn tables(&self, alloc: Global) -> Result<Tables, AllocError>
         requires problem { IsProblem (problem_by self.now) }
         ensures name { IfOk result (λ t. string_bytes t.name ≡ self.now.name.now) }
+        ensures closed { IfOk result (λ t.
+            HasSize t.closed (course_count (problem_by self.now))
+            (slot_count (problem_by self.now))) }
+        ensures none_closed { IfOk result (λ t. marks_of t.closed ≡ (problem_by self.now).closed) }
         ensures barred { IfOk result (λ t.
             HasSize t.barred (course_count (problem_by self.now))
             (room_count (problem_by self.now))) }
         ensures none_barred { IfOk result (λ t. marks_of t.barred ≡ (problem_by self.now).barred) }
+        ensures blocked { IfOk result (λ t.
+            HasSize t.blocked (room_count (problem_by self.now))
+            (slot_count (problem_by self.now))) }
+        ensures none_blocked { IfOk result (λ t.
+            marks_of t.blocked ≡ (problem_by self.now).blocked) }
         ensures clashes { IfOk result (λ t. AreClashes (problem_by self.now) t.clashes) }
         ensures belonging { IfOk result (λ t.
             AreCurricula (problem_by self.now) (map (λ q. q.items) t.belonging.items)) }
         ensures taught { IfOk result (λ t.
             AreTaught (problem_by self.now) (map (λ q. q.items) t.taught.items)) }
     {
+        let closed = self.closed(alloc)?;
         let barred = self.barred(alloc)?;
+        let blocked = self.blocked(alloc)?;
         let belonging = self.belonging(alloc)?;
         let taught = self.taught(alloc)?;
         let clashes = self.clashes(alloc, &taught)?;
         let name = String::from_str(alloc, self.name)?;
         Ok(Tables {
             name,
+            closed,
             barred,
+            blocked,
             clashes,
             belonging,
             taught,
