@@ -3,7 +3,7 @@ use Rattle.std.specs.Prelude.{ℕ, zero, suc, Bool, cond, List, [], ◌∷◌, �
 use Rattle.std.specs.List.{find, list_any}
 use Rattle.ctt_problem.specs.Belonging.{curricula_of}
 use Rattle.ctt_problem.specs.Lists.{has}
-use Rattle.ctt_problem.specs.Problem.{Problem, course_of, course_count, curriculum_count, members, clash, is_unavailable, is_barred}
+use Rattle.ctt_problem.specs.Problem.{Problem, course_of, course_count, curriculum_count, members, clash, is_unavailable, is_barred, is_blocked}
 use Rattle.ctt_problem.specs.Timetable.{course_row}
 use Rattle.ctt_problem.specs.declared.placed.Placed.{Placed}
 use Rattle.ctt_rules.specs.Hard.{share_room}
@@ -12,7 +12,7 @@ use Rattle.ctt_rules.specs.Penalty.{unseated, days_of, rooms_of, days_cost, room
 use Rattle.ctt_findings.specs.declared.finding.Cause.{Cause}
 use Rattle.ctt_findings.specs.declared.finding.Cause.TheVariants.{Teacher, Curriculum}
 use Rattle.ctt_findings.specs.declared.finding.Finding.{Finding}
-use Rattle.ctt_findings.specs.declared.finding.Finding.TheVariants.{Lectures, Conflict, Availability, Occupancy, Barred, Capacity, Days, Compactness, Stability}
+use Rattle.ctt_findings.specs.declared.finding.Finding.TheVariants.{Lectures, Conflict, Availability, Occupancy, Barred, Blocked, Capacity, Days, Compactness, Stability}
 
 -- the findings for each number below n, in order
 abbrev pub for_each : (ℕ → List Finding) → ℕ → List Finding
@@ -71,6 +71,10 @@ occupancy_from before (x ∷ xs) = option_to_list (occupancy_finding (list_any (
 abbrev pub barred_finding : Problem → Placed → Option Finding
 barred_finding i l = found (is_barred i l.course l.room) (Barred l)
 
+-- a lecture in a room that is blocked in the slot
+abbrev pub blocked_finding : Problem → Placed → Option Finding
+blocked_finding i l = found (is_blocked i l.room l.slot) (Blocked l)
+
 -- a lecture with more students than its room has seats
 abbrev pub capacity_finding : Problem → Placed → Option Finding
 capacity_finding i l = found (nat_lt 0 (unseated i l)) (Capacity l (unseated i l))
@@ -113,7 +117,8 @@ hard_findings i t = by_course i t (lectures_finding i)
     ++ (conflict_findings i t
     ++ (filter_map (availability_finding i) t
     ++ (occupancy_from [] t
-    ++ filter_map (barred_finding i) t)))
+    ++ (filter_map (barred_finding i) t
+    ++ filter_map (blocked_finding i) t))))
 
 -- what costs points
 abbrev pub soft_findings : Problem → List Placed → List Finding

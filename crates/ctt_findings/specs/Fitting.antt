@@ -5,7 +5,7 @@ use Rattle.ctt_problem.specs.Timetable.{Fits}
 use Rattle.ctt_findings.specs.declared.finding.Cause.{Cause}
 use Rattle.ctt_findings.specs.declared.finding.Cause.TheVariants.{Teacher, Curriculum}
 use Rattle.ctt_findings.specs.declared.finding.Finding.{Finding}
-use Rattle.ctt_findings.specs.declared.finding.Finding.TheVariants.{Lectures, Conflict, Availability, Occupancy, Barred, Capacity, Days, Compactness, Stability}
+use Rattle.ctt_findings.specs.declared.finding.Finding.TheVariants.{Lectures, Conflict, Availability, Occupancy, Barred, Blocked, Capacity, Days, Compactness, Stability}
 
 abbrev pub CauseFits : Problem → Cause → Type 0
 CauseFits i (Teacher n) = n < teacher_count i
@@ -17,6 +17,7 @@ FindingFits i (Conflict c d s why) = (c < course_count i) × (d < course_count i
 FindingFits i (Availability l) = Fits i l
 FindingFits i (Occupancy l) = Fits i l
 FindingFits i (Barred l) = Fits i l
+FindingFits i (Blocked l) = Fits i l
 FindingFits i (Capacity l points) = Fits i l
 FindingFits i (Days c days minimum points) = c < course_count i
 FindingFits i (Compactness q l points) = (q < curriculum_count i) × Fits i l

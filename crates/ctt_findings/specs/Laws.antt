@@ -7,7 +7,7 @@ use Rattle.ctt_rules.specs.Hard.{hard_counts}
 use Rattle.ctt_rules.specs.Penalty.{penalty}
 use Rattle.serde_json.specs.Written.{compact_text}
 use Rattle.ctt_findings.specs.Objects.{all_objects, item_texts}
-use Rattle.ctt_findings.specs.Findings.{findings, by_course, lectures_finding, conflict_findings, availability_finding, occupancy_from, barred_finding, capacity_finding, days_finding, compactness_findings, stability_finding}
+use Rattle.ctt_findings.specs.Findings.{findings, by_course, lectures_finding, conflict_findings, availability_finding, occupancy_from, barred_finding, blocked_finding, capacity_finding, days_finding, compactness_findings, stability_finding}
 use Rattle.ctt_findings.specs.declared.finding.Finding.{Finding}
 use Rattle.ctt_findings.specs.declared.finding.Finding.TheVariants.{Lectures, Capacity, Days, Compactness, Stability}
 
@@ -27,6 +27,7 @@ pub record AreCounted (i : Problem) (t : List Placed) : Type 0 where
   pub availability : sum_by points_of (filter_map (availability_finding i) t) ≡ (hard_counts i t).availability
   pub occupancy : sum_by points_of (occupancy_from [] t) ≡ (hard_counts i t).occupancy
   pub barred : sum_by points_of (filter_map (barred_finding i) t) ≡ (hard_counts i t).barred
+  pub blocked : sum_by points_of (filter_map (blocked_finding i) t) ≡ (hard_counts i t).blocked
   pub capacity : sum_by points_of (filter_map (capacity_finding i) t) ≡ (penalty i t).capacity
   pub days : sum_by points_of (by_course i t (days_finding i)) ≡ (penalty i t).days
   pub compactness : sum_by points_of (compactness_findings i t) ≡ (penalty i t).compactness

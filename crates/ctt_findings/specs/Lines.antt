@@ -8,7 +8,7 @@ use Rattle.ctt_findings.specs.Findings.{findings}
 use Rattle.ctt_findings.specs.declared.finding.Cause.{Cause}
 use Rattle.ctt_findings.specs.declared.finding.Cause.TheVariants.{Teacher, Curriculum}
 use Rattle.ctt_findings.specs.declared.finding.Finding.{Finding}
-use Rattle.ctt_findings.specs.declared.finding.Finding.TheVariants.{Lectures, Conflict, Availability, Occupancy, Barred, Capacity, Days, Compactness, Stability}
+use Rattle.ctt_findings.specs.declared.finding.Finding.TheVariants.{Lectures, Conflict, Availability, Occupancy, Barred, Blocked, Capacity, Days, Compactness, Stability}
 
 -- the value of a fact: a word or a number
 pub data Told : Type 0 where
@@ -60,6 +60,7 @@ facts i (Conflict c d s why) = kind (codes "conflict") ∷ course i c ∷ other_
 facts i (Availability l) = kind (codes "availability") ∷ course i l.course ∷ day i l.slot ∷ period i l.slot ∷ []
 facts i (Occupancy l) = kind (codes "occupancy") ∷ room i l.room ∷ day i l.slot ∷ period i l.slot ∷ course i l.course ∷ []
 facts i (Barred l) = kind (codes "barred") ∷ course i l.course ∷ room i l.room ∷ day i l.slot ∷ period i l.slot ∷ []
+facts i (Blocked l) = kind (codes "blocked") ∷ course i l.course ∷ room i l.room ∷ day i l.slot ∷ period i l.slot ∷ []
 facts i (Capacity l n) = kind (codes "capacity") ∷ course i l.course ∷ room i l.room ∷ day i l.slot ∷ period i l.slot ∷ points n ∷ []
 facts i (Days c days minimum n) = kind (codes "days") ∷ course i c ∷ fact (codes "days") (number days) ∷ fact (codes "minimum") (number minimum) ∷ points n ∷ []
 facts i (Compactness q l n) = kind (codes "compactness") ∷ curriculum i q ∷ course i l.course ∷ day i l.slot ∷ period i l.slot ∷ points n ∷ []

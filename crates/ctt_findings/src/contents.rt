@@ -6,7 +6,7 @@ ghost use Rattle.ctt_problem.specs.Problem.{course_count, curriculum_count, room
 ghost use Rattle.ctt_problem.specs.Timetable.{Fits};
 ghost use Rattle.ctt_findings.specs.Fitting.{CauseFits, FindingFits};
 ghost use Rattle.ctt_findings.specs.Lines.{cause_facts, course, day, fact, facts, kind, period, points, room, word};
-ghost use Rattle.ctt_findings.specs.declared.finding.Finding.TheVariants.{Lectures, Conflict, Availability, Occupancy, Barred, Capacity, Days, Compactness, Stability};
+ghost use Rattle.ctt_findings.specs.declared.finding.Finding.TheVariants.{Lectures, Conflict, Availability, Occupancy, Barred, Blocked, Capacity, Days, Compactness, Stability};
 
 use crate::fact::Fact;
 use crate::finding::{Cause, Finding};
@@ -84,6 +84,20 @@ fn barred<'i>(instance: &'i Instance, lecture: &Placed) -> ArrayVec<Fact<'i>, 8>
 {
     let mut facts = ArrayVec::new();
     facts.push(kind("barred"));
+    facts.push(course(instance, lecture.course));
+    facts.push(room(instance, lecture.room));
+    facts.push(day(instance, lecture.slot));
+    facts.push(period(instance, lecture.slot));
+    facts
+}
+
+/// Returns the facts of a lecture in a room that is blocked in the slot.
+fn blocked<'i>(instance: &'i Instance, lecture: &Placed) -> ArrayVec<Fact<'i>, 8>
+    requires { Fits instance.now lecture.now }
+    ensures { result.items ≡ facts instance.now (Blocked lecture.now) }
+{
+    let mut facts = ArrayVec::new();
+    facts.push(kind("blocked"));
     facts.push(course(instance, lecture.course));
     facts.push(room(instance, lecture.room));
     facts.push(day(instance, lecture.slot));
@@ -257,6 +271,7 @@ pub fn facts<'i>(instance: &'i Instance, finding: &Finding) -> ArrayVec<Fact<'i>
         Finding::Availability(lecture) => availability(instance, lecture),
         Finding::Occupancy(lecture) => occupancy(instance, lecture),
         Finding::Barred(lecture) => barred(instance, lecture),
+        Finding::Blocked(lecture) => blocked(instance, lecture),
         Finding::Capacity(lecture, points) => capacity(instance, lecture, *points),
         Finding::Days(course, count, minimum, points) => {
             days(instance, *course, *count, *minimum, *points)

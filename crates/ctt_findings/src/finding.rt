@@ -24,6 +24,8 @@ pub enum Finding {
     Occupancy(Placed),
     /// The lecture is in a room that is barred for its course.
     Barred(Placed),
+    /// The lecture is in a room that is blocked in the slot.
+    Blocked(Placed),
     /// The lecture has more students than its room has seats: the points.
     Capacity(Placed, u64),
     /// The course has lectures on too few days: their number, the minimum, and the points.

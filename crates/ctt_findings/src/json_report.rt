@@ -4,11 +4,12 @@ ghost use Rattle.std.specs.Prelude.{◌≡◌, ◌++◌, ◌^◌, ◌<◌, false
 ghost use Rattle.serde_json.specs.Data.{array, boolean, no_items, object, put as with_member};
 ghost use Rattle.serde_json.specs.View.{members_view};
 ghost use Rattle.serde_json.specs.Written.{compact_text, has_float};
+ghost use Rattle.ctt_problem.specs.Problem.{has_barred, has_blocked};
 ghost use Rattle.ctt_problem.specs.Timetable.{IsTimetable};
 ghost use Rattle.ctt_rules.specs.Penalty.{total};
 ghost use Rattle.ctt_findings.specs.Findings.{findings};
 ghost use Rattle.ctt_findings.specs.Objects.{item_texts};
-ghost use Rattle.ctt_findings.specs.ReportText.{IsExplainedJson, IsJsonReport, explained_json_of, is_bracket, members_of, with_barred, with_cost, with_hard};
+ghost use Rattle.ctt_findings.specs.ReportText.{IsExplainedJson, IsJsonReport, explained_json_of, is_bracket, members_of, with_barred, with_blocked, with_cost, with_hard};
 
 use crate::members::{put_count, put_text};
 use ctt_problem::{Instance, NoMemory, Placed};
@@ -33,6 +34,23 @@ fn put_barred(
     }
 }
 
+/// Adds the count of lectures in blocked rooms, if any room is blocked in any slot.
+fn put_blocked(
+    alloc: Global,
+    report: &mut Map<String, Value>,
+    blocked: bool,
+    count: u64,
+) -> Result<(), AllocError>
+    ensures { OnOk result (members_view report.new.entries
+        ≡ with_blocked blocked count (members_view report.old.entries)) }
+{
+    if blocked {
+        put_count(alloc, report, "blocked", count)
+    } else {
+        Ok(())
+    }
+}
+
 /// Adds a Boolean member.
 fn put_answer(
     alloc: Global,
@@ -46,21 +64,23 @@ fn put_answer(
     serde_json::put(report, alloc, key, Value::Bool(answer))
 }
 
-/// Adds the hard counts. `barred` says whether any room is barred.
+/// Adds the hard counts of a timetable of an instance.
 fn put_hard(
     alloc: Global,
     report: &mut Map<String, Value>,
-    barred: bool,
+    instance: &Instance,
     hard: &Hard,
 ) -> Result<(), AllocError>
     ensures { OnOk result (members_view report.new.entries
-        ≡ with_hard barred hard.now (members_view report.old.entries)) }
+        ≡ with_hard (has_barred instance.now) (has_blocked instance.now) hard.now
+        (members_view report.old.entries)) }
 {
     put_count(alloc, report, "lectures", hard.lectures)?;
     put_count(alloc, report, "conflicts", hard.conflicts)?;
     put_count(alloc, report, "availability", hard.availability)?;
     put_count(alloc, report, "occupancy", hard.occupancy)?;
-    put_barred(alloc, report, barred, hard.barred)
+    put_barred(alloc, report, instance.has_barred(), hard.barred)?;
+    put_blocked(alloc, report, instance.has_blocked(), hard.blocked)
 }
 
 /// Adds the four costs and their total.
@@ -79,18 +99,17 @@ fn put_cost(alloc: Global, report: &mut Map<String, Value>, cost: &Cost) -> Resu
 /// Builds the members of the report, without its findings.
 fn members(
     alloc: Global,
-    name: &str,
-    barred: bool,
+    instance: &Instance,
     assessment: &Assessment,
 ) -> Result<Map<String, Value>, AllocError>
     requires { total assessment.now.cost < 2 ^ 64 }
     ensures { IfOk result (λ report. members_view report.entries
-        ≡ members_of name.now barred assessment.now.hard assessment.now.cost
+        ≡ members_of instance.now assessment.now.hard assessment.now.cost
         assessment.now.lawful assessment.now.complete) }
 {
     let mut report = Map::new(alloc);
-    put_text(alloc, &mut report, "instance", name)?;
-    put_hard(alloc, &mut report, barred, &assessment.hard)?;
+    put_text(alloc, &mut report, "instance", instance.name())?;
+    put_hard(alloc, &mut report, instance, &assessment.hard)?;
     put_cost(alloc, &mut report, &assessment.cost)?;
     put_answer(alloc, &mut report, "lawful", assessment.lawful)?;
     put_answer(alloc, &mut report, "complete", assessment.complete)?;
@@ -116,25 +135,23 @@ pub fn report_json(
     requires { IsTimetable instance.now timetable.now }
     ensures { IfOk result (λ bytes. IsJsonReport instance.now timetable.now bytes.items) }
 {
-    let barred = instance.has_barred();
     let assessment = assess(instance, timetable);
-    let report = members(alloc, instance.name(), barred, &assessment)?;
+    let report = members(alloc, instance, &assessment)?;
     Ok(line(alloc, report)?)
 }
 
 /// Returns the report as one line of JSON, with an empty array of findings.
 fn without_findings(
     alloc: Global,
-    name: &str,
-    barred: bool,
+    instance: &Instance,
     assessment: &Assessment,
 ) -> Result<Vec<u8>, AllocError>
     requires { total assessment.now.cost < 2 ^ 64 }
     ensures { IfOk result (λ text. text.items
-        ≡ explained_json_of (array no_items) name.now barred assessment.now.hard
+        ≡ explained_json_of (array no_items) instance.now assessment.now.hard
         assessment.now.cost assessment.now.lawful assessment.now.complete) }
 {
-    let mut report = members(alloc, name, barred, assessment)?;
+    let mut report = members(alloc, instance, assessment)?;
     let none = Value::Array(Vec::new(alloc));
     serde_json::put(&mut report, alloc, "findings", none)?;
     line(alloc, report)
@@ -161,9 +178,8 @@ pub fn report_around(
         ++ parts.1.items))) }
     ensures front { IfOk result (λ parts. 0 < length parts.0.items) }
 {
-    let barred = instance.has_barred();
     let assessment = assess(instance, timetable);
-    let mut front = without_findings(alloc, instance.name(), barred, &assessment)?;
+    let mut front = without_findings(alloc, instance, &assessment)?;
     // Only numbers and Booleans precede the array of findings, so its bracket is the first.
     let place = first_list(&front).unwrap();
     let rest = front.split_off(place + 1)?;

@@ -61,6 +61,22 @@ impl OfLecture for BarredRoom {
     }
 }
 
+/// A room that is blocked in the slot.
+pub(crate) struct BlockedRoom;
+
+impl OfLecture for BlockedRoom {
+    ghost use Rattle.ctt_findings.specs.Findings.{blocked_finding};
+
+    ghost finding = { blocked_finding };
+
+    fn find(instance: &Instance, lecture: &Placed) -> Option<Finding> {
+        if !instance.blocked(lecture.room, lecture.slot) {
+            return None;
+        }
+        Some(Finding::Blocked(*lecture))
+    }
+}
+
 /// More students than the room has seats: one point for each student above.
 pub(crate) struct Overfull;
 

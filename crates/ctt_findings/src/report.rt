@@ -4,7 +4,7 @@ ghost use Rattle.std.specs.Prelude.{◌≡◌, ◌++◌, ◌^◌, ◌<◌, IfOk,
 ghost use Rattle.std.specs.String.{string_bytes};
 ghost use Rattle.ctt_problem.specs.Timetable.{IsTimetable};
 ghost use Rattle.ctt_rules.specs.Penalty.{total};
-ghost use Rattle.ctt_findings.specs.ReportText.{IsTextReport, answer_word, barred_line, line, text_of};
+ghost use Rattle.ctt_findings.specs.ReportText.{IsTextReport, answer_word, barred_line, blocked_line, line, text_of};
 
 use ctt_line::{Word, push_line};
 use ctt_problem::{Instance, NoMemory, Placed};
@@ -31,6 +31,18 @@ fn push_barred(report: &mut String, barred: bool, count: u64) -> Result<(), Allo
     }
 }
 
+/// Adds the line with the count of lectures in blocked rooms, if any room is blocked in any slot.
+fn push_blocked(report: &mut String, blocked: bool, count: u64) -> Result<(), AllocError>
+    ensures { OnOk result (string_bytes report.new
+        ≡ string_bytes report.old ++ blocked_line blocked count) }
+{
+    if blocked {
+        push_entry(report, "blocked", Word::number(count))
+    } else {
+        Ok(())
+    }
+}
+
 /// Returns yes or no as a word.
 fn answer(yes: bool) -> Word<'static>
     ensures { result ≡ answer_word yes }
@@ -42,16 +54,15 @@ fn answer(yes: bool) -> Word<'static>
     }
 }
 
-/// Returns the report as text. `barred` says whether any room is barred.
+/// Returns the report on an instance as text.
 fn text(
     alloc: Global,
-    name: &str,
-    barred: bool,
+    instance: &Instance,
     assessment: Assessment,
 ) -> Result<String, AllocError>
     requires { total assessment.cost < 2 ^ 64 }
     ensures { IfOk result (λ text. string_bytes text
-        ≡ text_of name.now barred assessment.hard assessment.cost assessment.lawful
+        ≡ text_of instance.now assessment.hard assessment.cost assessment.lawful
         assessment.complete) }
 {
     let Assessment {
@@ -61,12 +72,13 @@ fn text(
         complete,
     } = assessment;
     let mut report = String::new(alloc);
-    push_entry(&mut report, "instance", Word::text(name))?;
+    push_entry(&mut report, "instance", Word::text(instance.name()))?;
     push_entry(&mut report, "lectures", Word::number(hard.lectures))?;
     push_entry(&mut report, "conflicts", Word::number(hard.conflicts))?;
     push_entry(&mut report, "availability", Word::number(hard.availability))?;
     push_entry(&mut report, "occupancy", Word::number(hard.occupancy))?;
-    push_barred(&mut report, barred, hard.barred)?;
+    push_barred(&mut report, instance.has_barred(), hard.barred)?;
+    push_blocked(&mut report, instance.has_blocked(), hard.blocked)?;
     push_entry(&mut report, "capacity", Word::number(cost.capacity))?;
     push_entry(&mut report, "days", Word::number(cost.days))?;
     push_entry(&mut report, "compactness", Word::number(cost.compactness))?;
@@ -77,7 +89,8 @@ fn text(
     Ok(report)
 }
 
-/// Returns the report on a timetable as lines of text: twelve, and one more if any room is barred.
+/// Returns the report on a timetable as lines of text: twelve, one more if any room is barred, and
+/// one more if any room is blocked.
 pub fn report_text(
     alloc: Global,
     instance: &Instance,
@@ -86,7 +99,6 @@ pub fn report_text(
     requires { IsTimetable instance.now timetable.now }
     ensures { IfOk result (λ bytes. IsTextReport instance.now timetable.now bytes.items) }
 {
-    let barred = instance.has_barred();
-    let lines = text(alloc, instance.name(), barred, assess(instance, timetable))?;
+    let lines = text(alloc, instance, assess(instance, timetable))?;
     Ok(lines.into_bytes())
 }

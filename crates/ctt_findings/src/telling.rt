@@ -8,7 +8,7 @@ ghost use Rattle.ctt_findings.specs.Hearing.{Hears, HearsFront};
 use crate::compactness::tell_compactness;
 use crate::conflicts::tell_conflicts;
 use crate::courses::{DayCount, LectureCount, RoomCount, tell_of_courses};
-use crate::lectures::{BarredRoom, Overfull, Unavailable, tell_of_lectures};
+use crate::lectures::{BarredRoom, BlockedRoom, Overfull, Unavailable, tell_of_lectures};
 use crate::listener::Listener;
 use crate::occupancy::tell_occupancy;
 use crate::untold::Untold;
@@ -32,7 +32,8 @@ fn tell_hard<L: Listener>(
     tell_conflicts(listener, instance, timetable)?;
     tell_of_lectures::<Unavailable, L>(listener, instance, timetable)?;
     tell_occupancy(alloc, listener, instance, timetable)?;
-    tell_of_lectures::<BarredRoom, L>(listener, instance, timetable)
+    tell_of_lectures::<BarredRoom, L>(listener, instance, timetable)?;
+    tell_of_lectures::<BlockedRoom, L>(listener, instance, timetable)
 }
 
 /// Reports what costs points.
