@@ -70,6 +70,10 @@ clash i c d = not (c == d) && ((course_of i c).teacher == (course_of i d).teache
 abbrev pub is_unavailable : Problem → ℕ → ℕ → Bool
 is_unavailable i c s = nat_lt s (slot_count i) && (get_or i.unavailable (c * slot_count i + s) false || get_or i.closed (c * slot_count i + s) false)
 
+-- a closure blocks the course in the slot, or its teacher
+abbrev pub is_closed : Problem → ℕ → ℕ → Bool
+is_closed i c s = nat_lt s (slot_count i) && get_or i.closed (c * slot_count i + s) false
+
 -- the room is barred for the course
 abbrev pub is_barred : Problem → ℕ → ℕ → Bool
 is_barred i c r = nat_lt r (room_count i) && get_or i.barred (c * room_count i + r) false

@@ -11,6 +11,7 @@ ghost use Rattle.ctt_problem.specs.Taught.{courses_taught_by};
 
 mod belonging;
 mod clashes;
+mod closures;
 mod naming;
 mod parts;
 mod taught;
