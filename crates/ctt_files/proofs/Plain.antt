@@ -5,18 +5,21 @@ use Rattle.std.specs.String.{string_bytes}
 use Rattle.std.specs.declared.string.String.{String}
 use Rattle.ctt_problem.specs.Problem.{Problem}
 use Rattle.ctt_text.specs.BarredPlaces as barred
+use Rattle.ctt_text.specs.BlockedPlaces as blocked
 use Rattle.ctt_text.specs.InstancePlaces as instance
 use Rattle.ctt_text.specs.SolutionPlaces.{lacks_memory}
 use Rattle.ctt_text.specs.declared.fault.BarredFault.{BarredFault}
+use Rattle.ctt_text.specs.declared.fault.BlockedFault.{BlockedFault}
 use Rattle.ctt_text.specs.declared.fault.ReadFault.{ReadFault}
 use Rattle.ctt_text.specs.declared.fault.SolutionFault.{SolutionFault}
 use Rattle.ctt_files.specs.declared.input.InputFault.{InputFault}
 use Rattle.ctt_files.specs.declared.input.InputFault.TheVariants as input
-use Rattle.ctt_files.specs.Faults.{IfUnwritten, fault_of_barred, fault_of_input, fault_of_instance, fault_of_solution}
-use Rattle.ctt_files.specs.Refusals.{IsNoText, IsOfBarred, IsOfFile, IsOfFiles, IsOfInstance, IsOfInstanceIn, IsOfInstanceOr, IsOfSolution, IsOfStart, IsOfText}
+use Rattle.ctt_files.specs.Faults.{IfUnwritten, fault_of_barred, fault_of_blocked, fault_of_input, fault_of_instance, fault_of_solution}
+use Rattle.ctt_files.specs.Refusals.{IsNoText, IsOfBarred, IsOfBlocked, IsOfFile, IsOfFiles, IsOfInstance, IsOfInstanceIn, IsOfInstanceOr, IsOfSides, IsOfSolution, IsOfStart, IsOfText}
 use Rattle.ctt_files.specs.Texts.{Held, Holds, IsInstanceIn}
 use Rattle.ctt_files.specs.declared.fault.Fault.{Fault}
-use Rattle.ctt_files.specs.declared.fault.Fault.TheVariants.{BadSeats, Barred, CannotRead, CannotWrite, Instance, Journal, MinutesExist, NoCourse, NoCurriculum, NoMemory, NoPlace, NoRoom, NoTeacher, NoThread, NoWord, Opening, Solution, TooLong, TooManyScripts, Words, WordsNotText}
+use Rattle.ctt_files.specs.declared.fault.Fault.TheVariants.{BadSeats, Barred, Blocked, CannotRead, CannotWrite, Instance, Journal, MinutesExist, NoCourse, NoCurriculum, NoMemory, NoPlace, NoRoom, NoTeacher, NoThread, NoWord, Opening, Solution, TooLong, TooManyScripts, Words, WordsNotText}
+use Rattle.ctt_files.specs.declared.sides.Sides.{Sides}
 
 -- the fault is of a text, a file, a place or a thread, or memory ran out
 abbrev pub IsPlain : Fault → Type 0
@@ -31,6 +34,7 @@ pub plain_written : (fault : Fault) (P Q : Type 0) → IsPlain fault → Q → I
 plain_written (Instance met) P Q plain q = q
 plain_written (Solution met) P Q plain q = q
 plain_written (Barred met) P Q plain q = q
+plain_written (Blocked met) P Q plain q = q
 plain_written (Journal number at) P Q plain q = q
 plain_written (Opening text) P Q plain q = q
 plain_written (CannotRead name) P Q plain q = q
@@ -54,6 +58,7 @@ pub unwritten_more : (fault : Fault) (P Q R S : Type 0) → (P → R) → (Q →
 unwritten_more (Instance met) P Q R S p q is = q is
 unwritten_more (Solution met) P Q R S p q is = q is
 unwritten_more (Barred met) P Q R S p q is = q is
+unwritten_more (Blocked met) P Q R S p q is = q is
 unwritten_more (Journal number at) P Q R S p q is = q is
 unwritten_more (Opening text) P Q R S p q is = q is
 unwritten_more (CannotRead name) P Q R S p q is = q is
@@ -87,6 +92,9 @@ solution_plain met = plain_or_memory (lacks_memory met) (Solution met) tt
 barred_plain : (met : BarredFault) → IsPlain (fault_of_barred met)
 barred_plain met = plain_or_memory (barred.wants_memory met) (Barred met) tt
 
+blocked_plain : (met : BlockedFault) → IsPlain (fault_of_blocked met)
+blocked_plain met = plain_or_memory (blocked.wants_memory met) (Blocked met) tt
+
 input_plain : (name : String Global) (met : InputFault) → IsPlain (fault_of_input name met)
 input_plain name input.Read = tt
 input_plain name input.TooLong = tt
@@ -114,6 +122,13 @@ pub barred_file_plain : (held : Held) (read : Problem) (name : Option (String Gl
 barred_file_plain held read None fault is = absurd is
 barred_file_plain held read (Some name) fault is = file_text_plain fault_of_barred _ _ barred_plain held name fault is
 
+pub blocked_file_plain : (held : Held) (read : Problem) (name : Option (String Global)) (fault : Fault) → IsOfBlocked held read name fault → IsPlain fault
+blocked_file_plain held read None fault is = absurd is
+blocked_file_plain held read (Some name) fault is = file_text_plain fault_of_blocked _ _ blocked_plain held name fault is
+
+sides_plain : (held : Held) (read : Problem) (sides : Sides) (fault : Fault) → IsOfSides held read sides fault → IsPlain fault
+sides_plain held read sides fault is = ⊎_elim (λ bars. barred_file_plain held read sides.barred fault bars) (λ behind. blocked_file_plain held behind.0 sides.blocked fault behind.2) is
+
 pub solution_file_plain : (name : String Global) (held : Held) (problem : Problem) (fault : Fault) → IsOfSolution name held problem fault → IsPlain fault
 solution_file_plain name held problem fault is = file_text_plain fault_of_solution _ _ solution_plain held name fault is
 
@@ -126,13 +141,13 @@ files_plain [] held fault is = subst IsPlain (sym is) tt
 files_plain (name ∷ names) held fault (inl file) = file_plain held name fault file
 files_plain (name ∷ names) held fault (inr others) = files_plain names held fault others
 
-pub instance_in_plain : (held : Held) (instance : String Global) (barred : Option (String Global)) (fault : Fault) → IsOfInstanceIn held instance barred fault → IsPlain fault
-instance_in_plain held instance barred fault is = ⊎_elim (λ none. instance_file_plain held instance fault none) (λ bars. barred_file_plain held bars.0 barred fault bars.2) is
+pub instance_in_plain : (held : Held) (instance : String Global) (sides : Sides) (fault : Fault) → IsOfInstanceIn held instance sides fault → IsPlain fault
+instance_in_plain held instance sides fault is = ⊎_elim (λ none. instance_file_plain held instance fault none) (λ beside. sides_plain held beside.0 sides fault beside.2) is
 
 -- a fault of an instance, or of what comes after it, is of this kind
 pub behind_plain : (IsOther : Held → Problem → Fault → Type 0) → ((held : Held) (problem : Problem) (fault : Fault) → IsOther held problem fault → IsPlain fault)
-    → (held : Held) (instance : String Global) (barred : Option (String Global)) (fault : Fault) → IsOfInstanceOr IsOther held instance barred fault → IsPlain fault
-behind_plain IsOther other held instance barred fault is = ⊎_elim (λ none. instance_in_plain held instance barred fault none) (λ behind. other held behind.0 fault behind.2) is
+    → (held : Held) (instance : String Global) (sides : Sides) (fault : Fault) → IsOfInstanceOr IsOther held instance sides fault → IsPlain fault
+behind_plain IsOther other held instance sides fault is = ⊎_elim (λ none. instance_in_plain held instance sides fault none) (λ behind. other held behind.0 fault behind.2) is
 
 -- ---- faults that are passed on
 
@@ -146,9 +161,9 @@ passed_on (Ok x) fault P same holds = tt
 passed_on (Err told) fault P same holds = subst P (sym same) holds
 
 -- a fault of what comes after the instance
-pub behind_instance : (IsOther : Held → Problem → Fault → Type 0) (held later : Held) (instance : String Global) (barred : Option (String Global)) (problem : Problem) (fault : Fault)
-    → IsInstanceIn held instance barred problem → later ≡ held → IsOther later problem fault → IsOfInstanceOr IsOther held instance barred fault
-behind_instance IsOther held later instance barred problem fault is same other = inr (problem, is, subst (λ (known : Held). IsOther known problem fault) same other)
+pub behind_instance : (IsOther : Held → Problem → Fault → Type 0) (held later : Held) (instance : String Global) (sides : Sides) (problem : Problem) (fault : Fault)
+    → IsInstanceIn held instance sides problem → later ≡ held → IsOther later problem fault → IsOfInstanceOr IsOther held instance sides fault
+behind_instance IsOther held later instance sides problem fault is same other = inr (problem, is, subst (λ (known : Held). IsOther known problem fault) same other)
 
 -- the bytes that were read are those of the file
 pub told_of : (held : Option (List ℕ)) (bytes items : List ℕ) → bytes ≡ items → IfSome held (λ text. items ≡ text) → IfSome held (λ text. bytes ≡ text)

@@ -8,14 +8,15 @@ use Rattle.ctt_problem.specs.Problem.{Problem}
 use Rattle.ctt_files.specs.Texts.{Held, IsInstanceIn}
 use Rattle.ctt_files.specs.declared.outcome.Outcome.{Outcome}
 use Rattle.ctt_files.specs.declared.printed.Printed.{Printed}
+use Rattle.ctt_files.specs.declared.sides.Sides.{Sides}
 
 -- a text alone: nothing for standard error, and nothing to store
 abbrev pub IsTextAlone : Printed → Type 0
 IsTextAlone p = (string_bytes p.aside ≡ []) × (p.store ≡ None)
 
--- P holds of the instance in a file, with the barred rooms from another file, if one is given
-abbrev pub OfInstance : Held → String Global → Option (String Global) → (Problem → Type 0) → Type 0
-OfInstance held instance barred P = (problem : Problem) × IsInstanceIn held instance barred problem × P problem
+-- P holds of the instance in a file, with what its side files say
+abbrev pub OfInstance : Held → String Global → Sides → (Problem → Type 0) → Type 0
+OfInstance held instance sides P = (problem : Problem) × IsInstanceIn held instance sides problem × P problem
 
 -- the text of an answer with property P is printed, and the command has its outcome
 abbrev pub Prints : (Printed → Type 0) → Outcome → Option (List ℕ) → Option (List ℕ) → Type 0

@@ -8,14 +8,16 @@ use Rattle.ctt_files.specs.declared.input.InputFault.{InputFault}
 use Rattle.ctt_files.specs.declared.input.InputFault.TheVariants as input
 use Rattle.ctt_line.specs.Lines.{line}
 use Rattle.ctt_text.specs.BarredPlaces as barred
-use Rattle.ctt_text.specs.FaultCodes.{barred_at, barred_code, instance_at, instance_code, solution_at, solution_code}
+use Rattle.ctt_text.specs.BlockedPlaces as blocked
+use Rattle.ctt_text.specs.FaultCodes.{barred_at, barred_code, blocked_at, blocked_code, instance_at, instance_code, solution_at, solution_code}
 use Rattle.ctt_text.specs.InstancePlaces as instance
 use Rattle.ctt_text.specs.SolutionPlaces.{lacks_memory}
 use Rattle.ctt_text.specs.declared.fault.BarredFault.{BarredFault}
+use Rattle.ctt_text.specs.declared.fault.BlockedFault.{BlockedFault}
 use Rattle.ctt_text.specs.declared.fault.ReadFault.{ReadFault}
 use Rattle.ctt_text.specs.declared.fault.SolutionFault.{SolutionFault}
 use Rattle.ctt_files.specs.declared.fault.Fault.{Fault}
-use Rattle.ctt_files.specs.declared.fault.Fault.TheVariants.{BadSeats, Barred, CannotRead, CannotWrite, Instance, Journal, MinutesExist, NoCourse, NoCurriculum, NoMemory, NoPlace, NoRoom, NoTeacher, NoThread, NoWord, Opening, Solution, TooLong, TooManyScripts, Words, WordsNotText}
+use Rattle.ctt_files.specs.declared.fault.Fault.TheVariants.{BadSeats, Barred, Blocked, CannotRead, CannotWrite, Instance, Journal, MinutesExist, NoCourse, NoCurriculum, NoMemory, NoPlace, NoRoom, NoTeacher, NoThread, NoWord, Opening, Solution, TooLong, TooManyScripts, Words, WordsNotText}
 
 -- the program's fault for a fault of an instance: running out of memory has a fault of its own
 abbrev pub fault_of_instance : ReadFault → Fault
@@ -29,6 +31,10 @@ fault_of_solution met = if lacks_memory met then NoMemory else Solution met
 abbrev pub fault_of_barred : BarredFault → Fault
 fault_of_barred met = if barred.wants_memory met then NoMemory else Barred met
 
+-- the program's fault for a fault of what is blocked
+abbrev pub fault_of_blocked : BlockedFault → Fault
+fault_of_blocked met = if blocked.wants_memory met then NoMemory else Blocked met
+
 -- the program's fault for a fault of reading the file of this name
 abbrev pub fault_of_input : String Global → InputFault → Fault
 fault_of_input name input.Read = CannotRead name
@@ -41,6 +47,7 @@ abbrev pub status_of : Fault → ℕ
 status_of (Instance met) = 1
 status_of (Solution met) = 1
 status_of (Barred met) = 1
+status_of (Blocked met) = 1
 status_of (Journal number at) = 1
 status_of (Opening text) = 1
 status_of (NoCurriculum name) = 1
@@ -89,5 +96,6 @@ IsLineOf NoMemory bytes = bytes ≡ codes "timedesk: no memory\n"
 IsLineOf (Instance met) bytes = bytes ≡ place_line (codes "instance") (instance_code met) (instance_at met)
 IsLineOf (Solution met) bytes = bytes ≡ place_line (codes "solution") (solution_code met) (solution_at met)
 IsLineOf (Barred met) bytes = bytes ≡ place_line (codes "barred") (barred_code met) (barred_at met)
+IsLineOf (Blocked met) bytes = bytes ≡ place_line (codes "blocked") (blocked_code met) (blocked_at met)
 IsLineOf (NoWord word file) bytes = bytes ≡ line (codes "timedesk: no word" ∷ string_bytes word ∷ codes "in" ∷ string_bytes file ∷ [])
 IsLineOf _ bytes = EndsLine bytes

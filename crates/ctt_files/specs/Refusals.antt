@@ -4,15 +4,17 @@ use Rattle.std.specs.Global.{Global}
 use Rattle.std.specs.String.{string_bytes}
 use Rattle.std.specs.declared.string.String.{String}
 use Rattle.ctt_text.specs.BarredLaws.{IsBarredCauseOf}
+use Rattle.ctt_text.specs.BlockedLaws.{IsBlockedCauseOf}
 use Rattle.ctt_text.specs.InstanceLaws.{IsCauseOf}
 use Rattle.ctt_problem.specs.Problem.{Problem}
 use Rattle.ctt_text.specs.SolutionLaws.{IsSolutionCauseOf}
 use Rattle.ctt_files.specs.declared.input.InputFault.{InputFault}
 use Rattle.ctt_files.specs.declared.input.InputFault.TheVariants as input
-use Rattle.ctt_files.specs.Faults.{fault_of_barred, fault_of_input, fault_of_instance, fault_of_solution, status_of}
-use Rattle.ctt_files.specs.Texts.{Held, Holds, IsInstanceIn, IsInstanceText, IsNoBarred, IsNoInstance, IsNoSolution}
+use Rattle.ctt_files.specs.Faults.{fault_of_barred, fault_of_blocked, fault_of_input, fault_of_instance, fault_of_solution, status_of}
+use Rattle.ctt_files.specs.Texts.{Held, Holds, IsBarredBy, IsInstanceIn, IsInstanceText, IsNoBarred, IsNoBlocked, IsNoInstance, IsNoSolution}
 use Rattle.ctt_files.specs.declared.fault.Fault.{Fault}
 use Rattle.ctt_files.specs.declared.fault.Fault.TheVariants.{NoMemory, TooLong}
+use Rattle.ctt_files.specs.declared.sides.Sides.{Sides}
 
 -- the fault is that this file is too long, and it has more than 64 MiB
 abbrev pub IsTooLong : Held → String Global → Fault → Type 0
@@ -55,16 +57,26 @@ abbrev pub IsOfBarred : Held → Problem → Option (String Global) → Fault �
 IsOfBarred held read None fault = ⊥
 IsOfBarred held read (Some name) fault = IsOfText (IsNoText fault_of_barred (IsBarredCauseOf read) (IsNoBarred read)) held name fault
 
--- the fault comes from the file of the instance or, after that is parsed, from that of its barred
--- rooms
-abbrev pub IsOfInstanceIn : Held → String Global → Option (String Global) → Fault → Type 0
-IsOfInstanceIn held instance barred fault = IsOfInstance held instance fault
-    ⊎ ((read : Problem) × Holds held instance (λ text. IsInstanceText text read) × IsOfBarred held read barred fault)
+-- the fault comes from the file of what is blocked in the parsed instance, if one is given
+abbrev pub IsOfBlocked : Held → Problem → Option (String Global) → Fault → Type 0
+IsOfBlocked held read None fault = ⊥
+IsOfBlocked held read (Some name) fault = IsOfText (IsNoText fault_of_blocked (IsBlockedCauseOf read) (IsNoBlocked read)) held name fault
 
--- the fault comes from one of these two files or, after they are parsed, from elsewhere
-abbrev pub IsOfInstanceOr : (Held → Problem → Fault → Type 0) → Held → String Global → Option (String Global) → Fault → Type 0
-IsOfInstanceOr IsOther held instance barred fault = IsOfInstanceIn held instance barred fault
-    ⊎ ((problem : Problem) × IsInstanceIn held instance barred problem × IsOther held problem fault)
+-- the fault comes from the file of the barred rooms of the parsed instance or, after that is parsed,
+-- from that of what is blocked
+abbrev pub IsOfSides : Held → Problem → Sides → Fault → Type 0
+IsOfSides held read sides fault = IsOfBarred held read sides.barred fault
+    ⊎ ((barred : Problem) × IsBarredBy held sides.barred read barred × IsOfBlocked held barred sides.blocked fault)
+
+-- the fault comes from the file of the instance or, after that is parsed, from one of its side files
+abbrev pub IsOfInstanceIn : Held → String Global → Sides → Fault → Type 0
+IsOfInstanceIn held instance sides fault = IsOfInstance held instance fault
+    ⊎ ((read : Problem) × Holds held instance (λ text. IsInstanceText text read) × IsOfSides held read sides fault)
+
+-- the fault comes from one of these files or, after they are parsed, from elsewhere
+abbrev pub IsOfInstanceOr : (Held → Problem → Fault → Type 0) → Held → String Global → Sides → Fault → Type 0
+IsOfInstanceOr IsOther held instance sides fault = IsOfInstanceIn held instance sides fault
+    ⊎ ((problem : Problem) × IsInstanceIn held instance sides problem × IsOther held problem fault)
 
 -- the fault comes from the file of a solution
 abbrev pub IsOfSolution : String Global → Held → Problem → Fault → Type 0

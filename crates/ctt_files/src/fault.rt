@@ -4,11 +4,11 @@ ghost use Rattle.std.specs.Prelude.{◌≡◌, ◌++◌, ◌∷◌, [], IfOk, co
 ghost use Rattle.std.specs.Fmt.{decimal};
 ghost use Rattle.std.specs.String.{string_bytes};
 ghost use Rattle.ctt_line.specs.Lines.{line};
-ghost use Rattle.ctt_files.specs.Faults.{IsLineOf, fault_of_barred, fault_of_instance, fault_of_solution, status_of};
+ghost use Rattle.ctt_files.specs.Faults.{IsLineOf, fault_of_barred, fault_of_blocked, fault_of_instance, fault_of_solution, status_of};
 ghost use Rattle.ctt_files.specs.declared.fault.Fault.TheVariants.{NoMemory};
 
 use ctt_line::{Word, push_line};
-use ctt_text::{BarredFault, ReadFault, SolutionFault};
+use ctt_text::{BarredFault, BlockedFault, ReadFault, SolutionFault};
 use std::alloc::{AllocError, AllocFailed, Global};
 use thiserror::Error;
 
@@ -31,6 +31,9 @@ pub enum Fault {
     /// The text of barred rooms is invalid.
     #[error("timedesk: {0}")]
     Barred(BarredFault),
+    /// The text of what is blocked is invalid.
+    #[error("timedesk: {0}")]
+    Blocked(BlockedFault),
     /// The journal is invalid, at this byte or word.
     #[error("timedesk: journal J{number} {at}")]
     Journal { number: u8, at: u64 },
@@ -132,6 +135,7 @@ impl Fault {
             Fault::Instance(_)
             | Fault::Solution(_)
             | Fault::Barred(_)
+            | Fault::Blocked(_)
             | Fault::Journal { .. }
             | Fault::Opening(_)
             | Fault::NoCurriculum(_)
@@ -165,6 +169,9 @@ impl Fault {
             }
             Fault::Barred(fault) => {
                 place_line(alloc, "timedesk: barred", fault.code(), fault.at())
+            }
+            Fault::Blocked(fault) => {
+                place_line(alloc, "timedesk: blocked", fault.code(), fault.at())
             }
             Fault::NoWord { word, file } => word_line(alloc, word, file),
             _ => end_line(self.to_string(alloc)?),
@@ -217,6 +224,17 @@ impl From<BarredFault> for Fault {
         match fault {
             BarredFault::NoMemory => Fault::NoMemory,
             _ => Fault::Barred(fault),
+        }
+    }
+}
+
+impl From<BlockedFault> for Fault {
+    ghost from_gives = { λ read fault. fault ≡ fault_of_blocked read };
+
+    fn from(fault: BlockedFault) -> Fault {
+        match fault {
+            BlockedFault::NoMemory => Fault::NoMemory,
+            _ => Fault::Blocked(fault),
         }
     }
 }

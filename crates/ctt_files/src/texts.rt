@@ -4,15 +4,18 @@ ghost use Rattle.std.specs.Prelude.{◌≡◌, IfOk, OnOk, IfErr, IfSome};
 ghost use Rattle.std.specs.String.{string_bytes};
 ghost use Rattle.std.specs.List.{AllByRecursion as Each};
 ghost use Rattle.ctt_problem.specs.Timetable.{Fits, IsTimetable};
-ghost use Rattle.ctt_files.specs.Refusals.{IsOfBarred, IsOfInstance, IsOfInstanceIn, IsOfSolution, IsOfStart};
-ghost use Rattle.ctt_files.specs.Texts.{IsBarredBy, IsInstanceIn, IsInstanceText, IsSolutionText, IsStart};
+ghost use Rattle.ctt_files.specs.Refusals.{IsOfBarred, IsOfBlocked, IsOfInstance, IsOfInstanceIn, IsOfSides, IsOfSolution, IsOfStart};
+ghost use Rattle.ctt_files.specs.Texts.{HasSides, IsBarredBy, IsBlockedBy, IsInstanceIn, IsInstanceText, IsSolutionText, IsStart};
 
 use crate::fault::Fault;
 use crate::files::{Files, read_file};
-use ctt_text::{Instance, Placed, let_go, read_barred, read_instance, read_solution};
+use crate::sides::Sides;
+use ctt_text::{
+    Instance, Placed, let_go, read_barred, read_blocked, read_instance, read_solution,
+};
 use std::alloc::Global;
 
-/// Loads an instance from a file. No room is barred in it.
+/// Loads an instance from a file. Nothing is barred or blocked in it.
 fn fetch_alone<F: Files>(alloc: Global, files: &mut F, name: String) -> Result<Instance, Fault>
     ensures spelled { IfOk result (λ instance.
         IfSome (F.held files.old (string_bytes name)) (λ text. IsInstanceText text instance)) }
@@ -42,21 +45,55 @@ fn bar_rooms<F: Files>(
     Ok(read_barred(alloc, instance, &text)?)
 }
 
-/// Loads an instance from a file, with the barred rooms from another file, if one is given. The
-/// second file is read right after the first.
+/// Blocks the slots that a file lists in an instance, if a file is given.
+fn block_slots<F: Files>(
+    alloc: Global,
+    files: &mut F,
+    instance: &mut Instance,
+    blocked: Option<String>,
+) -> Result<(), Fault>
+    ensures blocked { OnOk result (IsBlockedBy (F.held files.old) blocked instance.old instance.new) }
+    ensures same { IfErr result (λ _. instance.new ≡ instance.old) }
+    ensures kept { F.held files.new ≡ F.held files.old }
+    ensures cause { IfErr result (IsOfBlocked (F.held files.old) instance.old blocked) }
+{
+    let Some(name) = blocked else {
+        return Ok(());
+    };
+    let text = read_file(alloc, files, name)?;
+    Ok(read_blocked(alloc, instance, &text)?)
+}
+
+/// Reads the side files of an instance, that of the barred rooms first.
+fn read_sides<F: Files>(
+    alloc: Global,
+    files: &mut F,
+    instance: &mut Instance,
+    sides: Sides,
+) -> Result<(), Fault>
+    ensures sides { OnOk result (HasSides (F.held files.old) sides instance.old instance.new) }
+    ensures kept { F.held files.new ≡ F.held files.old }
+    ensures cause { IfErr result (IsOfSides (F.held files.old) instance.old sides) }
+{
+    bar_rooms(alloc, files, instance, sides.barred)?;
+    block_slots(alloc, files, instance, sides.blocked)
+}
+
+/// Loads an instance from a file, with what its side files say. They are read right after the
+/// instance.
 pub fn fetch_instance<F: Files>(
     alloc: Global,
     files: &mut F,
     name: String,
-    barred: Option<String>,
+    sides: Sides,
 ) -> Result<Instance, Fault>
     ensures spelled { IfOk result (λ instance.
-        IsInstanceIn (F.held files.old) name barred instance) }
+        IsInstanceIn (F.held files.old) name sides instance) }
     ensures kept { F.held files.new ≡ F.held files.old }
-    ensures cause { IfErr result (IsOfInstanceIn (F.held files.old) name barred) }
+    ensures cause { IfErr result (IsOfInstanceIn (F.held files.old) name sides) }
 {
     let mut instance = fetch_alone(alloc, files, name)?;
-    match bar_rooms(alloc, files, &mut instance, barred) {
+    match read_sides(alloc, files, &mut instance, sides) {
         Ok(()) => Ok(instance),
         Err(fault) => {
             let_go(instance);

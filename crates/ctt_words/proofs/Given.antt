@@ -58,17 +58,17 @@ pub job_has_scripts : (words : List Text) (job : Job) → IsJobOf words job → 
 job_has_scripts words job is = in_matched (subcommand_of timedesk words) job is
   where
     by_name : (name : Text) (rows : List Row) (job : Job) → IsJobBy name rows job → HasScripts job
-    by_name name rows (Compare instance barred solutions csv json strict) is = is.2.1
-    by_name name rows (Crew instance barred scripts) is = is.2.1
-    by_name name rows (Desk instance barred seats start minutes) is = is.2.1
-    by_name name rows (Check instance barred solution json named explain strict) is = tt
-    by_name name rows (Week instance barred solution whose) is = tt
-    by_name name rows (Page instance barred solution days) is = tt
-    by_name name rows (Run instance barred script start journal) is = tt
-    by_name name rows (Audit instance barred journal start) is = tt
-    by_name name rows (Journal instance barred minutes) is = tt
-    by_name name rows (Listing instance barred journal start) is = tt
-    by_name name rows (Mend instance barred solution) is = tt
+    by_name name rows (Compare instance sides solutions csv json strict) is = is.2.1
+    by_name name rows (Crew instance sides scripts) is = is.2.1
+    by_name name rows (Desk instance sides seats start minutes) is = is.2.1
+    by_name name rows (Check instance sides solution json named explain strict) is = tt
+    by_name name rows (Week instance sides solution whose) is = tt
+    by_name name rows (Page instance sides solution days) is = tt
+    by_name name rows (Run instance sides script start journal) is = tt
+    by_name name rows (Audit instance sides journal start) is = tt
+    by_name name rows (Journal instance sides minutes) is = tt
+    by_name name rows (Listing instance sides journal start) is = tt
+    by_name name rows (Mend instance sides solution) is = tt
     by_name name rows (Where file word) is = tt
 
     in_matched : (matched : Option (Text × List Row)) (job : Job) → IsJobIn matched job → HasScripts job

@@ -67,17 +67,17 @@ other_name name a b other is_a is_b = true≢false (sym ((bytes_eq-Decides a b).
 
 -- such words do not ask for a job
 job_not_several : (name : Text) (rows : List Row) (job : Job) → IsJobBy name rows job → WantsSeveral name rows → ⊥
-job_not_several name rows (Week instance barred solution whose) is several = no_several rows whose is.3 several.1
-job_not_several name rows (Check instance barred solution json named explain strict) is several = other_name name _ _ refl is.0 several.0
-job_not_several name rows (Compare instance barred solutions csv json strict) is several = other_name name _ _ refl is.0 several.0
-job_not_several name rows (Page instance barred solution days) is several = other_name name _ _ refl is.0 several.0
-job_not_several name rows (Run instance barred script start stored) is several = other_name name _ _ refl is.0 several.0
-job_not_several name rows (Audit instance barred audited start) is several = other_name name _ _ refl is.0 several.0
-job_not_several name rows (Crew instance barred scripts) is several = other_name name _ _ refl is.0 several.0
-job_not_several name rows (Desk instance barred seats start minutes) is several = other_name name _ _ refl is.0 several.0
-job_not_several name rows (Journal instance barred minutes) is several = other_name name _ _ refl is.0 several.0
-job_not_several name rows (Listing instance barred audited start) is several = other_name name _ _ refl is.0 several.0
-job_not_several name rows (Mend instance barred mended) is several = other_name name _ _ refl is.0 several.0
+job_not_several name rows (Week instance sides solution whose) is several = no_several rows whose is.3 several.1
+job_not_several name rows (Check instance sides solution json named explain strict) is several = other_name name _ _ refl is.0 several.0
+job_not_several name rows (Compare instance sides solutions csv json strict) is several = other_name name _ _ refl is.0 several.0
+job_not_several name rows (Page instance sides solution days) is several = other_name name _ _ refl is.0 several.0
+job_not_several name rows (Run instance sides script start stored) is several = other_name name _ _ refl is.0 several.0
+job_not_several name rows (Audit instance sides audited start) is several = other_name name _ _ refl is.0 several.0
+job_not_several name rows (Crew instance sides scripts) is several = other_name name _ _ refl is.0 several.0
+job_not_several name rows (Desk instance sides seats start minutes) is several = other_name name _ _ refl is.0 several.0
+job_not_several name rows (Journal instance sides minutes) is several = other_name name _ _ refl is.0 several.0
+job_not_several name rows (Listing instance sides audited start) is several = other_name name _ _ refl is.0 several.0
+job_not_several name rows (Mend instance sides mended) is several = other_name name _ _ refl is.0 several.0
 job_not_several name rows (Where file word) is several = other_name name _ _ refl is.0 several.0
 
 not_several : (matched : Option (Text × List Row)) (job : Job) → IsJobIn matched job → WantsSeveralIn matched → ⊥

@@ -33,57 +33,57 @@ with_rules app (rule ∷ rules) = with_rules (with_rule app rule) rules
 abbrev pub command_of : List ℕ → List Rule → App
 command_of name rules = with_rules (new_app name) rules
 
--- `check INSTANCE SOLUTION [--barred FILE] [--json] [--name] [--explain] [--strict]`
+-- `check INSTANCE SOLUTION [--barred FILE] [--blocked FILE] [--json] [--name] [--explain] [--strict]`
 unfoldable pub check : App
-check = command_of (codes "check") (required_word (codes "instance") ∷ required_word (codes "solution") ∷ valued (codes "barred")
+check = command_of (codes "check") (required_word (codes "instance") ∷ required_word (codes "solution") ∷ valued (codes "barred") ∷ valued (codes "blocked")
     ∷ flag (codes "json") ∷ flag (codes "name") ∷ flag (codes "explain") ∷ flag (codes "strict") ∷ [])
 
--- `compare INSTANCE SOLUTION.. [--barred FILE] [--csv] [--json] [--strict]`
+-- `compare INSTANCE SOLUTION.. [--barred FILE] [--blocked FILE] [--csv] [--json] [--strict]`
 unfoldable pub compare : App
-compare = command_of (codes "compare") (required_word (codes "instance") ∷ required_words (codes "solution") ∷ valued (codes "barred")
+compare = command_of (codes "compare") (required_word (codes "instance") ∷ required_words (codes "solution") ∷ valued (codes "barred") ∷ valued (codes "blocked")
     ∷ flag (codes "csv") ∷ flag (codes "json") ∷ flag (codes "strict") ∷ [])
 
--- `week INSTANCE SOLUTION [--barred FILE] [--curriculum NAME] [--teacher NAME] [--course NAME] [--room NAME]`
+-- `week INSTANCE SOLUTION [--barred FILE] [--blocked FILE] [--curriculum NAME] [--teacher NAME] [--course NAME] [--room NAME]`
 unfoldable pub week : App
-week = command_of (codes "week") (required_word (codes "instance") ∷ required_word (codes "solution") ∷ valued (codes "barred")
+week = command_of (codes "week") (required_word (codes "instance") ∷ required_word (codes "solution") ∷ valued (codes "barred") ∷ valued (codes "blocked")
     ∷ valued (codes "curriculum") ∷ valued (codes "teacher") ∷ valued (codes "course") ∷ valued (codes "room") ∷ [])
 
--- `page INSTANCE SOLUTION [--barred FILE] [--days NAMES]`
+-- `page INSTANCE SOLUTION [--barred FILE] [--blocked FILE] [--days NAMES]`
 unfoldable pub page : App
-page = command_of (codes "page") (required_word (codes "instance") ∷ required_word (codes "solution") ∷ valued (codes "barred")
+page = command_of (codes "page") (required_word (codes "instance") ∷ required_word (codes "solution") ∷ valued (codes "barred") ∷ valued (codes "blocked")
     ∷ valued (codes "days") ∷ [])
 
--- `run INSTANCE SCRIPT [--barred FILE] [--start SOLUTION] [--journal FILE]`
+-- `run INSTANCE SCRIPT [--barred FILE] [--blocked FILE] [--start SOLUTION] [--journal FILE]`
 unfoldable pub run : App
-run = command_of (codes "run") (required_word (codes "instance") ∷ required_word (codes "script") ∷ valued (codes "barred")
+run = command_of (codes "run") (required_word (codes "instance") ∷ required_word (codes "script") ∷ valued (codes "barred") ∷ valued (codes "blocked")
     ∷ valued (codes "start") ∷ valued (codes "journal") ∷ [])
 
--- `audit INSTANCE JOURNAL [--barred FILE] [--start SOLUTION]`
+-- `audit INSTANCE JOURNAL [--barred FILE] [--blocked FILE] [--start SOLUTION]`
 unfoldable pub audit : App
-audit = command_of (codes "audit") (required_word (codes "instance") ∷ required_word (codes "journal") ∷ valued (codes "barred")
+audit = command_of (codes "audit") (required_word (codes "instance") ∷ required_word (codes "journal") ∷ valued (codes "barred") ∷ valued (codes "blocked")
     ∷ valued (codes "start") ∷ [])
 
--- `crew INSTANCE SCRIPT.. [--barred FILE]`
+-- `crew INSTANCE SCRIPT.. [--barred FILE] [--blocked FILE]`
 unfoldable pub crew : App
-crew = command_of (codes "crew") (required_word (codes "instance") ∷ required_words (codes "script") ∷ valued (codes "barred") ∷ [])
+crew = command_of (codes "crew") (required_word (codes "instance") ∷ required_words (codes "script") ∷ valued (codes "barred") ∷ valued (codes "blocked") ∷ [])
 
--- `desk INSTANCE SEAT.. [--barred FILE] [--start SOLUTION] [--minutes FILE]`
+-- `desk INSTANCE SEAT.. [--barred FILE] [--blocked FILE] [--start SOLUTION] [--minutes FILE]`
 unfoldable pub desk : App
-desk = command_of (codes "desk") (required_word (codes "instance") ∷ required_words (codes "seat") ∷ valued (codes "barred")
+desk = command_of (codes "desk") (required_word (codes "instance") ∷ required_words (codes "seat") ∷ valued (codes "barred") ∷ valued (codes "blocked")
     ∷ valued (codes "start") ∷ valued (codes "minutes") ∷ [])
 
--- `journal INSTANCE MINUTES [--barred FILE]`
+-- `journal INSTANCE MINUTES [--barred FILE] [--blocked FILE]`
 unfoldable pub journal : App
-journal = command_of (codes "journal") (required_word (codes "instance") ∷ required_word (codes "minutes") ∷ valued (codes "barred") ∷ [])
+journal = command_of (codes "journal") (required_word (codes "instance") ∷ required_word (codes "minutes") ∷ valued (codes "barred") ∷ valued (codes "blocked") ∷ [])
 
--- `list INSTANCE JOURNAL [--barred FILE] [--start SOLUTION]`
+-- `list INSTANCE JOURNAL [--barred FILE] [--blocked FILE] [--start SOLUTION]`
 unfoldable pub list : App
-list = command_of (codes "list") (required_word (codes "instance") ∷ required_word (codes "journal") ∷ valued (codes "barred")
+list = command_of (codes "list") (required_word (codes "instance") ∷ required_word (codes "journal") ∷ valued (codes "barred") ∷ valued (codes "blocked")
     ∷ valued (codes "start") ∷ [])
 
--- `mend INSTANCE SOLUTION [--barred FILE]`
+-- `mend INSTANCE SOLUTION [--barred FILE] [--blocked FILE]`
 unfoldable pub mend : App
-mend = command_of (codes "mend") (required_word (codes "instance") ∷ required_word (codes "solution") ∷ valued (codes "barred") ∷ [])
+mend = command_of (codes "mend") (required_word (codes "instance") ∷ required_word (codes "solution") ∷ valued (codes "barred") ∷ valued (codes "blocked") ∷ [])
 
 -- `where FILE WORD`
 unfoldable pub find : App

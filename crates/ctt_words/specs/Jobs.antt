@@ -1,5 +1,5 @@
 -- Which job the words of a command line ask for, and which fault they have if they ask for none.
-use Rattle.std.specs.Prelude.{◌≡◌, ◌≢◌, ◌≤◌, ◌<◌, ◌⊎◌, ℕ, suc, Bool, true, false, List, [], ◌∷◌, Option, Some, None, IsSome, codes, length, map, option_map}
+use Rattle.std.specs.Prelude.{◌≡◌, ◌≢◌, ◌≤◌, ◌<◌, ◌⊎◌, ℕ, suc, Bool, List, [], ◌∷◌, Option, Some, None, IsSome, codes, length, map, option_map}
 use Rattle.std.specs.Global.{Global}
 use Rattle.std.specs.String.{string_bytes}
 use Rattle.std.specs.declared.string.String.{String}
@@ -7,6 +7,7 @@ use Rattle.clap.specs.Words.{IsAmong, Kinds, Row, Text, all_of, fault_of, first_
 use Rattle.clap.specs.declared.error.kind.ErrorKind.{ErrorKind}
 use Rattle.clap.specs.declared.error.kind.ErrorKind.TheVariants.{DisplayHelp, DisplayVersion, OutOfMemory}
 use Rattle.ctt_clap.specs.Flags.{IsOnOrOff}
+use Rattle.ctt_files.specs.declared.sides.Sides.{Sides}
 use Rattle.ctt_words.specs.CommandLine.{is_on, timedesk}
 use Rattle.ctt_words.specs.Outlines.{named}
 use Rattle.ctt_words.specs.declared.job.Job.{Job}
@@ -109,32 +110,36 @@ IsMatched (Some (name, rows)) = IsWhole name rows
 
 -- ---- the job
 
--- the instance is given, and the file of barred rooms is the one that is given, if one is
-abbrev pub HasInstance : List Row → String Global → Option (String Global) → Type 0
-HasInstance rows instance barred = Has rows (codes "instance") instance × MayHave rows (codes "barred") barred
+-- each side file is the one that is given, if one is
+abbrev pub HasSides : List Row → Sides → Type 0
+HasSides rows sides = MayHave rows (codes "barred") sides.barred × MayHave rows (codes "blocked") sides.blocked
+
+-- the instance is given, and these are its side files
+abbrev pub HasInstance : List Row → String Global → Sides → Type 0
+HasInstance rows instance sides = Has rows (codes "instance") instance × HasSides rows sides
 
 -- the job is that of the command of this name, with these matches
 abbrev pub IsJobBy : Text → List Row → Job → Type 0
-IsJobBy name rows (Check instance barred solution json named explain strict) = (name ≡ codes "check") × HasInstance rows instance barred
+IsJobBy name rows (Check instance sides solution json named explain strict) = (name ≡ codes "check") × HasInstance rows instance sides
     × Has rows (codes "solution") solution × IsSet rows (codes "json") json × IsSet rows (codes "name") named
     × IsSet rows (codes "explain") explain × IsSet rows (codes "strict") strict
-IsJobBy name rows (Compare instance barred solutions csv json strict) = (name ≡ codes "compare") × HasInstance rows instance barred
+IsJobBy name rows (Compare instance sides solutions csv json strict) = (name ≡ codes "compare") × HasInstance rows instance sides
     × HasAll rows (codes "solution") solutions.items × IsSet rows (codes "csv") csv × IsSet rows (codes "json") json × IsSet rows (codes "strict") strict
-IsJobBy name rows (Week instance barred solution whose) = (name ≡ codes "week") × HasInstance rows instance barred
+IsJobBy name rows (Week instance sides solution whose) = (name ≡ codes "week") × HasInstance rows instance sides
     × Has rows (codes "solution") solution × (choices rows ≡ choices_of whose)
-IsJobBy name rows (Page instance barred solution days) = (name ≡ codes "page") × HasInstance rows instance barred
+IsJobBy name rows (Page instance sides solution days) = (name ≡ codes "page") × HasInstance rows instance sides
     × Has rows (codes "solution") solution × MayHave rows (codes "days") days
-IsJobBy name rows (Run instance barred script start journal) = (name ≡ codes "run") × HasInstance rows instance barred
+IsJobBy name rows (Run instance sides script start journal) = (name ≡ codes "run") × HasInstance rows instance sides
     × Has rows (codes "script") script × MayHave rows (codes "start") start × MayHave rows (codes "journal") journal
-IsJobBy name rows (Audit instance barred journal start) = (name ≡ codes "audit") × HasInstance rows instance barred
+IsJobBy name rows (Audit instance sides journal start) = (name ≡ codes "audit") × HasInstance rows instance sides
     × Has rows (codes "journal") journal × MayHave rows (codes "start") start
-IsJobBy name rows (Crew instance barred scripts) = (name ≡ codes "crew") × HasInstance rows instance barred × HasAll rows (codes "script") scripts.items
-IsJobBy name rows (Desk instance barred seats start minutes) = (name ≡ codes "desk") × HasInstance rows instance barred
+IsJobBy name rows (Crew instance sides scripts) = (name ≡ codes "crew") × HasInstance rows instance sides × HasAll rows (codes "script") scripts.items
+IsJobBy name rows (Desk instance sides seats start minutes) = (name ≡ codes "desk") × HasInstance rows instance sides
     × HasAll rows (codes "seat") seats.items × MayHave rows (codes "start") start × MayHave rows (codes "minutes") minutes
-IsJobBy name rows (Journal instance barred minutes) = (name ≡ codes "journal") × HasInstance rows instance barred × Has rows (codes "minutes") minutes
-IsJobBy name rows (Listing instance barred journal start) = (name ≡ codes "list") × HasInstance rows instance barred
+IsJobBy name rows (Journal instance sides minutes) = (name ≡ codes "journal") × HasInstance rows instance sides × Has rows (codes "minutes") minutes
+IsJobBy name rows (Listing instance sides journal start) = (name ≡ codes "list") × HasInstance rows instance sides
     × Has rows (codes "journal") journal × MayHave rows (codes "start") start
-IsJobBy name rows (Mend instance barred solution) = (name ≡ codes "mend") × HasInstance rows instance barred × Has rows (codes "solution") solution
+IsJobBy name rows (Mend instance sides solution) = (name ≡ codes "mend") × HasInstance rows instance sides × Has rows (codes "solution") solution
 IsJobBy name rows (Where file word) = (name ≡ codes "where") × Has rows (codes "instance") file × Has rows (codes "word") word
 
 -- the job is that of the command that was matched
@@ -148,9 +153,9 @@ IsJobOf words job = IsJobIn (subcommand_of timedesk words) job
 
 -- a comparison has at least one solution, a crew at least one script, and a desk at least one seat
 abbrev pub HasScripts : Job → Type 0
-HasScripts (Compare instance barred solutions csv json strict) = 1 ≤ length solutions.items
-HasScripts (Crew instance barred scripts) = 1 ≤ length scripts.items
-HasScripts (Desk instance barred seats start minutes) = 1 ≤ length seats.items
+HasScripts (Compare instance sides solutions csv json strict) = 1 ≤ length solutions.items
+HasScripts (Crew instance sides scripts) = 1 ≤ length scripts.items
+HasScripts (Desk instance sides seats start minutes) = 1 ≤ length seats.items
 HasScripts job = Unit {0}
 
 -- ---- words that ask for no job

@@ -16,6 +16,12 @@ const BARRED: Argument = Argument::Valued(
     "The file of the rooms that are barred for courses; without it none are",
 );
 
+const BLOCKED: Argument = Argument::Valued(
+    "blocked",
+    "FILE",
+    "The file of the slots in which rooms, teachers and courses are blocked; without it none are",
+);
+
 const SOLUTION: Argument = Argument::Word("solution", "SOLUTION", "The file of the solution");
 
 const JOURNAL: Argument = Argument::Word("journal", "JOURNAL", "The file of the accepted drafts");
@@ -38,6 +44,7 @@ The lines of --explain, with days and periods counted from 0:
   availability COURSE DAY PERIOD
   occupancy ROOM DAY PERIOD COURSE
   barred COURSE ROOM DAY PERIOD
+  blocked COURSE ROOM DAY PERIOD
   capacity COURSE ROOM DAY PERIOD POINTS
   days COURSE DAYS MINIMUM POINTS
   compactness CURRICULUM COURSE DAY PERIOD POINTS
@@ -48,6 +55,7 @@ Example: timedesk check comp07.ctt comp07.sol --explain",
             INSTANCE,
             SOLUTION,
             BARRED,
+            BLOCKED,
             Argument::Flag("json", "Print the report as JSON"),
             Argument::Flag(
                 "name",
@@ -72,6 +80,7 @@ Example: timedesk check comp07.ctt comp07.sol --explain",
             INSTANCE,
             Argument::Words("solution", "SOLUTION", "The files of the solutions"),
             BARRED,
+            BLOCKED,
             Argument::Flag("csv", "Print the rows as CSV"),
             Argument::Flag("json", "Print the rows as a JSON array"),
             Argument::Flag(
@@ -89,6 +98,7 @@ Example: timedesk check comp07.ctt comp07.sol --explain",
             INSTANCE,
             SOLUTION,
             BARRED,
+            BLOCKED,
             Argument::Valued("curriculum", "NAME", "The week of this curriculum alone"),
             Argument::Valued("teacher", "NAME", "The week of this teacher alone"),
             Argument::Valued(
@@ -108,6 +118,7 @@ Example: timedesk check comp07.ctt comp07.sol --explain",
             INSTANCE,
             SOLUTION,
             BARRED,
+            BLOCKED,
             Argument::Valued(
                 "days",
                 "NAMES",
@@ -124,6 +135,7 @@ Example: timedesk check comp07.ctt comp07.sol --explain",
             INSTANCE,
             Argument::Word("script", "SCRIPT", "The file of the planners' steps"),
             BARRED,
+            BLOCKED,
             START,
             Argument::Valued(
                 "journal",
@@ -137,7 +149,7 @@ Example: timedesk check comp07.ctt comp07.sol --explain",
         name: "audit",
         about: "Report whether a journal has the replies that its drafts get, run one after another",
         example: "Example: timedesk audit comp07.ctt monday.journal --start comp07.sol",
-        arguments: &[INSTANCE, JOURNAL, BARRED, START],
+        arguments: &[INSTANCE, JOURNAL, BARRED, BLOCKED, START],
     },
     Outline {
         command: Name::Crew,
@@ -152,6 +164,7 @@ Example: timedesk check comp07.ctt comp07.sol --explain",
                 "The files of the planners' steps, one for each planner, at most 64",
             ),
             BARRED,
+            BLOCKED,
         ],
     },
     Outline {
@@ -167,6 +180,7 @@ Example: timedesk check comp07.ctt comp07.sol --explain",
                 "The seats of the planners, at most 64: lines come from SEAT.in, and answers go to SEAT.out",
             ),
             BARRED,
+            BLOCKED,
             START,
             Argument::Valued(
                 "minutes",
@@ -184,6 +198,7 @@ Example: timedesk check comp07.ctt comp07.sol --explain",
             INSTANCE,
             Argument::Word("minutes", "MINUTES", "The file of the minutes"),
             BARRED,
+            BLOCKED,
         ],
     },
     Outline {
@@ -191,14 +206,14 @@ Example: timedesk check comp07.ctt comp07.sol --explain",
         name: "list",
         about: "Print the timetable after a journal as a solution",
         example: "Example: timedesk list comp07.ctt monday.journal --start comp07.sol >tuesday.sol",
-        arguments: &[INSTANCE, JOURNAL, BARRED, START],
+        arguments: &[INSTANCE, JOURNAL, BARRED, BLOCKED, START],
     },
     Outline {
         command: Name::Mend,
         name: "mend",
         about: "Print a solution without the lectures that cannot be placed, and report each of these",
         example: "Example: timedesk mend comp07.ctt comp07.sol >mended.sol",
-        arguments: &[INSTANCE, SOLUTION, BARRED],
+        arguments: &[INSTANCE, SOLUTION, BARRED, BLOCKED],
     },
     Outline {
         command: Name::Where,

@@ -2,12 +2,23 @@
 
 ghost use Rattle.std.specs.Prelude.{◌≡◌, ◌≤◌, codes, IfOk};
 ghost use Rattle.clap.specs.Words.{found_of, rows_of};
-ghost use Rattle.ctt_words.specs.Jobs.{HasCheckFlags, HasCompareFlags, HasFiles, IsJobBy, choices, choices_of, count_given};
+ghost use Rattle.ctt_words.specs.Jobs.{HasCheckFlags, HasCompareFlags, HasFiles, HasSides, IsJobBy, choices, choices_of, count_given};
 
 use crate::arguments::{is_set, option, text, texts};
 use crate::job::{Job, Whose};
 use clap::ArgMatches;
+use ctt_files::Sides;
 use std::alloc::{AllocError, Global};
+
+/// Returns the side files that are given.
+fn sides(alloc: Global, given: &ArgMatches<'_>) -> Result<Sides, AllocError>
+    ensures { IfOk result (HasSides (rows_of (found_of given.now))) }
+{
+    Ok(Sides {
+        barred: option(alloc, given, "barred")?,
+        blocked: option(alloc, given, "blocked")?,
+    })
+}
 
 /// Builds the job of the command `check` from its matches.
 pub(crate) fn check_job(alloc: Global, given: &ArgMatches<'_>) -> Result<Job, AllocError>
@@ -17,7 +28,7 @@ pub(crate) fn check_job(alloc: Global, given: &ArgMatches<'_>) -> Result<Job, Al
 {
     Ok(Job::Check {
         instance: text(alloc, given, "instance")?,
-        barred: option(alloc, given, "barred")?,
+        sides: sides(alloc, given)?,
         solution: text(alloc, given, "solution")?,
         json: is_set(given, "json"),
         name: is_set(given, "name"),
@@ -34,7 +45,7 @@ pub(crate) fn compare_job(alloc: Global, given: &ArgMatches<'_>) -> Result<Job, 
 {
     Ok(Job::Compare {
         instance: text(alloc, given, "instance")?,
-        barred: option(alloc, given, "barred")?,
+        sides: sides(alloc, given)?,
         solutions: texts(alloc, given, "solution")?,
         csv: is_set(given, "csv"),
         json: is_set(given, "json"),
@@ -70,7 +81,7 @@ pub(crate) fn week_job(alloc: Global, given: &ArgMatches<'_>) -> Result<Job, All
 {
     Ok(Job::Week {
         instance: text(alloc, given, "instance")?,
-        barred: option(alloc, given, "barred")?,
+        sides: sides(alloc, given)?,
         solution: text(alloc, given, "solution")?,
         whose: whose(alloc, given)?,
     })
@@ -83,7 +94,7 @@ pub(crate) fn page_job(alloc: Global, given: &ArgMatches<'_>) -> Result<Job, All
 {
     Ok(Job::Page {
         instance: text(alloc, given, "instance")?,
-        barred: option(alloc, given, "barred")?,
+        sides: sides(alloc, given)?,
         solution: text(alloc, given, "solution")?,
         days: option(alloc, given, "days")?,
     })
@@ -96,7 +107,7 @@ pub(crate) fn run_job(alloc: Global, given: &ArgMatches<'_>) -> Result<Job, Allo
 {
     Ok(Job::Run {
         instance: text(alloc, given, "instance")?,
-        barred: option(alloc, given, "barred")?,
+        sides: sides(alloc, given)?,
         script: text(alloc, given, "script")?,
         start: option(alloc, given, "start")?,
         journal: option(alloc, given, "journal")?,
@@ -110,7 +121,7 @@ pub(crate) fn audit_job(alloc: Global, given: &ArgMatches<'_>) -> Result<Job, Al
 {
     Ok(Job::Audit {
         instance: text(alloc, given, "instance")?,
-        barred: option(alloc, given, "barred")?,
+        sides: sides(alloc, given)?,
         journal: text(alloc, given, "journal")?,
         start: option(alloc, given, "start")?,
     })
@@ -123,7 +134,7 @@ pub(crate) fn crew_job(alloc: Global, given: &ArgMatches<'_>) -> Result<Job, All
 {
     Ok(Job::Crew {
         instance: text(alloc, given, "instance")?,
-        barred: option(alloc, given, "barred")?,
+        sides: sides(alloc, given)?,
         scripts: texts(alloc, given, "script")?,
     })
 }
@@ -135,7 +146,7 @@ pub(crate) fn desk_job(alloc: Global, given: &ArgMatches<'_>) -> Result<Job, All
 {
     Ok(Job::Desk {
         instance: text(alloc, given, "instance")?,
-        barred: option(alloc, given, "barred")?,
+        sides: sides(alloc, given)?,
         seats: texts(alloc, given, "seat")?,
         start: option(alloc, given, "start")?,
         minutes: option(alloc, given, "minutes")?,
@@ -149,7 +160,7 @@ pub(crate) fn journal_job(alloc: Global, given: &ArgMatches<'_>) -> Result<Job, 
 {
     Ok(Job::Journal {
         instance: text(alloc, given, "instance")?,
-        barred: option(alloc, given, "barred")?,
+        sides: sides(alloc, given)?,
         minutes: text(alloc, given, "minutes")?,
     })
 }
@@ -161,7 +172,7 @@ pub(crate) fn list_job(alloc: Global, given: &ArgMatches<'_>) -> Result<Job, All
 {
     Ok(Job::List {
         instance: text(alloc, given, "instance")?,
-        barred: option(alloc, given, "barred")?,
+        sides: sides(alloc, given)?,
         journal: text(alloc, given, "journal")?,
         start: option(alloc, given, "start")?,
     })
@@ -174,7 +185,7 @@ pub(crate) fn mend_job(alloc: Global, given: &ArgMatches<'_>) -> Result<Job, All
 {
     Ok(Job::Mend {
         instance: text(alloc, given, "instance")?,
-        barred: option(alloc, given, "barred")?,
+        sides: sides(alloc, given)?,
         solution: text(alloc, given, "solution")?,
     })
 }

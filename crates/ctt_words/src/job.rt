@@ -1,5 +1,6 @@
 //! The job that a command line asks for, and why it may ask for none.
 
+use ctt_files::Sides;
 use std::alloc::AllocError;
 use thiserror::Error;
 
@@ -16,9 +17,9 @@ pub enum Whose {
     Room(String),
 }
 
-/// What the program is asked to do, by its command. Files are given by name. `barred` is the file of
-/// the rooms that are barred for courses, if there is one, and `start` the solution that a desk opens
-/// with, or none if it opens empty.
+/// What the program is asked to do, by its command. Files are given by name. `sides` are the side
+/// files of the instance, and `start` is the solution that a desk opens with, or none if it opens
+/// empty.
 #[derive(Drop)]
 pub enum Job {
     /// To report on a solution. `name` begins a JSON report with the name of the solution's file,
@@ -26,7 +27,7 @@ pub enum Job {
     /// lawful and complete.
     Check {
         instance: String,
-        barred: Option<String>,
+        sides: Sides,
         solution: String,
         json: bool,
         name: bool,
@@ -37,7 +38,7 @@ pub enum Job {
     /// complete.
     Compare {
         instance: String,
-        barred: Option<String>,
+        sides: Sides,
         solutions: Vec<String>,
         csv: bool,
         json: bool,
@@ -46,7 +47,7 @@ pub enum Job {
     /// To show the week of a solution as tables, for all rooms or for what is named.
     Week {
         instance: String,
-        barred: Option<String>,
+        sides: Sides,
         solution: String,
         whose: Option<Whose>,
     },
@@ -54,14 +55,14 @@ pub enum Job {
     /// separated by commas.
     Page {
         instance: String,
-        barred: Option<String>,
+        sides: Sides,
         solution: String,
         days: Option<String>,
     },
     /// To run a script on a desk, and to store the journal if a file is given for it.
     Run {
         instance: String,
-        barred: Option<String>,
+        sides: Sides,
         script: String,
         start: Option<String>,
         journal: Option<String>,
@@ -69,21 +70,21 @@ pub enum Job {
     /// To audit a journal on a desk.
     Audit {
         instance: String,
-        barred: Option<String>,
+        sides: Sides,
         journal: String,
         start: Option<String>,
     },
     /// To run scripts on one desk that opens empty, each by a planner on its own thread.
     Crew {
         instance: String,
-        barred: Option<String>,
+        sides: Sides,
         scripts: Vec<String>,
     },
     /// To run a desk with a seat for each planner, and to write the minutes if a file is given for
     /// them.
     Desk {
         instance: String,
-        barred: Option<String>,
+        sides: Sides,
         seats: Vec<String>,
         start: Option<String>,
         minutes: Option<String>,
@@ -91,20 +92,20 @@ pub enum Job {
     /// To print the journal of the minutes of a desk.
     Journal {
         instance: String,
-        barred: Option<String>,
+        sides: Sides,
         minutes: String,
     },
     /// To print the timetable after a journal as a solution.
     List {
         instance: String,
-        barred: Option<String>,
+        sides: Sides,
         journal: String,
         start: Option<String>,
     },
     /// To print a solution without the lectures that cannot be placed.
     Mend {
         instance: String,
-        barred: Option<String>,
+        sides: Sides,
         solution: String,
     },
     /// To find the word of this number in a file.
