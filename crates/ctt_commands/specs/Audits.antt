@@ -17,6 +17,7 @@ use Rattle.ctt_files.specs.declared.fault.Fault.{Fault}
 use Rattle.ctt_files.specs.declared.fault.Fault.TheVariants.{NoMemory}
 use Rattle.ctt_files.specs.declared.outcome.Outcome.TheVariants.{Done, Differs}
 use Rattle.ctt_files.specs.declared.printed.Printed.{Printed}
+use Rattle.ctt_files.specs.declared.sides.Sides.{Sides}
 use Rattle.ctt_commands.specs.Faults.{IsOpeningFault}
 use Rattle.ctt_commands.specs.Texts.{IsJournalText}
 
@@ -50,5 +51,5 @@ abbrev pub AuditsOn : Problem → String Global → Option (String Global) → H
 AuditsOn problem journal start held p = (verdict : Verdict) × FindsIn problem journal start held verdict × ShowsVerdict verdict p
 
 -- the same for the instance in a file; nothing else is left
-abbrev pub AuditsJournal : String Global → Option (String Global) → String Global → Option (String Global) → Held → Printed → Type 0
-AuditsJournal instance barred journal start held p = OfInstance held instance barred (λ problem. AuditsOn problem journal start held p) × IsTextAlone p
+abbrev pub AuditsJournal : String Global → Sides → String Global → Option (String Global) → Held → Printed → Type 0
+AuditsJournal instance sides journal start held p = OfInstance held instance sides (λ problem. AuditsOn problem journal start held p) × IsTextAlone p

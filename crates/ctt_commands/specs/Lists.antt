@@ -13,6 +13,7 @@ use Rattle.ctt_files.specs.Answers.{IsTextAlone, OfInstance}
 use Rattle.ctt_files.specs.Texts.{Held, Holds, IsStart}
 use Rattle.ctt_files.specs.declared.outcome.Outcome.TheVariants.{Done}
 use Rattle.ctt_files.specs.declared.printed.Printed.{Printed}
+use Rattle.ctt_files.specs.declared.sides.Sides.{Sides}
 use Rattle.ctt_commands.specs.Audits.{ShowsVerdict}
 use Rattle.ctt_commands.specs.Texts.{IsJournalText}
 
@@ -32,5 +33,5 @@ pub record ListsOn (problem : Problem) (journal : String Global) (start : Option
   pub shows : ShowsLeft problem lectures entries p
 
 -- the same for the instance in a file; nothing else is left
-abbrev pub ListsJournal : String Global → Option (String Global) → String Global → Option (String Global) → Held → Printed → Type 0
-ListsJournal instance barred journal start held p = OfInstance held instance barred (λ problem. ListsOn problem journal start held p) × IsTextAlone p
+abbrev pub ListsJournal : String Global → Sides → String Global → Option (String Global) → Held → Printed → Type 0
+ListsJournal instance sides journal start held p = OfInstance held instance sides (λ problem. ListsOn problem journal start held p) × IsTextAlone p

@@ -1,5 +1,5 @@
 -- What the command `mend` prints and reports.
-use Rattle.std.specs.Prelude.{◌≡◌, List, Option, None}
+use Rattle.std.specs.Prelude.{◌≡◌, List, None}
 use Rattle.std.specs.Global.{Global}
 use Rattle.std.specs.String.{string_bytes}
 use Rattle.std.specs.declared.string.String.{String}
@@ -10,6 +10,7 @@ use Rattle.ctt_files.specs.Answers.{OfInstance}
 use Rattle.ctt_files.specs.Texts.{Held, Holds, IsSolutionText}
 use Rattle.ctt_files.specs.declared.outcome.Outcome.TheVariants.{Done}
 use Rattle.ctt_files.specs.declared.printed.Printed.{Printed}
+use Rattle.ctt_files.specs.declared.sides.Sides.{Sides}
 use Rattle.ctt_mend.specs.Mended.{aside_text, mended, set_aside}
 
 -- the text is the solution in a file, with only the lectures that can be placed; each lecture that
@@ -21,5 +22,5 @@ pub record MendsOn (problem : Problem) (solution : String Global) (held : Held) 
   pub aside : string_bytes p.aside ≡ aside_text problem (set_aside problem lectures)
 
 -- the same for the instance in a file; the command is done, and nothing is stored
-abbrev pub MendsSolution : String Global → Option (String Global) → String Global → Held → Printed → Type 0
-MendsSolution instance barred solution held p = OfInstance held instance barred (λ problem. MendsOn problem solution held p) × (p.store ≡ None) × (p.outcome ≡ Done)
+abbrev pub MendsSolution : String Global → Sides → String Global → Held → Printed → Type 0
+MendsSolution instance sides solution held p = OfInstance held instance sides (λ problem. MendsOn problem solution held p) × (p.store ≡ None) × (p.outcome ≡ Done)

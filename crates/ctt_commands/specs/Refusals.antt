@@ -12,6 +12,7 @@ use Rattle.ctt_files.specs.Refusals.{IsNoText, IsOfFiles, IsOfInstanceOr, IsOfSo
 use Rattle.ctt_files.specs.Texts.{Held, Holds, IsStart}
 use Rattle.ctt_files.specs.declared.fault.Fault.{Fault}
 use Rattle.ctt_files.specs.declared.fault.Fault.TheVariants.{CannotRead, NoMemory, NoPlace, NoThread, TooLong, TooManyScripts}
+use Rattle.ctt_files.specs.declared.sides.Sides.{Sides}
 use Rattle.ctt_commands.specs.Faults.{IsOpeningFault, fault_of_journal}
 use Rattle.ctt_commands.specs.Texts.{IsJournalText, IsNoJournal, IsUnlawfulStart}
 
@@ -56,20 +57,20 @@ abbrev pub IsOfScripts : List (String Global) → Held → Problem → Fault →
 IsOfScripts names held problem fault = IsOfFiles names held fault ⊎ IsOfWork fault
 
 -- why the command `run` is refused
-abbrev pub IsOfRun : Held → String Global → Option (String Global) → String Global → Option (String Global) → Fault → Type 0
-IsOfRun held instance barred script start = IsOfInstanceOr (IsOfScript script start) held instance barred
+abbrev pub IsOfRun : Held → String Global → Sides → String Global → Option (String Global) → Fault → Type 0
+IsOfRun held instance sides script start = IsOfInstanceOr (IsOfScript script start) held instance sides
 
 -- why the commands `audit` and `list` are refused
-abbrev pub IsOfAudit : Held → String Global → Option (String Global) → String Global → Option (String Global) → Fault → Type 0
-IsOfAudit held instance barred journal start = IsOfInstanceOr (IsOfAudited journal start) held instance barred
+abbrev pub IsOfAudit : Held → String Global → Sides → String Global → Option (String Global) → Fault → Type 0
+IsOfAudit held instance sides journal start = IsOfInstanceOr (IsOfAudited journal start) held instance sides
 
 -- why the command `crew` is refused: more than 64 scripts, or a fault of its files or its work
-abbrev pub IsOfCrew : Held → String Global → Option (String Global) → List (String Global) → Fault → Type 0
-IsOfCrew held instance barred scripts fault = ((fault ≡ TooManyScripts) × (64 < length scripts)) ⊎ IsOfInstanceOr (IsOfScripts scripts) held instance barred fault
+abbrev pub IsOfCrew : Held → String Global → Sides → List (String Global) → Fault → Type 0
+IsOfCrew held instance sides scripts fault = ((fault ≡ TooManyScripts) × (64 < length scripts)) ⊎ IsOfInstanceOr (IsOfScripts scripts) held instance sides fault
 
 -- why the command `mend` is refused
-abbrev pub IsOfMending : Held → String Global → Option (String Global) → String Global → Fault → Type 0
-IsOfMending held instance barred solution = IsOfInstanceOr (IsOfSolution solution) held instance barred
+abbrev pub IsOfMending : Held → String Global → Sides → String Global → Fault → Type 0
+IsOfMending held instance sides solution = IsOfInstanceOr (IsOfSolution solution) held instance sides
 
 -- why the timetable after the entries is not printed: the opening with these lectures is refused,
 -- or memory runs out

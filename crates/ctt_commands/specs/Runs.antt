@@ -11,6 +11,7 @@ use Rattle.ctt_script.specs.AnswerText.{answer_text, script_run}
 use Rattle.ctt_script.specs.WrittenText.{journal_text}
 use Rattle.ctt_files.specs.Storing.{Stores}
 use Rattle.ctt_files.specs.Texts.{Held, Holds, IsInstanceIn, IsStart}
+use Rattle.ctt_files.specs.declared.sides.Sides.{Sides}
 
 -- the script, which is within the limit, is run on a desk that opens with the start; its answers
 -- are printed, and the accepted drafts are stored as a journal, if a file is given
@@ -24,7 +25,7 @@ pub record RunsOn (problem : Problem) (script : String Global) (start journal : 
   pub stores : Stores journal before after (λ bytes. Holds before script (λ text. bytes ≡ journal_text problem (accepted_of (script_run problem opened text))))
 
 -- the same for the instance in a file
-pub record RunsScript (instance : String Global) (barred : Option (String Global)) (script : String Global) (start journal : Option (String Global)) (before after : Held) (old new : Option (List ℕ)) : Type 0 where
+pub record RunsScript (instance : String Global) (sides : Sides) (script : String Global) (start journal : Option (String Global)) (before after : Held) (old new : Option (List ℕ)) : Type 0 where
   pub problem : Problem
-  pub is_instance : IsInstanceIn before instance barred problem
+  pub is_instance : IsInstanceIn before instance sides problem
   pub runs : RunsOn problem script start journal before after old new

@@ -12,7 +12,7 @@ ghost use Rattle.ctt_commands.specs.Texts.{IsJournalText};
 use crate::refused::{refused_journal, refused_opening};
 use ctt_board::Sheet;
 use ctt_core::{JournalEntry, Verdict, audit as audit_entries};
-use ctt_files::{Fault, Files, Outcome, Printed, fetch_instance, fetch_start, read_file};
+use ctt_files::{Fault, Files, Outcome, Printed, Sides, fetch_instance, fetch_start, read_file};
 use ctt_grid::GridSheet;
 use ctt_script::read_journal;
 use ctt_text::{Instance, let_go};
@@ -112,15 +112,15 @@ pub fn audit<F: Files>(
     alloc: Global,
     files: &mut F,
     instance: String,
-    barred: Option<String>,
+    sides: Sides,
     journal: String,
     start: Option<String>,
 ) -> Result<Printed, Fault>
-    ensures audits { IfOk result (AuditsJournal instance barred journal start (F.held files.old)) }
+    ensures audits { IfOk result (AuditsJournal instance sides journal start (F.held files.old)) }
     ensures kept { F.held files.new ≡ F.held files.old }
-    ensures cause { IfErr result (IsOfAudit (F.held files.old) instance barred journal start) }
+    ensures cause { IfErr result (IsOfAudit (F.held files.old) instance sides journal start) }
 {
-    let instance = fetch_instance(alloc, files, instance, barred)?;
+    let instance = fetch_instance(alloc, files, instance, sides)?;
     let audited = audit_on::<GridSheet, F>(alloc, files, &instance, journal, start);
     let_go(instance);
     audited

@@ -10,7 +10,7 @@ ghost use Rattle.ctt_commands.specs.Faults.{fault_of_crew};
 ghost use Rattle.ctt_commands.specs.Refusals.{IsOfCrew, IsOfWork, IsOfScripts};
 
 use ctt_crew::{CrewFault, NoGate};
-use ctt_files::{Fault, Files, Outcome, Printed, fetch_instance, read_files};
+use ctt_files::{Fault, Files, Outcome, Printed, Sides, fetch_instance, read_files};
 use ctt_script::PLANNERS;
 use ctt_text::{Instance, let_go};
 use std::alloc::Global;
@@ -72,25 +72,25 @@ fn answers_on<R: Threads + Wait + Sync, F: Files>(
     answers(rt, alloc, instance, &texts)
 }
 
-/// Returns what a crew on an instance writes. The instance is read first, then the barred rooms,
+/// Returns what a crew on an instance writes. The instance is read first, then its side files,
 /// and then the scripts, in order.
 fn report<R: Threads + Wait + Sync, F: Files>(
     rt: &R,
     alloc: Global,
     files: &mut F,
     instance: String,
-    barred: Option<String>,
+    sides: Sides,
     scripts: Vec<String>,
 ) -> Result<Vec<u8>, Fault>
     requires some { 1 ≤ length scripts.items }
     requires few { length scripts.items ≤ 64 }
     ensures crew { IfOk result (λ bytes.
-        IsOfCrewOn instance barred scripts.items (F.held files.old) bytes.items) }
+        IsOfCrewOn instance sides scripts.items (F.held files.old) bytes.items) }
     ensures kept { F.held files.new ≡ F.held files.old }
     ensures cause { IfErr result
-        (IsOfInstanceOr (IsOfScripts scripts.items) (F.held files.old) instance barred) }
+        (IsOfInstanceOr (IsOfScripts scripts.items) (F.held files.old) instance sides) }
 {
-    let instance = fetch_instance(alloc, files, instance, barred)?;
+    let instance = fetch_instance(alloc, files, instance, sides)?;
     let answers = answers_on(rt, alloc, files, &instance, scripts);
     let_go(instance);
     answers
@@ -104,18 +104,18 @@ pub fn crew<R: Threads + Wait + Sync, F: Files>(
     alloc: Global,
     files: &mut F,
     instance: String,
-    barred: Option<String>,
+    sides: Sides,
     scripts: Vec<String>,
 ) -> Result<Printed, Fault>
     requires { 1 ≤ length scripts.items }
-    ensures writes { IfOk result (WritesCrew instance barred scripts.items (F.held files.old)) }
+    ensures writes { IfOk result (WritesCrew instance sides scripts.items (F.held files.old)) }
     ensures many { 64 < length scripts.items → result ≡ Err TooManyScripts }
     ensures kept { F.held files.new ≡ F.held files.old }
-    ensures cause { IfErr result (IsOfCrew (F.held files.old) instance barred scripts.items) }
+    ensures cause { IfErr result (IsOfCrew (F.held files.old) instance sides scripts.items) }
 {
     if scripts.len() > PLANNERS as usize {
         return Err(Fault::TooManyScripts);
     }
-    let report = report(rt, alloc, files, instance, barred, scripts)?;
+    let report = report(rt, alloc, files, instance, sides, scripts)?;
     Ok(Printed::new(alloc, report, Outcome::Done))
 }

@@ -11,7 +11,7 @@ ghost use Rattle.ctt_commands.specs.Refusals.{IsLeftFault, IsOfAudit, IsOfAudite
 use crate::auditing::{fetch_entries, show_verdict};
 use ctt_board::Sheet;
 use ctt_core::{JournalEntry, NoList, list_after};
-use ctt_files::{Fault, Files, Outcome, Printed, fetch_instance, fetch_start};
+use ctt_files::{Fault, Files, Outcome, Printed, Sides, fetch_instance, fetch_start};
 use ctt_grid::GridSheet;
 use ctt_text::{Instance, Placed, let_go, write_solution};
 use std::alloc::Global;
@@ -73,15 +73,15 @@ pub fn list<F: Files>(
     alloc: Global,
     files: &mut F,
     instance: String,
-    barred: Option<String>,
+    sides: Sides,
     journal: String,
     start: Option<String>,
 ) -> Result<Printed, Fault>
-    ensures lists { IfOk result (ListsJournal instance barred journal start (F.held files.old)) }
+    ensures lists { IfOk result (ListsJournal instance sides journal start (F.held files.old)) }
     ensures kept { F.held files.new ≡ F.held files.old }
-    ensures cause { IfErr result (IsOfAudit (F.held files.old) instance barred journal start) }
+    ensures cause { IfErr result (IsOfAudit (F.held files.old) instance sides journal start) }
 {
-    let instance = fetch_instance(alloc, files, instance, barred)?;
+    let instance = fetch_instance(alloc, files, instance, sides)?;
     let listed = list_on::<GridSheet, F>(alloc, files, &instance, journal, start);
     let_go(instance);
     listed

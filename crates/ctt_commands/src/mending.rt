@@ -7,7 +7,7 @@ ghost use Rattle.ctt_commands.specs.Mends.{MendsOn, MendsSolution};
 ghost use Rattle.ctt_commands.specs.Refusals.{IsOfMending};
 
 use ctt_board::Sheet;
-use ctt_files::{Fault, Files, Outcome, Printed, fetch_instance, fetch_solution};
+use ctt_files::{Fault, Files, Outcome, Printed, Sides, fetch_instance, fetch_solution};
 use ctt_grid::GridSheet;
 use ctt_mend::mend as mend_lectures;
 use ctt_text::{Instance, let_go};
@@ -43,14 +43,14 @@ pub fn mend<F: Files>(
     alloc: Global,
     files: &mut F,
     instance: String,
-    barred: Option<String>,
+    sides: Sides,
     solution: String,
 ) -> Result<Printed, Fault>
-    ensures mends { IfOk result (MendsSolution instance barred solution (F.held files.old)) }
+    ensures mends { IfOk result (MendsSolution instance sides solution (F.held files.old)) }
     ensures kept { F.held files.new ≡ F.held files.old }
-    ensures cause { IfErr result (IsOfMending (F.held files.old) instance barred solution) }
+    ensures cause { IfErr result (IsOfMending (F.held files.old) instance sides solution) }
 {
-    let instance = fetch_instance(alloc, files, instance, barred)?;
+    let instance = fetch_instance(alloc, files, instance, sides)?;
     let mended = mend_on::<GridSheet, F>(alloc, files, &instance, solution);
     let_go(instance);
     mended

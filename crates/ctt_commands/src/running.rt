@@ -19,7 +19,7 @@ ghost use Rattle.ctt_commands.specs.Runs.{RunsOn, RunsScript};
 
 use crate::refused::refused_opening;
 use ctt_core::{Desk, JournalEntry};
-use ctt_files::{Fault, Files, Outcome, Sink, Source, fetch_instance, fetch_start};
+use ctt_files::{Fault, Files, Outcome, Sides, Sink, Source, fetch_instance, fetch_start};
 use ctt_grid::GridSheet;
 use ctt_script::{ScriptFault, run_script, write_journal};
 use ctt_text::{Instance, Placed, let_go};
@@ -141,19 +141,19 @@ pub fn run<F: Files, W: Sink>(
     files: &mut F,
     out: &mut W,
     instance: String,
-    barred: Option<String>,
+    sides: Sides,
     script: String,
     start: Option<String>,
     journal: Option<String>,
 ) -> Result<Outcome, Fault>
     ensures runs { OnOk result
-        (RunsScript instance barred script start journal (F.held files.old) (F.held files.new)
+        (RunsScript instance sides script start journal (F.held files.old) (F.held files.new)
         (W.taken out.old) (W.taken out.new)) }
     ensures done { IfOk result (λ outcome. outcome ≡ Done) }
     ensures unmarked { OnOk result (W.has_failed out.new ≡ W.has_failed out.old) }
     ensures cause { IfErr result (λ fault. IfUnwritten fault
         ((W.has_failed out.new ≡ true) ⊎ IsGiven journal)
-        (IsOfRun (F.held files.old) instance barred script start fault
+        (IsOfRun (F.held files.old) instance sides script start fault
         × (W.has_failed out.new ≡ W.has_failed out.old))) }
     ensures unwritten { IfErr result (λ fault. MayHaveWritten fault ⊎ (out.new ≡ out.old)) }
     ensures unstored { IfErr result (λ fault. KeptUnless fault
@@ -161,7 +161,7 @@ pub fn run<F: Files, W: Sink>(
         (F.held files.new ≡ F.held files.old)) }
     ensures others { KeepOthers journal (F.held files.old) (F.held files.new) }
 {
-    let instance = fetch_instance(alloc, files, instance, barred)?;
+    let instance = fetch_instance(alloc, files, instance, sides)?;
     let done = run_on(alloc, files, out, &instance, script, start, journal);
     let_go(instance);
     done

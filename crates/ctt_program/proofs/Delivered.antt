@@ -43,17 +43,17 @@ job_written job held fault P U is u = by (job_plain job held fault is)
 
 -- an answer stores nothing
 pub none_stored : (job : Job) (held : Held) (p : Printed) → IsAnswer job held p → p.store ≡ None
-none_stored (Check instance barred solution json name explain strict) held p is = is.1.1
-none_stored (Week instance barred solution whose) held p is = is.1.1
-none_stored (Page instance barred solution days) held p is = is.1.1
-none_stored (Run instance barred script start journal) held p is = absurd is
-none_stored (Audit instance barred journal start) held p is = is.1.1
-none_stored (Crew instance barred scripts) held p is = is.4.1
-none_stored (Desk instance barred seats start minutes) held p is = absurd is
-none_stored (Journals instance barred minutes) held p is = is.1
-none_stored (Listing instance barred journal start) held p is = is.1.1
-none_stored (Mend instance barred solution) held p is = is.1
-none_stored (Compare instance barred solutions csv json strict) held p is = is.unstored
+none_stored (Check instance sides solution json name explain strict) held p is = is.1.1
+none_stored (Week instance sides solution whose) held p is = is.1.1
+none_stored (Page instance sides solution days) held p is = is.1.1
+none_stored (Run instance sides script start journal) held p is = absurd is
+none_stored (Audit instance sides journal start) held p is = is.1.1
+none_stored (Crew instance sides scripts) held p is = is.4.1
+none_stored (Desk instance sides seats start minutes) held p is = absurd is
+none_stored (Journals instance sides minutes) held p is = is.1
+none_stored (Listing instance sides journal start) held p is = is.1.1
+none_stored (Mend instance sides solution) held p is = is.1
+none_stored (Compare instance sides solutions csv json strict) held p is = is.unstored
 none_stored (Where file word) held p is = is.done.1.1
 
 -- if nothing is to be stored, all files are unchanged
@@ -63,18 +63,18 @@ none_changed store before after none stores = subst (λ s. StoresFile s before a
 -- the job is done if its answer is printed
 pub does_printed : (job : Job) (outcome : Outcome) (before after : Held) (old new : Option (List ℕ)) (p : Printed)
     → streams job ≡ false → IsAnswer job before p → after ≡ before → outcome ≡ p.outcome → Appends old new p.text.items → DoesJob job outcome before after old new
-does_printed (Check instance barred solution json name true strict) outcome before after old new p whole is kept ends prints = absurd (true≢false whole)
-does_printed (Check instance barred solution json name false strict) outcome before after old new p whole is kept ends prints = (kept, (p, is, ends, prints))
-does_printed (Week instance barred solution whose) outcome before after old new p whole is kept ends prints = (kept, (p, is, ends, prints))
-does_printed (Page instance barred solution days) outcome before after old new p whole is kept ends prints = (kept, (p, is, ends, prints))
-does_printed (Run instance barred script start journal) outcome before after old new p whole is kept ends prints = absurd is
-does_printed (Audit instance barred journal start) outcome before after old new p whole is kept ends prints = (kept, (p, is, ends, prints))
-does_printed (Crew instance barred scripts) outcome before after old new p whole is kept ends prints = (kept, (p, is, ends, prints))
-does_printed (Desk instance barred seats start minutes) outcome before after old new p whole is kept ends prints = absurd is
-does_printed (Journals instance barred minutes) outcome before after old new p whole is kept ends prints = (kept, (p, is, ends, prints))
-does_printed (Listing instance barred journal start) outcome before after old new p whole is kept ends prints = (kept, (p, is, ends, prints))
-does_printed (Mend instance barred solution) outcome before after old new p whole is kept ends prints = (kept, (p, is, ends, prints))
-does_printed (Compare instance barred solutions csv json strict) outcome before after old new p whole is kept ends prints = (kept, (p, is, ends, prints))
+does_printed (Check instance sides solution json name true strict) outcome before after old new p whole is kept ends prints = absurd (true≢false whole)
+does_printed (Check instance sides solution json name false strict) outcome before after old new p whole is kept ends prints = (kept, (p, is, ends, prints))
+does_printed (Week instance sides solution whose) outcome before after old new p whole is kept ends prints = (kept, (p, is, ends, prints))
+does_printed (Page instance sides solution days) outcome before after old new p whole is kept ends prints = (kept, (p, is, ends, prints))
+does_printed (Run instance sides script start journal) outcome before after old new p whole is kept ends prints = absurd is
+does_printed (Audit instance sides journal start) outcome before after old new p whole is kept ends prints = (kept, (p, is, ends, prints))
+does_printed (Crew instance sides scripts) outcome before after old new p whole is kept ends prints = (kept, (p, is, ends, prints))
+does_printed (Desk instance sides seats start minutes) outcome before after old new p whole is kept ends prints = absurd is
+does_printed (Journals instance sides minutes) outcome before after old new p whole is kept ends prints = (kept, (p, is, ends, prints))
+does_printed (Listing instance sides journal start) outcome before after old new p whole is kept ends prints = (kept, (p, is, ends, prints))
+does_printed (Mend instance sides solution) outcome before after old new p whole is kept ends prints = (kept, (p, is, ends, prints))
+does_printed (Compare instance sides solutions csv json strict) outcome before after old new p whole is kept ends prints = (kept, (p, is, ends, prints))
 does_printed (Where file word) outcome before after old new p whole is kept ends prints = (kept, (p, is, ends, prints))
 
 -- nothing was for standard error, so nothing was written
@@ -87,17 +87,17 @@ unsaid aside old new none (inr same) = same
 pub says_aside : {V : Type 0} (taken : V → Option (List ℕ)) (failed : V → Bool) (job : Job) (held : Held) (p : Printed) (old new : V)
     → IsAnswer job held p → (failed new ≡ true) ⊎ Appends (taken old) (taken new) (string_bytes p.aside) → (string_bytes p.aside ≢ []) ⊎ (new ≡ old)
     → (Warning job × (failed new ≡ true)) ⊎ SaysOfJob job held (taken old) (taken new)
-says_aside taken failed (Check instance barred solution json name explain strict) held p old new is says quiet = inr (ap taken (unsaid (string_bytes p.aside) old new is.1.0 quiet))
-says_aside taken failed (Week instance barred solution whose) held p old new is says quiet = inr (ap taken (unsaid (string_bytes p.aside) old new is.1.0 quiet))
-says_aside taken failed (Page instance barred solution days) held p old new is says quiet = inr (ap taken (unsaid (string_bytes p.aside) old new is.1.0 quiet))
-says_aside taken failed (Run instance barred script start journal) held p old new is says quiet = absurd is
-says_aside taken failed (Audit instance barred journal start) held p old new is says quiet = inr (ap taken (unsaid (string_bytes p.aside) old new is.1.0 quiet))
-says_aside taken failed (Crew instance barred scripts) held p old new is says quiet = inr (ap taken (unsaid (string_bytes p.aside) old new is.4.0 quiet))
-says_aside taken failed (Desk instance barred seats start minutes) held p old new is says quiet = absurd is
-says_aside taken failed (Journals instance barred minutes) held p old new is says quiet = ⊎_elim (λ marked. inl (tt, marked)) (λ all. inr (p, is, all)) says
-says_aside taken failed (Listing instance barred journal start) held p old new is says quiet = inr (ap taken (unsaid (string_bytes p.aside) old new is.1.0 quiet))
-says_aside taken failed (Mend instance barred solution) held p old new is says quiet = ⊎_elim (λ marked. inl (tt, marked)) (λ all. inr (p, is, all)) says
-says_aside taken failed (Compare instance barred solutions csv json strict) held p old new is says quiet = ⊎_elim (λ marked. inl (tt, marked)) (λ all. inr (p, is, all)) says
+says_aside taken failed (Check instance sides solution json name explain strict) held p old new is says quiet = inr (ap taken (unsaid (string_bytes p.aside) old new is.1.0 quiet))
+says_aside taken failed (Week instance sides solution whose) held p old new is says quiet = inr (ap taken (unsaid (string_bytes p.aside) old new is.1.0 quiet))
+says_aside taken failed (Page instance sides solution days) held p old new is says quiet = inr (ap taken (unsaid (string_bytes p.aside) old new is.1.0 quiet))
+says_aside taken failed (Run instance sides script start journal) held p old new is says quiet = absurd is
+says_aside taken failed (Audit instance sides journal start) held p old new is says quiet = inr (ap taken (unsaid (string_bytes p.aside) old new is.1.0 quiet))
+says_aside taken failed (Crew instance sides scripts) held p old new is says quiet = inr (ap taken (unsaid (string_bytes p.aside) old new is.4.0 quiet))
+says_aside taken failed (Desk instance sides seats start minutes) held p old new is says quiet = absurd is
+says_aside taken failed (Journals instance sides minutes) held p old new is says quiet = ⊎_elim (λ marked. inl (tt, marked)) (λ all. inr (p, is, all)) says
+says_aside taken failed (Listing instance sides journal start) held p old new is says quiet = inr (ap taken (unsaid (string_bytes p.aside) old new is.1.0 quiet))
+says_aside taken failed (Mend instance sides solution) held p old new is says quiet = ⊎_elim (λ marked. inl (tt, marked)) (λ all. inr (p, is, all)) says
+says_aside taken failed (Compare instance sides solutions csv json strict) held p old new is says quiet = ⊎_elim (λ marked. inl (tt, marked)) (λ all. inr (p, is, all)) says
 says_aside taken failed (Where file word) held p old new is says quiet = inr (ap taken (unsaid (string_bytes p.aside) old new is.done.1.0 quiet))
 
 -- a comparison has something to report only if it ends with `Differs`
@@ -109,17 +109,17 @@ reports_differs strict (b ∷ bs) rows outcome is = inr is
 -- with `Differs`
 pub quiet_answer : {V : Type 0} (job : Job) (held : Held) (p : Printed) (outcome : Outcome) (old new : V)
     → IsAnswer job held p → outcome ≡ p.outcome → (string_bytes p.aside ≢ []) ⊎ (new ≡ old) → (Saying job × (outcome ≡ Done)) ⊎ ((outcome ≡ Differs) ⊎ (new ≡ old))
-quiet_answer (Check instance barred solution json name explain strict) held p outcome old new is ends quiet = inr (inr (unsaid (string_bytes p.aside) old new is.1.0 quiet))
-quiet_answer (Week instance barred solution whose) held p outcome old new is ends quiet = inr (inr (unsaid (string_bytes p.aside) old new is.1.0 quiet))
-quiet_answer (Page instance barred solution days) held p outcome old new is ends quiet = inr (inr (unsaid (string_bytes p.aside) old new is.1.0 quiet))
-quiet_answer (Run instance barred script start journal) held p outcome old new is ends quiet = absurd is
-quiet_answer (Audit instance barred journal start) held p outcome old new is ends quiet = inr (inr (unsaid (string_bytes p.aside) old new is.1.0 quiet))
-quiet_answer (Crew instance barred scripts) held p outcome old new is ends quiet = inr (inr (unsaid (string_bytes p.aside) old new is.4.0 quiet))
-quiet_answer (Desk instance barred seats start minutes) held p outcome old new is ends quiet = absurd is
-quiet_answer (Journals instance barred minutes) held p outcome old new is ends quiet = inl (tt, ends ∙ is.2)
-quiet_answer (Listing instance barred journal start) held p outcome old new is ends quiet = inr (inr (unsaid (string_bytes p.aside) old new is.1.0 quiet))
-quiet_answer (Mend instance barred solution) held p outcome old new is ends quiet = inl (tt, ends ∙ is.2)
-quiet_answer (Compare instance barred solutions csv json strict) held p outcome old new is ends quiet = ⊎_elim (λ none. inr (inr (unsaid (string_bytes p.aside) old new none quiet))) (λ differs. inr (inl differs)) (reports_differs strict (string_bytes p.aside) is.rows outcome (ends ∙ is.outcome))
+quiet_answer (Check instance sides solution json name explain strict) held p outcome old new is ends quiet = inr (inr (unsaid (string_bytes p.aside) old new is.1.0 quiet))
+quiet_answer (Week instance sides solution whose) held p outcome old new is ends quiet = inr (inr (unsaid (string_bytes p.aside) old new is.1.0 quiet))
+quiet_answer (Page instance sides solution days) held p outcome old new is ends quiet = inr (inr (unsaid (string_bytes p.aside) old new is.1.0 quiet))
+quiet_answer (Run instance sides script start journal) held p outcome old new is ends quiet = absurd is
+quiet_answer (Audit instance sides journal start) held p outcome old new is ends quiet = inr (inr (unsaid (string_bytes p.aside) old new is.1.0 quiet))
+quiet_answer (Crew instance sides scripts) held p outcome old new is ends quiet = inr (inr (unsaid (string_bytes p.aside) old new is.4.0 quiet))
+quiet_answer (Desk instance sides seats start minutes) held p outcome old new is ends quiet = absurd is
+quiet_answer (Journals instance sides minutes) held p outcome old new is ends quiet = inl (tt, ends ∙ is.2)
+quiet_answer (Listing instance sides journal start) held p outcome old new is ends quiet = inr (inr (unsaid (string_bytes p.aside) old new is.1.0 quiet))
+quiet_answer (Mend instance sides solution) held p outcome old new is ends quiet = inl (tt, ends ∙ is.2)
+quiet_answer (Compare instance sides solutions csv json strict) held p outcome old new is ends quiet = ⊎_elim (λ none. inr (inr (unsaid (string_bytes p.aside) old new none quiet))) (λ differs. inr (inl differs)) (reports_differs strict (string_bytes p.aside) is.rows outcome (ends ∙ is.outcome))
 quiet_answer (Where file word) held p outcome old new is ends quiet = inr (inr (unsaid (string_bytes p.aside) old new is.done.1.0 quiet))
 
 -- an answer that ends with `Differs` reports nothing, unless it is that of a comparison, which
@@ -128,15 +128,15 @@ pub differs_answer : {V : Type 0} (taken : V → Option (List ℕ)) (failed : V 
     (old new : Option (List ℕ)) (err new_err : V) → IsAnswer job held p → outcome ≡ p.outcome → Appends old new p.text.items
     → (failed new_err ≡ true) ⊎ Appends (taken err) (taken new_err) (string_bytes p.aside) → (string_bytes p.aside ≢ []) ⊎ (new_err ≡ err)
     → outcome ≡ Differs → DiffersOfJob taken failed job held old new err new_err
-differs_answer taken failed (Check instance barred solution json name explain strict) held p outcome old new err new_err is ends prints says quiet differs = unsaid (string_bytes p.aside) err new_err is.1.0 quiet
-differs_answer taken failed (Week instance barred solution whose) held p outcome old new err new_err is ends prints says quiet differs = unsaid (string_bytes p.aside) err new_err is.1.0 quiet
-differs_answer taken failed (Page instance barred solution days) held p outcome old new err new_err is ends prints says quiet differs = unsaid (string_bytes p.aside) err new_err is.1.0 quiet
-differs_answer taken failed (Run instance barred script start journal) held p outcome old new err new_err is ends prints says quiet differs = absurd is
-differs_answer taken failed (Audit instance barred journal start) held p outcome old new err new_err is ends prints says quiet differs = unsaid (string_bytes p.aside) err new_err is.1.0 quiet
-differs_answer taken failed (Crew instance barred scripts) held p outcome old new err new_err is ends prints says quiet differs = unsaid (string_bytes p.aside) err new_err is.4.0 quiet
-differs_answer taken failed (Desk instance barred seats start minutes) held p outcome old new err new_err is ends prints says quiet differs = absurd is
-differs_answer taken failed (Journals instance barred minutes) held p outcome old new err new_err is ends prints says quiet differs = done_differs outcome (ends ∙ is.2) differs
-differs_answer taken failed (Listing instance barred journal start) held p outcome old new err new_err is ends prints says quiet differs = unsaid (string_bytes p.aside) err new_err is.1.0 quiet
-differs_answer taken failed (Mend instance barred solution) held p outcome old new err new_err is ends prints says quiet differs = done_differs outcome (ends ∙ is.2) differs
-differs_answer taken failed (Compare instance barred solutions csv json strict) held p outcome old new err new_err is ends prints says quiet differs = (p, is, sym ends ∙ differs, prints, says)
+differs_answer taken failed (Check instance sides solution json name explain strict) held p outcome old new err new_err is ends prints says quiet differs = unsaid (string_bytes p.aside) err new_err is.1.0 quiet
+differs_answer taken failed (Week instance sides solution whose) held p outcome old new err new_err is ends prints says quiet differs = unsaid (string_bytes p.aside) err new_err is.1.0 quiet
+differs_answer taken failed (Page instance sides solution days) held p outcome old new err new_err is ends prints says quiet differs = unsaid (string_bytes p.aside) err new_err is.1.0 quiet
+differs_answer taken failed (Run instance sides script start journal) held p outcome old new err new_err is ends prints says quiet differs = absurd is
+differs_answer taken failed (Audit instance sides journal start) held p outcome old new err new_err is ends prints says quiet differs = unsaid (string_bytes p.aside) err new_err is.1.0 quiet
+differs_answer taken failed (Crew instance sides scripts) held p outcome old new err new_err is ends prints says quiet differs = unsaid (string_bytes p.aside) err new_err is.4.0 quiet
+differs_answer taken failed (Desk instance sides seats start minutes) held p outcome old new err new_err is ends prints says quiet differs = absurd is
+differs_answer taken failed (Journals instance sides minutes) held p outcome old new err new_err is ends prints says quiet differs = done_differs outcome (ends ∙ is.2) differs
+differs_answer taken failed (Listing instance sides journal start) held p outcome old new err new_err is ends prints says quiet differs = unsaid (string_bytes p.aside) err new_err is.1.0 quiet
+differs_answer taken failed (Mend instance sides solution) held p outcome old new err new_err is ends prints says quiet differs = done_differs outcome (ends ∙ is.2) differs
+differs_answer taken failed (Compare instance sides solutions csv json strict) held p outcome old new err new_err is ends prints says quiet differs = (p, is, sym ends ∙ differs, prints, says)
 differs_answer taken failed (Where file word) held p outcome old new err new_err is ends prints says quiet differs = unsaid (string_bytes p.aside) err new_err is.done.1.0 quiet

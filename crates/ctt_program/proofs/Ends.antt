@@ -7,7 +7,7 @@ use Rattle.ctt_files.specs.Faults.{MayHaveWritten, status_of}
 use Rattle.ctt_files.specs.Outcomes.{outcome_status}
 use Rattle.ctt_files.specs.Texts.{Held}
 use Rattle.ctt_files.specs.declared.fault.Fault.{Fault}
-use Rattle.ctt_files.specs.declared.fault.Fault.TheVariants.{BadSeats, Barred, CannotRead, CannotWrite, Instance, Journal, MinutesExist, NoCourse, NoCurriculum, NoMemory, NoPlace, NoRoom, NoTeacher, NoThread, NoWord, Opening, Solution, TooLong, TooManyScripts, Words, WordsNotText}
+use Rattle.ctt_files.specs.declared.fault.Fault.TheVariants.{BadSeats, Barred, Blocked, CannotRead, CannotWrite, Instance, Journal, MinutesExist, NoCourse, NoCurriculum, NoMemory, NoPlace, NoRoom, NoTeacher, NoThread, NoWord, Opening, Solution, TooLong, TooManyScripts, Words, WordsNotText}
 use Rattle.ctt_files.specs.declared.outcome.Outcome.{Outcome}
 use Rattle.ctt_files.specs.declared.outcome.Outcome.TheVariants.{Differs, Done, Incomplete, Unlawful}
 use Rattle.ctt_files.proofs.Causes.{three_is_one}
@@ -75,6 +75,7 @@ ended_kept NoMemory status S K is kept = inl kept
 ended_kept (Instance met) status S K is kept = inl kept
 ended_kept (Solution met) status S K is kept = inl kept
 ended_kept (Barred met) status S K is kept = inl kept
+ended_kept (Blocked met) status S K is kept = inl kept
 ended_kept (Journal number at) status S K is kept = inl kept
 ended_kept (Opening text) status S K is kept = inl kept
 ended_kept (CannotRead name) status S K is kept = inl kept
@@ -120,18 +121,18 @@ failed_so (Err fault) F P Q is holds gives = gives fault is holds
 -- a job that ends with another outcome than `Done` has changed no file
 job_kept : (job : Job) (outcome : Outcome) (before after : Held) (old new : Option (List ℕ))
     → DoesJob job outcome before after old new → outcome ≢ Done → after ≡ before
-job_kept (Check instance barred solution json name true strict) outcome before after old new does other = does.0
-job_kept (Check instance barred solution json name false strict) outcome before after old new does other = does.0
-job_kept (Week instance barred solution whose) outcome before after old new does other = does.0
-job_kept (Page instance barred solution days) outcome before after old new does other = does.0
-job_kept (Run instance barred script start journal) outcome before after old new does other = absurd (other does.0)
-job_kept (Audit instance barred journal start) outcome before after old new does other = does.0
-job_kept (Crew instance barred scripts) outcome before after old new does other = does.0
-job_kept (Desk instance barred seats start minutes) outcome before after old new does other = absurd (other does.0)
-job_kept (Journals instance barred minutes) outcome before after old new does other = does.0
-job_kept (Listing instance barred journal start) outcome before after old new does other = does.0
-job_kept (Mend instance barred solution) outcome before after old new does other = does.0
-job_kept (Compare instance barred solutions csv json strict) outcome before after old new does other = does.0
+job_kept (Check instance sides solution json name true strict) outcome before after old new does other = does.0
+job_kept (Check instance sides solution json name false strict) outcome before after old new does other = does.0
+job_kept (Week instance sides solution whose) outcome before after old new does other = does.0
+job_kept (Page instance sides solution days) outcome before after old new does other = does.0
+job_kept (Run instance sides script start journal) outcome before after old new does other = absurd (other does.0)
+job_kept (Audit instance sides journal start) outcome before after old new does other = does.0
+job_kept (Crew instance sides scripts) outcome before after old new does other = does.0
+job_kept (Desk instance sides seats start minutes) outcome before after old new does other = absurd (other does.0)
+job_kept (Journals instance sides minutes) outcome before after old new does other = does.0
+job_kept (Listing instance sides journal start) outcome before after old new does other = does.0
+job_kept (Mend instance sides solution) outcome before after old new does other = does.0
+job_kept (Compare instance sides solutions csv json strict) outcome before after old new does other = does.0
 job_kept (Where file word) outcome before after old new does other = does.0
 
 pub other_kept : (words : List (List ℕ)) (outcome : Outcome) (before after : Held) (old new : Option (List ℕ)) → DoesAsAsked words outcome before after old new → outcome ≢ Done → after ≡ before
@@ -145,6 +146,7 @@ may_is_three NoMemory may = refl
 may_is_three (Instance met) may = absurd may
 may_is_three (Solution met) may = absurd may
 may_is_three (Barred met) may = absurd may
+may_is_three (Blocked met) may = absurd may
 may_is_three (Journal number at) may = absurd may
 may_is_three (Opening text) may = absurd may
 may_is_three (CannotRead name) may = absurd may
@@ -176,6 +178,7 @@ status_between NoMemory = (omega arith, omega arith)
 status_between (Instance met) = (omega arith, omega arith)
 status_between (Solution met) = (omega arith, omega arith)
 status_between (Barred met) = (omega arith, omega arith)
+status_between (Blocked met) = (omega arith, omega arith)
 status_between (Journal number at) = (omega arith, omega arith)
 status_between (Opening text) = (omega arith, omega arith)
 status_between (CannotRead name) = (omega arith, omega arith)

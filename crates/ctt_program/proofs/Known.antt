@@ -10,7 +10,7 @@ use Rattle.ctt_words.specs.declared.job.WordsFault.TheVariants.{Help, Refused}
 use Rattle.ctt_files.specs.Faults.{IfUnwritten, IsLineOf, status_of}
 use Rattle.ctt_files.specs.Texts.{Held}
 use Rattle.ctt_files.specs.declared.fault.Fault.{Fault}
-use Rattle.ctt_files.specs.declared.fault.Fault.TheVariants.{BadSeats, Barred, CannotRead, CannotWrite, Instance, Journal, MinutesExist, NoCourse, NoCurriculum, NoMemory, NoPlace, NoRoom, NoTeacher, NoThread, NoWord, Opening, Solution, TooLong, TooManyScripts, Words, WordsNotText}
+use Rattle.ctt_files.specs.declared.fault.Fault.TheVariants.{BadSeats, Barred, Blocked, CannotRead, CannotWrite, Instance, Journal, MinutesExist, NoCourse, NoCurriculum, NoMemory, NoPlace, NoRoom, NoTeacher, NoThread, NoWord, Opening, Solution, TooLong, TooManyScripts, Words, WordsNotText}
 use Rattle.ctt_files.specs.Refusals.{IsOfSolution}
 use Rattle.ctt_files.proofs.Plain.{IsPlain, behind_plain, file_plain, instance_in_plain, solution_file_plain}
 use Rattle.ctt_reports.proofs.LookLemmas.{look_plain}
@@ -52,20 +52,20 @@ abbrev pub IsSpecial : Job → Fault → Type 0
 IsSpecial job fault = ((fault ≡ TooManyScripts) × (64 < length (scripts_of job))) ⊎ ((fault ≡ BadSeats) × HasBadSeats job)
 
 pub job_plain : (job : Job) (held : Held) (fault : Fault) → IsOfJob job held fault → IsPlain fault ⊎ IsSpecial job fault
-job_plain (Check instance barred solution json name explain strict) held fault is = inl (look_plain held instance barred None solution fault is)
-job_plain (Week instance barred solution whose) held fault is = inl (look_plain held instance barred whose solution fault is)
-job_plain (Page instance barred solution days) held fault is = inl (look_plain held instance barred None solution fault is)
-job_plain (Run instance barred script start journal) held fault is = inl (behind_plain (IsOfScript script start) (script_plain script start) held instance barred fault is)
-job_plain (Audit instance barred journal start) held fault is = inl (behind_plain (IsOfAudited journal start) (audited_plain journal start) held instance barred fault is)
-job_plain (Crew instance barred scripts) held fault (inl many) = inr (inl many)
-job_plain (Crew instance barred scripts) held fault (inr other) = inl (behind_plain (IsOfScripts scripts.items) (scripts_plain scripts.items) held instance barred fault other)
-job_plain (Desk instance barred seats start minutes) held fault (inl (inl bad)) = inr (inr bad)
-job_plain (Desk instance barred seats start minutes) held fault (inl (inr exist)) = inl (subst IsPlain (sym exist.2) tt)
-job_plain (Desk instance barred seats start minutes) held fault (inr other) = inl (behind_plain (IsOfSeats seats.items start) (seats_plain seats.items start) held instance barred fault other)
-job_plain (Journals instance barred minutes) held fault is = inl (behind_plain (IsOfMinutes minutes) (minutes_plain minutes) held instance barred fault is)
-job_plain (Listing instance barred journal start) held fault is = inl (behind_plain (IsOfAudited journal start) (audited_plain journal start) held instance barred fault is)
-job_plain (Mend instance barred solution) held fault is = inl (behind_plain (IsOfSolution solution) (solution_file_plain solution) held instance barred fault is)
-job_plain (Compare instance barred solutions csv json strict) held fault is = inl (instance_in_plain held instance barred fault is)
+job_plain (Check instance sides solution json name explain strict) held fault is = inl (look_plain held instance sides None solution fault is)
+job_plain (Week instance sides solution whose) held fault is = inl (look_plain held instance sides whose solution fault is)
+job_plain (Page instance sides solution days) held fault is = inl (look_plain held instance sides None solution fault is)
+job_plain (Run instance sides script start journal) held fault is = inl (behind_plain (IsOfScript script start) (script_plain script start) held instance sides fault is)
+job_plain (Audit instance sides journal start) held fault is = inl (behind_plain (IsOfAudited journal start) (audited_plain journal start) held instance sides fault is)
+job_plain (Crew instance sides scripts) held fault (inl many) = inr (inl many)
+job_plain (Crew instance sides scripts) held fault (inr other) = inl (behind_plain (IsOfScripts scripts.items) (scripts_plain scripts.items) held instance sides fault other)
+job_plain (Desk instance sides seats start minutes) held fault (inl (inl bad)) = inr (inr bad)
+job_plain (Desk instance sides seats start minutes) held fault (inl (inr exist)) = inl (subst IsPlain (sym exist.2) tt)
+job_plain (Desk instance sides seats start minutes) held fault (inr other) = inl (behind_plain (IsOfSeats seats.items start) (seats_plain seats.items start) held instance sides fault other)
+job_plain (Journals instance sides minutes) held fault is = inl (behind_plain (IsOfMinutes minutes) (minutes_plain minutes) held instance sides fault is)
+job_plain (Listing instance sides journal start) held fault is = inl (behind_plain (IsOfAudited journal start) (audited_plain journal start) held instance sides fault is)
+job_plain (Mend instance sides solution) held fault is = inl (behind_plain (IsOfSolution solution) (solution_file_plain solution) held instance sides fault is)
+job_plain (Compare instance sides solutions csv json strict) held fault is = inl (instance_in_plain held instance sides fault is)
 job_plain (Where file word) held fault (inl unread) = inl (file_plain held file fault unread)
 job_plain (Where file word) held fault (inr none) = inl (subst IsPlain (sym none.0.2) tt)
 
@@ -82,6 +82,7 @@ pub job_caused : (words : List (List ℕ)) (held : Held) (failed : Bool) (job : 
 job_caused words held failed job U (Instance met) is cause = (job, is, cause.0)
 job_caused words held failed job U (Solution met) is cause = (job, is, cause.0)
 job_caused words held failed job U (Barred met) is cause = (job, is, cause.0)
+job_caused words held failed job U (Blocked met) is cause = (job, is, cause.0)
 job_caused words held failed job U (Journal number at) is cause = (job, is, cause.0)
 job_caused words held failed job U (Opening text) is cause = (job, is, cause.0)
 job_caused words held failed job U (CannotRead name) is cause = (job, is, cause.0)
@@ -113,6 +114,7 @@ pub refused_two : (words : List (List ℕ)) (held : Held) (failed : Bool) (fault
 refused_two words held failed (Instance met) has two = absurd (omega (arith, two))
 refused_two words held failed (Solution met) has two = absurd (omega (arith, two))
 refused_two words held failed (Barred met) has two = absurd (omega (arith, two))
+refused_two words held failed (Blocked met) has two = absurd (omega (arith, two))
 refused_two words held failed (Journal number at) has two = absurd (omega (arith, two))
 refused_two words held failed (Opening text) has two = absurd (omega (arith, two))
 refused_two words held failed (CannotRead name) has two = absurd (omega (arith, two))
@@ -147,6 +149,7 @@ pub asked_one : (words : List (List ℕ)) (held : Held) (failed : Bool) (fault :
 asked_one words held failed (Instance met) has one = ((Instance met), one, has)
 asked_one words held failed (Solution met) has one = ((Solution met), one, has)
 asked_one words held failed (Barred met) has one = ((Barred met), one, has)
+asked_one words held failed (Blocked met) has one = ((Blocked met), one, has)
 asked_one words held failed (Journal number at) has one = ((Journal number at), one, has)
 asked_one words held failed (Opening text) has one = ((Opening text), one, has)
 asked_one words held failed (CannotRead name) has one = absurd (omega (arith, one))

@@ -12,6 +12,7 @@ use Rattle.ctt_files.specs.Answers.{OfInstance}
 use Rattle.ctt_files.specs.Texts.{Held, Holds}
 use Rattle.ctt_files.specs.declared.outcome.Outcome.TheVariants.{Done}
 use Rattle.ctt_files.specs.declared.printed.Printed.{Printed}
+use Rattle.ctt_files.specs.declared.sides.Sides.{Sides}
 
 -- if an incomplete entry follows these entries, it begins after their bytes
 abbrev pub IsTornBehind : Problem → List JournalEntry → Option ℕ → Type 0
@@ -41,5 +42,5 @@ pub record RecoversOn (problem : Problem) (minutes : String Global) (held : Held
   pub aside : string_bytes p.aside ≡ torn_text torn
 
 -- the same for the instance in a file; the command is done, and nothing is stored
-abbrev pub RecoversJournal : String Global → Option (String Global) → String Global → Held → Printed → Type 0
-RecoversJournal instance barred minutes held p = OfInstance held instance barred (λ problem. RecoversOn problem minutes held p) × (p.store ≡ None) × (p.outcome ≡ Done)
+abbrev pub RecoversJournal : String Global → Sides → String Global → Held → Printed → Type 0
+RecoversJournal instance sides minutes held p = OfInstance held instance sides (λ problem. RecoversOn problem minutes held p) × (p.store ≡ None) × (p.outcome ≡ Done)

@@ -11,6 +11,7 @@ use Rattle.ctt_files.specs.Refusals.{IsNoText, IsOfInstanceOr, IsOfText}
 use Rattle.ctt_files.specs.Texts.{Held}
 use Rattle.ctt_files.specs.declared.fault.Fault.{Fault}
 use Rattle.ctt_files.specs.declared.fault.Fault.TheVariants.{BadSeats, CannotRead, CannotWrite, MinutesExist, NoMemory, NoPlace, NoThread}
+use Rattle.ctt_files.specs.declared.sides.Sides.{Sides}
 use Rattle.ctt_commands.specs.Refusals.{IsOfOpening, IsOfWork}
 use Rattle.ctt_commands.specs.Faults.{fault_of_journal}
 use Rattle.ctt_program.specs.Seats.{AreBadSeats}
@@ -24,8 +25,8 @@ abbrev pub IsOfMinutes : String Global → Held → Problem → Fault → Type 0
 IsOfMinutes minutes held problem fault = IsOfText (IsNoMinutes problem) held minutes fault
 
 -- why the command `journal` is refused
-abbrev pub IsOfRecovery : Held → String Global → Option (String Global) → String Global → Fault → Type 0
-IsOfRecovery held instance barred minutes = IsOfInstanceOr (IsOfMinutes minutes) held instance barred
+abbrev pub IsOfRecovery : Held → String Global → Sides → String Global → Fault → Type 0
+IsOfRecovery held instance sides minutes = IsOfInstanceOr (IsOfMinutes minutes) held instance sides
 
 -- the file with the lines of this seat cannot be read
 abbrev pub IsUnreadAt : List ℕ → Fault → Type 0
@@ -64,5 +65,5 @@ abbrev pub IsOfPlan : List (String Global) → Option (String Global) → Fault 
 IsOfPlan seats minutes fault = ((fault ≡ BadSeats) × AreBadSeats seats) ⊎ IsOfOldMinutes minutes fault
 
 -- why the command `desk` is refused
-abbrev pub IsOfDesk : Held → String Global → Option (String Global) → List (String Global) → Option (String Global) → Option (String Global) → Fault → Type 0
-IsOfDesk held instance barred seats start minutes fault = IsOfPlan seats minutes fault ⊎ IsOfInstanceOr (IsOfSeats seats start) held instance barred fault
+abbrev pub IsOfDesk : Held → String Global → Sides → List (String Global) → Option (String Global) → Option (String Global) → Fault → Type 0
+IsOfDesk held instance sides seats start minutes fault = IsOfPlan seats minutes fault ⊎ IsOfInstanceOr (IsOfSeats seats start) held instance sides fault

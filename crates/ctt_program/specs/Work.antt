@@ -38,37 +38,37 @@ use Rattle.ctt_commands.specs.Runs.{RunsScript}
 
 -- what the job answers, unless it streams its answer
 abbrev pub IsAnswer : Job → Held → Printed → Type 0
-IsAnswer (Check instance barred solution json name explain strict) held p = ShowsReport (report_form json name) strict instance barred solution held p
-IsAnswer (Compare instance barred solutions csv json strict) held p = ComparesSolutions (table_form json csv) strict instance barred solutions.items held p
-IsAnswer (Week instance barred solution whose) held p = ShowsWeek whose instance barred solution held p
-IsAnswer (Page instance barred solution days) held p = ShowsPage days instance barred solution held p
-IsAnswer (Audit instance barred journal start) held p = AuditsJournal instance barred journal start held p
-IsAnswer (Crew instance barred scripts) held p = WritesCrew instance barred scripts.items held p
-IsAnswer (Journal instance barred minutes) held p = RecoversJournal instance barred minutes held p
-IsAnswer (Listing instance barred journal start) held p = ListsJournal instance barred journal start held p
-IsAnswer (Mend instance barred solution) held p = MendsSolution instance barred solution held p
+IsAnswer (Check instance sides solution json name explain strict) held p = ShowsReport (report_form json name) strict instance sides solution held p
+IsAnswer (Compare instance sides solutions csv json strict) held p = ComparesSolutions (table_form json csv) strict instance sides solutions.items held p
+IsAnswer (Week instance sides solution whose) held p = ShowsWeek whose instance sides solution held p
+IsAnswer (Page instance sides solution days) held p = ShowsPage days instance sides solution held p
+IsAnswer (Audit instance sides journal start) held p = AuditsJournal instance sides journal start held p
+IsAnswer (Crew instance sides scripts) held p = WritesCrew instance sides scripts.items held p
+IsAnswer (Journal instance sides minutes) held p = RecoversJournal instance sides minutes held p
+IsAnswer (Listing instance sides journal start) held p = ListsJournal instance sides journal start held p
+IsAnswer (Mend instance sides solution) held p = MendsSolution instance sides solution held p
 IsAnswer (Where file word) held p = ShowsWord file word held p
 IsAnswer job held p = ⊥
 
 -- the job is done with these files, as far as their bytes are known; its answer is printed, with
 -- this outcome
 abbrev pub DoesJob : Job → Outcome → Held → Held → Option (List ℕ) → Option (List ℕ) → Type 0
-DoesJob (Check instance barred solution json name true strict) outcome before after old new = (after ≡ before)
-    × ExplainsSolution (report_form json name) strict instance barred solution outcome before old new
-DoesJob (Run instance barred script start journal) outcome before after old new = (outcome ≡ Done)
-    × RunsScript instance barred script start journal before after old new
-DoesJob (Desk instance barred seats start minutes) outcome before after old new = (outcome ≡ Done)
-    × (after ≡ before) × PrintsLast instance barred seats.items start before old new
+DoesJob (Check instance sides solution json name true strict) outcome before after old new = (after ≡ before)
+    × ExplainsSolution (report_form json name) strict instance sides solution outcome before old new
+DoesJob (Run instance sides script start journal) outcome before after old new = (outcome ≡ Done)
+    × RunsScript instance sides script start journal before after old new
+DoesJob (Desk instance sides seats start minutes) outcome before after old new = (outcome ≡ Done)
+    × (after ≡ before) × PrintsLast instance sides seats.items start before old new
 DoesJob job outcome before after old new = (after ≡ before) × Prints (IsAnswer job before) outcome old new
 
 -- what is written to standard error if the job is done: the warning and the last lines of a desk,
 -- an incomplete entry, the lectures set aside, or the files that a comparison refuses, and else
 -- nothing
 abbrev pub SaysOfJob : Job → Held → Option (List ℕ) → Option (List ℕ) → Type 0
-SaysOfJob (Desk instance barred seats start minutes) held old new = SaysLast instance barred seats.items start minutes held old new
-SaysOfJob (Journal instance barred minutes) held old new = Reports (RecoversJournal instance barred minutes held) old new
-SaysOfJob (Mend instance barred solution) held old new = Reports (MendsSolution instance barred solution held) old new
-SaysOfJob (Compare instance barred solutions csv json strict) held old new = Reports (ComparesSolutions (table_form json csv) strict instance barred solutions.items held) old new
+SaysOfJob (Desk instance sides seats start minutes) held old new = SaysLast instance sides seats.items start minutes held old new
+SaysOfJob (Journal instance sides minutes) held old new = Reports (RecoversJournal instance sides minutes held) old new
+SaysOfJob (Mend instance sides solution) held old new = Reports (MendsSolution instance sides solution held) old new
+SaysOfJob (Compare instance sides solutions csv json strict) held old new = Reports (ComparesSolutions (table_form json csv) strict instance sides solutions.items held) old new
 SaysOfJob job held old new = new ≡ old
 
 -- what is written to standard error if the job is done and ends with `Differs`: a comparison prints
@@ -76,8 +76,8 @@ SaysOfJob job held old new = new ≡ old
 -- error fails, and other jobs leave it unchanged; `told` and `broken` give what standard error took
 -- and whether it failed
 abbrev pub DiffersOfJob : {V : Type 0} → (V → Option (List ℕ)) → (V → Bool) → Job → Held → Option (List ℕ) → Option (List ℕ) → V → V → Type 0
-DiffersOfJob told broken (Compare instance barred solutions csv json strict) held old new err new_err = (p : Printed)
-    × ComparesSolutions (table_form json csv) strict instance barred solutions.items held p × (p.outcome ≡ Differs) × Appends old new p.text.items
+DiffersOfJob told broken (Compare instance sides solutions csv json strict) held old new err new_err = (p : Printed)
+    × ComparesSolutions (table_form json csv) strict instance sides solutions.items held p × (p.outcome ≡ Differs) × Appends old new p.text.items
     × ((broken new_err ≡ true) ⊎ Appends (told err) (told new_err) (string_bytes p.aside))
 DiffersOfJob told broken job held old new err new_err = new_err ≡ err
 
@@ -110,17 +110,17 @@ EndsAsDone words status before after old new = (outcome : Outcome) × (outcome_s
 -- a fault that the job may meet with these files, as far as their bytes are known, other than an
 -- output that cannot be written
 abbrev pub IsOfJob : Job → Held → Fault → Type 0
-IsOfJob (Check instance barred solution json name explain strict) held fault = IsOfCheck held instance barred solution fault
-IsOfJob (Compare instance barred solutions csv json strict) held fault = IsOfCompare held instance barred fault
-IsOfJob (Week instance barred solution whose) held fault = IsOfWeek held instance barred whose solution fault
-IsOfJob (Page instance barred solution days) held fault = IsOfPage held instance barred solution fault
-IsOfJob (Run instance barred script start journal) held fault = IsOfRun held instance barred script start fault
-IsOfJob (Audit instance barred journal start) held fault = IsOfAudit held instance barred journal start fault
-IsOfJob (Crew instance barred scripts) held fault = IsOfCrew held instance barred scripts.items fault
-IsOfJob (Desk instance barred seats start minutes) held fault = IsOfDesk held instance barred seats.items start minutes fault
-IsOfJob (Journal instance barred minutes) held fault = IsOfRecovery held instance barred minutes fault
-IsOfJob (Listing instance barred journal start) held fault = IsOfAudit held instance barred journal start fault
-IsOfJob (Mend instance barred solution) held fault = IsOfMending held instance barred solution fault
+IsOfJob (Check instance sides solution json name explain strict) held fault = IsOfCheck held instance sides solution fault
+IsOfJob (Compare instance sides solutions csv json strict) held fault = IsOfCompare held instance sides fault
+IsOfJob (Week instance sides solution whose) held fault = IsOfWeek held instance sides whose solution fault
+IsOfJob (Page instance sides solution days) held fault = IsOfPage held instance sides solution fault
+IsOfJob (Run instance sides script start journal) held fault = IsOfRun held instance sides script start fault
+IsOfJob (Audit instance sides journal start) held fault = IsOfAudit held instance sides journal start fault
+IsOfJob (Crew instance sides scripts) held fault = IsOfCrew held instance sides scripts.items fault
+IsOfJob (Desk instance sides seats start minutes) held fault = IsOfDesk held instance sides seats.items start minutes fault
+IsOfJob (Journal instance sides minutes) held fault = IsOfRecovery held instance sides minutes fault
+IsOfJob (Listing instance sides journal start) held fault = IsOfAudit held instance sides journal start fault
+IsOfJob (Mend instance sides solution) held fault = IsOfMending held instance sides solution fault
 IsOfJob (Where file word) held fault = IsOfWhere held file word fault
 
 -- the words ask for a job that meets this fault
@@ -166,7 +166,7 @@ SaysAsAsked words held old new = (new ≡ old) ⊎ ((job : Job) × IsJobOf words
 -- what is written to standard error if the job is not done: the warning of a desk without minutes,
 -- and else nothing
 abbrev pub WarnsOfJob : Job → Option (List ℕ) → Option (List ℕ) → Type 0
-WarnsOfJob (Desk instance barred seats start minutes) old new = Warns (is_some minutes) old new
+WarnsOfJob (Desk instance sides seats start minutes) old new = Warns (is_some minutes) old new
 WarnsOfJob job old new = new ≡ old
 
 -- nothing is written so, or what the job writes that the words ask for

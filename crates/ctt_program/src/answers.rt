@@ -48,7 +48,7 @@ fn report<F: Files>(alloc: Global, files: &mut F, job: Job) -> Result<Printed, F
     match job {
         Job::Check {
             instance,
-            barred,
+            sides,
             solution,
             json,
             name,
@@ -56,31 +56,31 @@ fn report<F: Files>(alloc: Global, files: &mut F, job: Job) -> Result<Printed, F
             ..
         } => {
             let form = report_form(json, name);
-            check(alloc, files, instance, barred, solution, form, strict)
+            check(alloc, files, instance, sides, solution, form, strict)
         }
         Job::Compare {
             instance,
-            barred,
+            sides,
             solutions,
             csv,
             json,
             strict,
         } => {
             let form = table_form(json, csv);
-            compare(alloc, files, instance, barred, solutions, form, strict)
+            compare(alloc, files, instance, sides, solutions, form, strict)
         }
         Job::Week {
             instance,
-            barred,
+            sides,
             solution,
             whose,
-        } => week(alloc, files, instance, barred, solution, whose),
+        } => week(alloc, files, instance, sides, solution, whose),
         Job::Page {
             instance,
-            barred,
+            sides,
             solution,
             days,
-        } => page(alloc, files, instance, barred, solution, days),
+        } => page(alloc, files, instance, sides, solution, days),
         Job::Where { file, word } => find_word(alloc, files, file, word),
         _job => unreachable!(),
     }
@@ -103,31 +103,31 @@ fn answer_of_desk<R: Threads + Wait + Sync, F: Files>(
     match job {
         Job::Audit {
             instance,
-            barred,
+            sides,
             journal,
             start,
-        } => audit(alloc, files, instance, barred, journal, start),
+        } => audit(alloc, files, instance, sides, journal, start),
         Job::Crew {
             instance,
-            barred,
+            sides,
             scripts,
-        } => crew(rt, alloc, files, instance, barred, scripts),
+        } => crew(rt, alloc, files, instance, sides, scripts),
         Job::Journal {
             instance,
-            barred,
+            sides,
             minutes,
-        } => journal(alloc, files, instance, barred, minutes),
+        } => journal(alloc, files, instance, sides, minutes),
         Job::List {
             instance,
-            barred,
+            sides,
             journal,
             start,
-        } => list(alloc, files, instance, barred, journal, start),
+        } => list(alloc, files, instance, sides, journal, start),
         Job::Mend {
             instance,
-            barred,
+            sides,
             solution,
-        } => mend(alloc, files, instance, barred, solution),
+        } => mend(alloc, files, instance, sides, solution),
         _job => unreachable!(),
     }
 }

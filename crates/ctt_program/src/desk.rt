@@ -17,7 +17,7 @@ use crate::printed::print_last;
 use ctt_board::Sheet;
 use ctt_commands::refused_opening;
 use ctt_desk::{Opened, SharedFault};
-use ctt_files::{Fault, Files, Outcome, Sink, complain, fetch_instance, fetch_start};
+use ctt_files::{Fault, Files, Outcome, Sides, Sink, complain, fetch_instance, fetch_start};
 use ctt_grid::GridSheet;
 use ctt_office::{OfficeFault, keep_desk};
 use ctt_problem::{Instance, let_go};
@@ -197,7 +197,7 @@ fn keep<R: Threads + Wait + Sync, F: Files, O: Office, V: Sink>(
     }
 }
 
-/// Runs a desk as `keep` does. The instance is read first, then the barred rooms, and then the
+/// Runs a desk as `keep` does. The instance is read first, then its side files, and then the
 /// start.
 fn report<R: Threads + Wait + Sync, F: Files, O: Office, V: Sink>(
     rt: &R,
@@ -206,7 +206,7 @@ fn report<R: Threads + Wait + Sync, F: Files, O: Office, V: Sink>(
     office: &O,
     err: &mut V,
     instance: String,
-    barred: Option<String>,
+    sides: Sides,
     seats: &[String],
     start: Option<String>,
     minutes: Option<String>,
@@ -214,18 +214,18 @@ fn report<R: Threads + Wait + Sync, F: Files, O: Office, V: Sink>(
     requires some { 1 ≤ length seats.now }
     requires few { length seats.now ≤ 64 }
     ensures tells { IfOk result (λ bytes.
-        IsOfDeskOn instance barred start (F.held files.old) bytes.items) }
+        IsOfDeskOn instance sides start (F.held files.old) bytes.items) }
     ensures kept { F.held files.new ≡ F.held files.old }
     ensures cause { IfErr result (λ fault. IfUnwritten fault
         (Unit {0})
-        (IsOfInstanceOr (IsOfSeats seats.now start) (F.held files.old) instance barred fault)) }
+        (IsOfInstanceOr (IsOfSeats seats.now start) (F.held files.old) instance sides fault)) }
     ensures says { OnOk result (((is_some minutes ≡ false) × (V.has_failed err.new ≡ true))
         ⊎ Warns (is_some minutes) (V.taken err.old) (V.taken err.new)) }
     ensures said { OnErr result ((err.new ≡ err.old) ⊎ ((V.has_failed err.new ≡ true)
         ⊎ Warns (is_some minutes) (V.taken err.old) (V.taken err.new))) }
     ensures quiet { (is_some minutes ≡ false) ⊎ (err.new ≡ err.old) }
 {
-    let instance = fetch_instance(alloc, files, instance, barred)?;
+    let instance = fetch_instance(alloc, files, instance, sides)?;
     let kept = keep(
         rt, alloc, files, office, err, &instance, seats, start, minutes,
     );
@@ -269,16 +269,16 @@ pub fn desk<R: Threads + Wait + Sync, F: Files, O: Office, W: Sink, V: Sink>(
     out: &mut W,
     err: &mut V,
     instance: String,
-    barred: Option<String>,
+    sides: Sides,
     seats: Vec<String>,
     start: Option<String>,
     minutes: Option<String>,
 ) -> Result<Outcome, Fault>
     requires { 1 ≤ length seats.items }
-    ensures prints { OnOk result (PrintsLast instance barred seats.items start (F.held files.old)
+    ensures prints { OnOk result (PrintsLast instance sides seats.items start (F.held files.old)
         (W.taken out.old) (W.taken out.new)) }
     ensures says { OnOk result (((is_some minutes ≡ false) × (V.has_failed err.new ≡ true))
-        ⊎ SaysLast instance barred seats.items start minutes (F.held files.old)
+        ⊎ SaysLast instance sides seats.items start minutes (F.held files.old)
         (V.taken err.old) (V.taken err.new)) }
     ensures quiet { OnOk result ((is_some minutes ≡ false)
         ⊎ ((has_standard seats.items ≡ true) ⊎ (err.new ≡ err.old))) }
@@ -289,7 +289,7 @@ pub fn desk<R: Threads + Wait + Sync, F: Files, O: Office, W: Sink, V: Sink>(
     ensures kept { F.held files.new ≡ F.held files.old }
     ensures cause { IfErr result (λ fault. IfUnwritten fault
         (Unit {0})
-        (IsOfDesk (F.held files.old) instance barred seats.items start minutes fault
+        (IsOfDesk (F.held files.old) instance sides seats.items start minutes fault
         × (W.has_failed out.new ≡ W.has_failed out.old))) }
     ensures unwritten { IfErr result (λ fault. MayHaveWritten fault ⊎ (out.new ≡ out.old)) }
     ensures unsaid { OnErr result ((err.new ≡ err.old) ⊎ ((V.has_failed err.new ≡ true)
@@ -301,7 +301,7 @@ pub fn desk<R: Threads + Wait + Sync, F: Files, O: Office, W: Sink, V: Sink>(
     }
     let minutes = require_unused(office, minutes)?;
     let report = report(
-        rt, alloc, files, office, err, instance, barred, &seats, start, minutes,
+        rt, alloc, files, office, err, instance, sides, &seats, start, minutes,
     )?;
     print_report(out, err, &report, has_seat(&seats, STANDARD))
 }

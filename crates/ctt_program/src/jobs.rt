@@ -59,7 +59,7 @@ fn stream<R: Threads + Wait + Sync, F: Files, O: Office, W: Sink, V: Sink>(
     match job {
         Job::Check {
             instance,
-            barred,
+            sides,
             solution,
             json,
             name,
@@ -67,23 +67,23 @@ fn stream<R: Threads + Wait + Sync, F: Files, O: Office, W: Sink, V: Sink>(
             ..
         } => {
             let form = report_form(json, name);
-            explain(alloc, files, out, instance, barred, solution, form, strict)
+            explain(alloc, files, out, instance, sides, solution, form, strict)
         }
         Job::Run {
             instance,
-            barred,
+            sides,
             script,
             start,
             journal,
-        } => run(alloc, files, out, instance, barred, script, start, journal),
+        } => run(alloc, files, out, instance, sides, script, start, journal),
         Job::Desk {
             instance,
-            barred,
+            sides,
             seats,
             start,
             minutes,
         } => desk(
-            rt, alloc, files, office, out, err, instance, barred, seats, start, minutes,
+            rt, alloc, files, office, out, err, instance, sides, seats, start, minutes,
         ),
         _ => unreachable!(),
     }

@@ -8,7 +8,7 @@ ghost use Rattle.ctt_program.specs.Recoveries.{IsRecoveredJournal, RecoversJourn
 ghost use Rattle.ctt_program.specs.Refusals.{IsNoMinutes, IsOfMinutes, IsOfRecovery};
 
 use ctt_commands::refused_journal;
-use ctt_files::{Fault, Files, Outcome, Printed, fetch_instance, read_file};
+use ctt_files::{Fault, Files, Outcome, Printed, Sides, fetch_instance, read_file};
 use ctt_office::read_blocks;
 use ctt_problem::{Instance, let_go};
 use ctt_script::write_journal;
@@ -78,14 +78,14 @@ pub fn journal<F: Files>(
     alloc: Global,
     files: &mut F,
     instance: String,
-    barred: Option<String>,
+    sides: Sides,
     minutes: String,
 ) -> Result<Printed, Fault>
-    ensures recovers { IfOk result (RecoversJournal instance barred minutes (F.held files.old)) }
+    ensures recovers { IfOk result (RecoversJournal instance sides minutes (F.held files.old)) }
     ensures kept { F.held files.new ≡ F.held files.old }
-    ensures cause { IfErr result (IsOfRecovery (F.held files.old) instance barred minutes) }
+    ensures cause { IfErr result (IsOfRecovery (F.held files.old) instance sides minutes) }
 {
-    let instance = fetch_instance(alloc, files, instance, barred)?;
+    let instance = fetch_instance(alloc, files, instance, sides)?;
     let recovered = recover_on(alloc, files, &instance, minutes);
     let_go(instance);
     recovered

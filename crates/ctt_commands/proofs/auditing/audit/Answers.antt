@@ -21,7 +21,7 @@ returns-clause-audits g c =
 
 pub returns-clause-cause : goal.returns-clause-cause
 returns-clause-cause g c =
-    IfErr-weaker c.audit_on-audited.result _ _ (λ fault is. behind_instance (IsOfAudited c.args.journal c.args.start) _ _ c.args.instance c.args.barred c.in_ok-instance.instance fault c.in_ok-instance.ensures.spelled c.in_ok-instance.ensures.kept is) c.audit_on-audited.ensures.cause
+    IfErr-weaker c.audit_on-audited.result _ _ (λ fault is. behind_instance (IsOfAudited c.args.journal c.args.start) _ _ c.args.instance c.args.sides c.in_ok-instance.instance fault c.in_ok-instance.ensures.spelled c.in_ok-instance.ensures.kept is) c.audit_on-audited.ensures.cause
 
 pub returns-in_err-instance-clause-cause : goal.returns-in_err-instance-clause-cause
 returns-in_err-instance-clause-cause g c = passed_on c.from_residual.result c.in_err-instance.field-0.0 _ c.from_residual.ensures.1 (inl c.in_err-instance.ensures.cause)

@@ -21,7 +21,7 @@ returns-clause-lists g c =
 
 pub returns-clause-cause : goal.returns-clause-cause
 returns-clause-cause g c =
-    IfErr-weaker c.list_on-listed.result _ _ (λ fault is. behind_instance (IsOfAudited c.args.journal c.args.start) _ _ c.args.instance c.args.barred c.in_ok-instance.instance fault c.in_ok-instance.ensures.spelled c.in_ok-instance.ensures.kept is) c.list_on-listed.ensures.cause
+    IfErr-weaker c.list_on-listed.result _ _ (λ fault is. behind_instance (IsOfAudited c.args.journal c.args.start) _ _ c.args.instance c.args.sides c.in_ok-instance.instance fault c.in_ok-instance.ensures.spelled c.in_ok-instance.ensures.kept is) c.list_on-listed.ensures.cause
 
 pub returns-in_err-instance-clause-cause : goal.returns-in_err-instance-clause-cause
 returns-in_err-instance-clause-cause g c = passed_on c.from_residual.result c.in_err-instance.field-0.0 _ c.from_residual.ensures.1 (inl c.in_err-instance.ensures.cause)

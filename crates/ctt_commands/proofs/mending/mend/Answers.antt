@@ -24,7 +24,7 @@ returns-clause-mends g c =
 
 pub returns-clause-cause : goal.returns-clause-cause
 returns-clause-cause g c =
-    IfErr-weaker c.mend_on-mended.result _ _ (λ fault is. behind_instance (IsOfSolution c.args.solution) _ _ c.args.instance c.args.barred c.in_ok-instance.instance fault c.in_ok-instance.ensures.spelled c.in_ok-instance.ensures.kept is) c.mend_on-mended.ensures.cause
+    IfErr-weaker c.mend_on-mended.result _ _ (λ fault is. behind_instance (IsOfSolution c.args.solution) _ _ c.args.instance c.args.sides c.in_ok-instance.instance fault c.in_ok-instance.ensures.spelled c.in_ok-instance.ensures.kept is) c.mend_on-mended.ensures.cause
 
 pub returns-in_err-instance-clause-cause : goal.returns-in_err-instance-clause-cause
 returns-in_err-instance-clause-cause g c = passed_on c.from_residual.result c.in_err-instance.field-0.0 _ c.from_residual.ensures.1 (inl c.in_err-instance.ensures.cause)

@@ -11,8 +11,8 @@ use Rattle.ctt_commands.proofs.running.run.Goals as goal
 pub returns-in_err-instance-clause-cause : goal.returns-in_err-instance-clause-cause
 returns-in_err-instance-clause-cause g c =
     let held = g.F.Files.held c.args.files.now in
-    passed_plain c.from_residual.result c.in_err-instance.field-0.0 _ _ (IsOfRun held c.args.instance c.args.barred c.args.script c.args.start) c.from_residual.ensures.1
-    (instance_in_plain held c.args.instance c.args.barred c.in_err-instance.field-0.0 c.in_err-instance.ensures.cause) (inl c.in_err-instance.ensures.cause) refl
+    passed_plain c.from_residual.result c.in_err-instance.field-0.0 _ _ (IsOfRun held c.args.instance c.args.sides c.args.script c.args.start) c.from_residual.ensures.1
+    (instance_in_plain held c.args.instance c.args.sides c.in_err-instance.field-0.0 c.in_err-instance.ensures.cause) (inl c.in_err-instance.ensures.cause) refl
 
 pub returns-clause-runs : goal.returns-clause-runs
 returns-clause-runs g c =
@@ -30,7 +30,7 @@ returns-clause-unstored g c =
 pub returns-clause-cause : goal.returns-clause-cause
 returns-clause-cause g c =
     IfErr-weaker c.run_on-done.result _ _ (λ fault is. unwritten_more fault _ _ _ _ (λ marked. marked)
-    (λ why. (behind_instance (IsOfScript c.args.script c.args.start) _ _ c.args.instance c.args.barred c.in_ok-instance.instance fault c.in_ok-instance.ensures.spelled c.in_ok-instance.ensures.kept why.0, why.1)) is) c.run_on-done.ensures.cause
+    (λ why. (behind_instance (IsOfScript c.args.script c.args.start) _ _ c.args.instance c.args.sides c.in_ok-instance.instance fault c.in_ok-instance.ensures.spelled c.in_ok-instance.ensures.kept why.0, why.1)) is) c.run_on-done.ensures.cause
 
 pub returns-clause-others : goal.returns-clause-others
 returns-clause-others g c = others_kept c.args.journal _ _ _ c.in_ok-instance.ensures.kept c.run_on-done.ensures.others

@@ -11,8 +11,8 @@ use Rattle.ctt_program.proofs.desk.report.Goals as goal
 pub returns-in_err-instance-clause-cause : goal.returns-in_err-instance-clause-cause
 returns-in_err-instance-clause-cause g c =
     let held = g.F.Files.held c.args.files.now in
-    passed_desk c.from_residual.result c.in_err-instance.field-0.0 (IsOfInstanceOr (IsOfSeats c.args.seats.now c.args.start) held c.args.instance c.args.barred) c.from_residual.ensures.1
-    (instance_in_plain held c.args.instance c.args.barred c.in_err-instance.field-0.0 c.in_err-instance.ensures.cause) (inl c.in_err-instance.ensures.cause)
+    passed_desk c.from_residual.result c.in_err-instance.field-0.0 (IsOfInstanceOr (IsOfSeats c.args.seats.now c.args.start) held c.args.instance c.args.sides) c.from_residual.ensures.1
+    (instance_in_plain held c.args.instance c.args.sides c.in_err-instance.field-0.0 c.in_err-instance.ensures.cause) (inl c.in_err-instance.ensures.cause)
 
 pub returns-clause-tells : goal.returns-clause-tells
 returns-clause-tells g c =
@@ -26,4 +26,4 @@ returns-clause-tells g c =
 pub returns-clause-cause : goal.returns-clause-cause
 returns-clause-cause g c =
     IfErr-weaker c.keep-kept.result _ _ (λ fault is. unwritten_more fault _ _ _ _ (λ any. any)
-    (λ why. behind_instance (IsOfSeats c.args.seats.now c.args.start) _ _ c.args.instance c.args.barred c.in_ok-instance.instance fault c.in_ok-instance.ensures.spelled c.in_ok-instance.ensures.kept why) is) c.keep-kept.ensures.cause
+    (λ why. behind_instance (IsOfSeats c.args.seats.now c.args.start) _ _ c.args.instance c.args.sides c.in_ok-instance.instance fault c.in_ok-instance.ensures.spelled c.in_ok-instance.ensures.kept why) is) c.keep-kept.ensures.cause
