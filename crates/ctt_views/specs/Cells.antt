@@ -3,7 +3,7 @@ use Rattle.std.specs.Prelude.{ℕ, ◌++◌, Bool, List, [], Some, codes, cond, 
 use Rattle.ctt_problem.specs.Problem.{Problem}
 use Rattle.ctt_problem.specs.declared.placed.Placed.{Placed}
 use Rattle.ctt_views.specs.Escape.{escaped}
-use Rattle.ctt_views.specs.Grids.{is_closed, is_of, place_id}
+use Rattle.ctt_views.specs.Grids.{is_blocked_in, is_closed, is_of, place_id}
 use Rattle.ctt_views.specs.Signs.{signs}
 use Rattle.ctt_views.specs.Weeks.{lectures_in}
 use Rattle.ctt_views.specs.declared.grid.Grid.{Grid}
@@ -28,13 +28,15 @@ shown_text i w g l = cond (is_of i g l) (lecture_text i w g l) []
 abbrev pub cell_lectures : Problem → List (List Placed) → Grid → ℕ → List Placed
 cell_lectures i w g s = filter (is_of i g) (lectures_in w s)
 
--- the mark of a slot in which the course of a grid is unavailable
-unfoldable pub mark : Bool → List ℕ
-mark closed = if closed then codes "<em>closed</em>" else []
+-- the mark of a slot that closures block in a grid, or else of one in which the course of the grid
+-- is unavailable
+unfoldable pub mark : Bool → Bool → List ℕ
+mark blocked closed = if blocked then codes "<em>&#9644; blocked</em>"
+    else if closed then codes "<em>closed</em>" else []
 
 -- the beginning of the cell of a slot
 unfoldable pub cell_start : Problem → Grid → ℕ → List ℕ
-cell_start i g s = codes "<td id='" ++ (place_id g (Some s) ++ (codes "'>" ++ mark (is_closed i g s)))
+cell_start i g s = codes "<td id='" ++ (place_id g (Some s) ++ (codes "'>" ++ mark (is_blocked_in i g s) (is_closed i g s)))
 
 -- the cell of a slot
 unfoldable pub cell : Problem → List (List Placed) → Grid → ℕ → List ℕ

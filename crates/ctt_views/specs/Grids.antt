@@ -2,8 +2,9 @@
 use Rattle.std.specs.Prelude.{ℕ, ◌<◌, ◌==◌, ◌++◌, Bool, false, List, [], Option, Some, None, codes, slice_index_or}
 use Rattle.std.specs.Fmt.{decimal}
 use Rattle.ctt_problem.specs.Lists.{has}
-use Rattle.ctt_problem.specs.Problem.{Problem, course_count, course_of, members, curriculum_count, is_unavailable, room_count, teacher_count}
+use Rattle.ctt_problem.specs.Problem.{Problem, course_count, course_of, members, curriculum_count, is_blocked, is_closed as course_closed, is_unavailable, room_count, teacher_count}
 use Rattle.ctt_problem.specs.declared.placed.Placed.{Placed}
+use Rattle.ctt_views.specs.Closures.{teacher_closed}
 use Rattle.ctt_views.specs.declared.grid.Grid.{Grid}
 use Rattle.ctt_views.specs.declared.grid.Grid.TheVariants.{Curriculum, Teacher, Room, Course}
 
@@ -48,6 +49,13 @@ is_closed i (Curriculum q) s = false
 is_closed i (Teacher n) s = false
 is_closed i (Room r) s = false
 is_closed i (Course c) s = is_unavailable i c s
+
+-- closures block the room of a grid in the slot, or its course, or all courses of its teacher
+abbrev pub is_blocked_in : Problem → Grid → ℕ → Bool
+is_blocked_in i (Curriculum q) s = false
+is_blocked_in i (Teacher n) s = teacher_closed i n s
+is_blocked_in i (Room r) s = is_blocked i r s
+is_blocked_in i (Course c) s = course_closed i c s
 
 -- the id of a grid, or of the cell of a slot in it
 unfoldable pub place_id : Grid → Option ℕ → List ℕ

@@ -1,3 +1,4 @@
+pub mod Closures
 pub mod Week
 pub mod Escape
 pub mod Phrases

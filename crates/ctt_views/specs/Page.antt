@@ -1,6 +1,6 @@
 -- The page as a whole.
 use Rattle.std.specs.Prelude.{◌≡◌, ◌↔◌, ◌++◌, ℕ, Bool, IsTrue, List, codes}
-use Rattle.ctt_problem.specs.Problem.{Problem, has_barred, slot_count}
+use Rattle.ctt_problem.specs.Problem.{Problem, slot_count}
 use Rattle.ctt_problem.specs.declared.placed.Placed.{Placed}
 use Rattle.ctt_rules.specs.Hard.{Complete, Lawful, hard_counts}
 use Rattle.ctt_rules.specs.Penalty.{penalty}
@@ -46,7 +46,7 @@ pub record HasFindings (i : Problem) (t : List Placed) (days : List ℕ) (hard :
 -- is complete
 unfoldable pub page : List ℕ → List ℕ → Bool → Bool → Problem → List Placed → List Finding → List ℕ
 page solution days lawful complete i t found = page_head style i.name solution
-    ++ (report (has_barred i) (hard_counts i t) (penalty i t) lawful complete
+    ++ (report i (hard_counts i t) (penalty i t) lawful complete
     ++ (sections i days found (hard_counts i t) (penalty i t)
     ++ (parts i (by_slot (slot_count i) t) days
     ++ page_end script)))

@@ -3,7 +3,7 @@ use Rattle.std.specs.Prelude.{ℕ, ◌-◌, ◌^◌, ◌==◌, List, codes, if�
 use Rattle.std.specs.List.Sorted.{IsNonDecreasingBy, IsPermutation, IsStableByKey}
 use Rattle.std.specs.Ordering.{nat_cmp}
 use Rattle.ctt_findings.specs.declared.finding.Finding.{Finding}
-use Rattle.ctt_findings.specs.declared.finding.Finding.TheVariants.{Lectures, Conflict, Availability, Occupancy, Barred, Capacity, Days, Compactness, Stability}
+use Rattle.ctt_findings.specs.declared.finding.Finding.TheVariants.{Lectures, Conflict, Availability, Occupancy, Barred, Blocked, Capacity, Days, Compactness, Stability}
 
 -- the word that names the kind of a finding
 abbrev pub kind_word : Finding → List ℕ
@@ -12,6 +12,7 @@ kind_word (Conflict c d s why) = codes "conflict"
 kind_word (Availability l) = codes "availability"
 kind_word (Occupancy l) = codes "occupancy"
 kind_word (Barred l) = codes "barred"
+kind_word (Blocked l) = codes "blocked"
 kind_word (Capacity l n) = codes "capacity"
 kind_word (Days c days minimum n) = codes "days"
 kind_word (Compactness q l n) = codes "compactness"
@@ -24,6 +25,7 @@ points (Conflict c d s why) = 0
 points (Availability l) = 0
 points (Occupancy l) = 0
 points (Barred l) = 0
+points (Blocked l) = 0
 points (Capacity l n) = n
 points (Days c days minimum n) = n
 points (Compactness q l n) = n

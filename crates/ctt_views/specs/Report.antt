@@ -1,6 +1,7 @@
 -- The report on a timetable as a table.
 use Rattle.std.specs.Prelude.{ℕ, Bool, true, false, ◌==◌, ◌++◌, List, [], codes, if◌then◌else◌}
 use Rattle.std.specs.Fmt.{decimal}
+use Rattle.ctt_problem.specs.Problem.{Problem, has_barred, has_blocked}
 use Rattle.ctt_rules.specs.Penalty.{total}
 use Rattle.ctt_rules.specs.declared.cost.Cost.{Cost}
 use Rattle.ctt_rules.specs.declared.hard.Hard.{Hard}
@@ -25,13 +26,19 @@ unfoldable pub barred_row : Bool → ℕ → List ℕ
 barred_row true count = count_row (codes "barred") (codes "barred") (codes "&#9632;") count
 barred_row false count = []
 
+-- the line with the count of lectures in blocked rooms, if any room is blocked in any slot
+unfoldable pub blocked_row : Bool → ℕ → List ℕ
+blocked_row true count = count_row (codes "blocked") (codes "blocked") (codes "&#9644;") count
+blocked_row false count = []
+
 -- the lines of the hard counts
-unfoldable pub hard_rows : Bool → Hard → List ℕ
-hard_rows barred hard = count_row (codes "lectures") (codes "lectures") (codes "&#9661;") hard.lectures
+unfoldable pub hard_rows : Problem → Hard → List ℕ
+hard_rows i hard = count_row (codes "lectures") (codes "lectures") (codes "&#9661;") hard.lectures
     ++ (count_row (codes "conflicts") (codes "conflict") (codes "&#9650;") hard.conflicts
     ++ (count_row (codes "availability") (codes "availability") (codes "&#9660;") hard.availability
     ++ (count_row (codes "occupancy") (codes "occupancy") (codes "&#9670;") hard.occupancy
-    ++ barred_row barred hard.barred)))
+    ++ (barred_row (has_barred i) hard.barred
+    ++ blocked_row (has_blocked i) hard.blocked))))
 
 -- the lines of the four costs and their total
 unfoldable pub cost_rows : Cost → List ℕ
@@ -41,11 +48,11 @@ cost_rows cost = count_row (codes "capacity") (codes "capacity") (codes "&#9679;
     ++ (count_row (codes "stability") (codes "stability") (codes "&#9671;") cost.stability
     ++ total_row (total cost))))
 
--- the report; the Booleans say whether any room is barred, whether the timetable is lawful, and
--- whether it is complete
-unfoldable pub report : Bool → Hard → Cost → Bool → Bool → List ℕ
-report barred hard cost lawful complete = codes "<h2 id='report'>Report</h2><table>\n"
-    ++ (hard_rows barred hard
+-- the report on an instance; the Booleans say whether the timetable is lawful, and whether it is
+-- complete
+unfoldable pub report : Problem → Hard → Cost → Bool → Bool → List ℕ
+report i hard cost lawful complete = codes "<h2 id='report'>Report</h2><table>\n"
+    ++ (hard_rows i hard
     ++ (cost_rows cost
     ++ (answer_row (codes "lawful") lawful
     ++ (answer_row (codes "complete") complete

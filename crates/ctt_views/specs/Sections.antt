@@ -1,15 +1,15 @@
 -- The findings: the first to mend, and all of them kind by kind, each with a link to its grid or
 -- cell.
-use Rattle.std.specs.Prelude.{ℕ, ◌++◌, Bool, List, Option, Some, None, codes, filter, flat_map, take}
+use Rattle.std.specs.Prelude.{ℕ, ◌++◌, Bool, true, false, List, [], Option, Some, None, codes, filter, flat_map, take}
 use Rattle.std.specs.Str.{bytes_eq}
-use Rattle.ctt_problem.specs.Problem.{Problem}
+use Rattle.ctt_problem.specs.Problem.{Problem, has_blocked}
 use Rattle.ctt_rules.specs.Penalty.{total}
 use Rattle.ctt_rules.specs.declared.cost.Cost.{Cost}
 use Rattle.ctt_rules.specs.declared.hard.Hard.{Hard}
 use Rattle.ctt_findings.specs.declared.finding.Cause.{Cause}
 use Rattle.ctt_findings.specs.declared.finding.Cause.TheVariants.{Teacher as HasTeacher, Curriculum as HasCurriculum}
 use Rattle.ctt_findings.specs.declared.finding.Finding.{Finding}
-use Rattle.ctt_findings.specs.declared.finding.Finding.TheVariants.{Lectures, Conflict, Availability, Occupancy, Barred, Capacity, Days, Compactness, Stability}
+use Rattle.ctt_findings.specs.declared.finding.Finding.TheVariants.{Lectures, Conflict, Availability, Occupancy, Barred, Blocked, Capacity, Days, Compactness, Stability}
 use Rattle.ctt_views.specs.Grids.{place_id}
 use Rattle.ctt_views.specs.Phrases.{amount, price}
 use Rattle.ctt_views.specs.Ranking.{kind_word, points}
@@ -29,6 +29,7 @@ grid_at (Conflict c d s why) = cause_grid why
 grid_at (Availability l) = Course l.course
 grid_at (Occupancy l) = Room l.room
 grid_at (Barred l) = Room l.room
+grid_at (Blocked l) = Room l.room
 grid_at (Capacity l n) = Room l.room
 grid_at (Days c days minimum n) = Course c
 grid_at (Compactness q l n) = Curriculum q
@@ -41,6 +42,7 @@ slot_at (Conflict c d s why) = Some s
 slot_at (Availability l) = Some l.slot
 slot_at (Occupancy l) = Some l.slot
 slot_at (Barred l) = Some l.slot
+slot_at (Blocked l) = Some l.slot
 slot_at (Capacity l n) = Some l.slot
 slot_at (Days c days minimum n) = None
 slot_at (Compactness q l n) = Some l.slot
@@ -74,6 +76,11 @@ section i days found kind title total noun = section_start kind title total noun
     ++ (flat_map (finding_item i days) (filter (is_of_kind kind) found)
     ++ codes "</ul></details>\n")
 
+-- the section of the lectures in blocked rooms, if any room is blocked in any slot
+unfoldable pub blocked_section : Bool → Problem → List ℕ → List Finding → ℕ → List ℕ
+blocked_section true i days found count = section i days found (codes "blocked") (codes "&#9644; blocked") count (codes "time")
+blocked_section false i days found count = []
+
 -- what breaks hard rules
 unfoldable pub broken_rules : Problem → List ℕ → List Finding → Hard → List ℕ
 broken_rules i days found hard = codes "<h3 id='hard'>Hard rules</h3>\n"
@@ -81,7 +88,8 @@ broken_rules i days found hard = codes "<h3 id='hard'>Hard rules</h3>\n"
     ++ (section i days found (codes "conflict") (codes "&#9650; conflict") hard.conflicts (codes "time")
     ++ (section i days found (codes "availability") (codes "&#9660; unavailable") hard.availability (codes "time")
     ++ (section i days found (codes "occupancy") (codes "&#9670; room taken") hard.occupancy (codes "time")
-    ++ section i days found (codes "barred") (codes "&#9632; barred") hard.barred (codes "time")))))
+    ++ (section i days found (codes "barred") (codes "&#9632; barred") hard.barred (codes "time")
+    ++ blocked_section (has_blocked i) i days found hard.blocked)))))
 
 -- the head of what costs points, with their total
 unfoldable pub costs_start : ℕ → List ℕ

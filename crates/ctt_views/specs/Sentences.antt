@@ -5,7 +5,7 @@ use Rattle.ctt_problem.specs.Problem.{Problem, capacity_of, course_of, day_of, p
 use Rattle.ctt_findings.specs.declared.finding.Cause.{Cause}
 use Rattle.ctt_findings.specs.declared.finding.Cause.TheVariants.{Teacher, Curriculum}
 use Rattle.ctt_findings.specs.declared.finding.Finding.{Finding}
-use Rattle.ctt_findings.specs.declared.finding.Finding.TheVariants.{Lectures, Conflict, Availability, Occupancy, Barred, Capacity, Days, Compactness, Stability}
+use Rattle.ctt_findings.specs.declared.finding.Finding.TheVariants.{Lectures, Conflict, Availability, Occupancy, Barred, Blocked, Capacity, Days, Compactness, Stability}
 use Rattle.ctt_views.specs.Phrases.{amount, named, when}
 
 -- the names of a course and of a room, and the time of a slot
@@ -37,6 +37,10 @@ occupancy_text c r at = named c ++ (codes " is in room " ++ (named r ++ (codes "
 -- a lecture in a barred room
 unfoldable pub barred_text : List ℕ → List ℕ → List ℕ → List ℕ
 barred_text c r at = named c ++ (codes " is in room " ++ (named r ++ (codes ", which is barred for it, on " ++ at)))
+
+-- a lecture in a room that is blocked in the slot
+unfoldable pub blocked_text : List ℕ → List ℕ → List ℕ → List ℕ
+blocked_text c r at = named c ++ (codes " is in room " ++ (named r ++ (codes " on " ++ (at ++ codes ", when the room is blocked"))))
 
 -- a lecture with more students than its room has seats
 unfoldable pub capacity_text : List ℕ → ℕ → List ℕ → ℕ → List ℕ → List ℕ
@@ -74,6 +78,7 @@ sentence i days (Conflict c d s why) = conflict_by i (course i c) (course i d) (
 sentence i days (Availability l) = availability_text (course i l.course) (time i days l.slot)
 sentence i days (Occupancy l) = occupancy_text (course i l.course) (room i l.room) (time i days l.slot)
 sentence i days (Barred l) = barred_text (course i l.course) (room i l.room) (time i days l.slot)
+sentence i days (Blocked l) = blocked_text (course i l.course) (room i l.room) (time i days l.slot)
 sentence i days (Capacity l n) = capacity_text (course i l.course) (course_of i l.course).students (room i l.room) (capacity_of i l.room) (time i days l.slot)
 sentence i days (Days c count minimum n) = days_text (course i c) count minimum
 sentence i days (Compactness q l n) = compactness_text (course i l.course) (time i days l.slot) (slice_index_or i.curriculum_names q [])

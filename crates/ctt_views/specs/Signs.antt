@@ -1,7 +1,7 @@
 -- The signs of a lecture that breaks a rule or costs points.
 use Rattle.std.specs.Prelude.{ℕ, Bool, false, ◌==◌, ◌&&◌, ◌++◌, not, List, [], codes, if◌then◌else◌}
 use Rattle.std.specs.List.{list_any}
-use Rattle.ctt_problem.specs.Problem.{Problem, clash, is_barred, is_unavailable}
+use Rattle.ctt_problem.specs.Problem.{Problem, clash, is_barred, is_blocked, is_unavailable}
 use Rattle.ctt_problem.specs.declared.placed.Placed.{Placed}
 use Rattle.ctt_rules.specs.Neighbours.{is_beside}
 use Rattle.ctt_rules.specs.Penalty.{unseated}
@@ -45,5 +45,6 @@ signs i w g l = sign (clashes i (lectures_in w l.slot) l) (codes " <b>&#9650; co
     ++ (sign (is_unavailable i l.course l.slot) (codes " <b>&#9660; unavailable</b>")
     ++ (sign (shares_room (lectures_in w l.slot) l) (codes " <b>&#9670; room taken</b>")
     ++ (sign (is_barred i l.course l.room) (codes " <b>&#9632; barred</b>")
+    ++ (sign (is_blocked i l.room l.slot) (codes " <b>&#9644; blocked</b>")
     ++ (cost (unseated i l) (codes "&#9679; too small")
-    ++ cost (if is_alone i w g l then 2 else 0) (codes "&#9675; alone")))))
+    ++ cost (if is_alone i w g l then 2 else 0) (codes "&#9675; alone"))))))

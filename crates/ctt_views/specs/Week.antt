@@ -3,9 +3,10 @@ use Rattle.std.specs.Prelude.{ℕ, zero, suc, ◌+◌, ◌-◌, ◌<◌, max, Bo
 use Rattle.std.specs.Fmt.{decimal}
 use Rattle.unicode_width.specs.Width.{str_width}
 use Rattle.ctt_problem.specs.Lists.{has}
-use Rattle.ctt_problem.specs.Problem.{Problem, course_of, members, course_count, room_count, teacher_count, curriculum_count, slot_of, is_unavailable}
+use Rattle.ctt_problem.specs.Problem.{Problem, course_of, members, course_count, room_count, teacher_count, curriculum_count, slot_of, is_blocked, is_unavailable}
 use Rattle.ctt_problem.specs.Timetable.{slot_row}
 use Rattle.ctt_problem.specs.declared.placed.Placed.{Placed}
+use Rattle.ctt_views.specs.Closures.{teacher_closed}
 use Rattle.ctt_views.specs.declared.selection.Selection.{Selection}
 use Rattle.ctt_views.specs.declared.selection.Selection.TheVariants.{Curriculum, Teacher, Course, Room}
 
@@ -28,12 +29,13 @@ is_selected i (Teacher n) l = (course_of i l.course).teacher == n
 is_selected i (Course c) l = l.course == c
 is_selected i (Room r) l = l.room == r
 
--- the selection is a course, and the course is unavailable in the slot
+-- the selection is a course that is unavailable in the slot, or a room that is blocked in it, or a
+-- teacher all of whose courses closures block in it
 abbrev pub is_closed : Problem → Selection → ℕ → Bool
 is_closed i (Curriculum q) s = false
-is_closed i (Teacher n) s = false
+is_closed i (Teacher n) s = teacher_closed i n s
 is_closed i (Course c) s = is_unavailable i c s
-is_closed i (Room r) s = false
+is_closed i (Room r) s = is_blocked i r s
 
 -- a lecture in a cell: its course and its room
 abbrev pub entry : Problem → Placed → List ℕ

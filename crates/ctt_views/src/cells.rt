@@ -9,7 +9,7 @@ ghost use Rattle.ctt_views.specs.Grids.{GridFits, is_of};
 ghost use Rattle.ctt_views.specs.Weeks.{WeekFits};
 
 use crate::escape::Escaped;
-use crate::grid::{Grid, Place, is_closed, is_of};
+use crate::grid::{Grid, Place, is_blocked_in, is_closed, is_of};
 use crate::signs::push_signs;
 use crate::week::Week;
 use ctt_problem::{Instance, Placed, SlotNo};
@@ -94,12 +94,19 @@ fn push_lectures(
     Ok(())
 }
 
-/// Returns the mark of a slot in which the course of a grid is unavailable.
+/// Returns the mark of a slot that closures block in a grid, or else of one in which the course of
+/// the grid is unavailable.
 #[tactic(auto, unfolding(crate::specs::Cells::mark))]
-fn mark(closed: bool) -> &'static str
-    ensures { result.now ≡ mark closed }
+fn mark(blocked: bool, closed: bool) -> &'static str
+    ensures { result.now ≡ mark blocked closed }
 {
-    if closed { "<em>closed</em>" } else { "" }
+    if blocked {
+        "<em>&#9644; blocked</em>"
+    } else if closed {
+        "<em>closed</em>"
+    } else {
+        ""
+    }
 }
 
 /// Begins the cell of a slot in a grid.
@@ -119,7 +126,8 @@ fn push_cell_start(
         grid: *grid,
         slot: Some(slot),
     };
-    let mark = mark(is_closed(instance, grid, slot));
+    let blocked = is_blocked_in(instance, grid, slot);
+    let mark = mark(blocked, is_closed(instance, grid, slot));
     write!(page, "<td id='{place}'>{mark}")
 }
 

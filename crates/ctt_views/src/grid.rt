@@ -3,8 +3,9 @@
 ghost use Rattle.std.specs.Prelude.{◌≡◌, ◌<◌, Some};
 ghost use Rattle.ctt_problem.specs.Problem.{slot_count};
 ghost use Rattle.ctt_problem.specs.Timetable.{Fits};
-ghost use Rattle.ctt_views.specs.Grids.{GridFits, grid_id, is_closed, is_of, name_of, place_id, word_of};
+ghost use Rattle.ctt_views.specs.Grids.{GridFits, grid_id, is_blocked_in, is_closed, is_of, name_of, place_id, word_of};
 
+use crate::closures::teacher_closed;
 use ctt_problem::{CourseNo, CurriculumNo, Instance, Placed, RoomNo, SlotNo, TeacherNo};
 use std::fmt;
 
@@ -71,6 +72,21 @@ pub(crate) fn is_closed(instance: &Instance, grid: &Grid, slot: SlotNo) -> bool
         Grid::Teacher(_) => false,
         Grid::Room(_) => false,
         Grid::Course(course) => instance.unavailable(*course, slot),
+    }
+}
+
+/// Returns whether closures block the room of a grid in a slot, or its course, or all courses of its
+/// teacher.
+pub(crate) fn is_blocked_in(instance: &Instance, grid: &Grid, slot: SlotNo) -> bool
+    requires grid { GridFits instance.now grid.now }
+    requires slot { slot < slot_count instance.now }
+    ensures { result ≡ is_blocked_in instance.now grid.now slot }
+{
+    match grid {
+        Grid::Curriculum(_) => false,
+        Grid::Teacher(teacher) => teacher_closed(instance, *teacher, slot),
+        Grid::Room(room) => instance.blocked(*room, slot),
+        Grid::Course(course) => instance.closed(*course, slot),
     }
 }
 

@@ -3,6 +3,7 @@
 
 mod cell;
 mod cells;
+mod closures;
 mod column;
 mod columns;
 mod escape;
@@ -13,6 +14,7 @@ pub mod laws;
 mod page;
 mod parts;
 mod phrases;
+mod places;
 mod ranking;
 mod report;
 mod script;

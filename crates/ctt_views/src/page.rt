@@ -106,7 +106,7 @@ pub fn page_text(
     let assessment = assess(instance, timetable);
     let mut page = String::new(alloc);
     push_head(&mut page, style(), instance.name(), solution)?;
-    push_report(&mut page, instance.has_barred(), &assessment)?;
+    push_report(&mut page, instance, &assessment)?;
     push_found(alloc, &mut page, instance, timetable, days, &assessment)?;
     push_week(alloc, &mut page, instance, timetable, days)?;
     push_end(&mut page, script())?;

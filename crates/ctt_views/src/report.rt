@@ -2,8 +2,9 @@
 
 ghost use Rattle.std.specs.Prelude.{◌≡◌, ◌<◌, ◌^◌, ◌++◌, OnOk, string_bytes};
 ghost use Rattle.ctt_rules.specs.Penalty.{total};
-ghost use Rattle.ctt_views.specs.Report.{answer_row, barred_row, cost_rows, count_row, hard_rows, report, row, total_row};
+ghost use Rattle.ctt_views.specs.Report.{answer_row, barred_row, blocked_row, cost_rows, count_row, hard_rows, report, row, total_row};
 
+use ctt_problem::Instance;
 use ctt_rules::{Assessment, Cost, Hard};
 use std::alloc::AllocError;
 use std::fmt::Write;
@@ -62,6 +63,19 @@ fn push_barred(page: &mut String, barred: bool, count: u64) -> Result<(), AllocE
     }
 }
 
+/// Adds the line with the count of lectures in blocked rooms, if any room is blocked in any slot.
+#[tactic(auto, unfolding(crate::specs::Report::blocked_row))]
+fn push_blocked(page: &mut String, blocked: bool, count: u64) -> Result<(), AllocError>
+    ensures { OnOk result (string_bytes page.new
+        ≡ string_bytes page.old ++ blocked_row blocked count) }
+{
+    if blocked {
+        push_count(page, "blocked", "blocked", "&#9644;", count)
+    } else {
+        Ok(())
+    }
+}
+
 /// Adds the line of a judgement.
 #[tactic(auto, unfolding(crate::specs::Report::answer_row))]
 fn push_answer(page: &mut String, key: &str, answer: bool) -> Result<(), AllocError>
@@ -75,11 +89,11 @@ fn push_answer(page: &mut String, key: &str, answer: bool) -> Result<(), AllocEr
     }
 }
 
-/// Adds the lines of the hard counts.
+/// Adds the lines of the hard counts of a timetable of an instance.
 #[tactic(auto, unfolding(crate::specs::Report::hard_rows))]
-fn push_hard(page: &mut String, barred: bool, hard: &Hard) -> Result<(), AllocError>
+fn push_hard(page: &mut String, instance: &Instance, hard: &Hard) -> Result<(), AllocError>
     ensures { OnOk result (string_bytes page.new
-        ≡ string_bytes page.old ++ hard_rows barred hard.now) }
+        ≡ string_bytes page.old ++ hard_rows instance.now hard.now) }
 {
     push_count(page, "lectures", "lectures", "&#9661;", hard.lectures)?;
     push_count(page, "conflicts", "conflict", "&#9650;", hard.conflicts)?;
@@ -91,7 +105,8 @@ fn push_hard(page: &mut String, barred: bool, hard: &Hard) -> Result<(), AllocEr
         hard.availability,
     )?;
     push_count(page, "occupancy", "occupancy", "&#9670;", hard.occupancy)?;
-    push_barred(page, barred, hard.barred)
+    push_barred(page, instance.has_barred(), hard.barred)?;
+    push_blocked(page, instance.has_blocked(), hard.blocked)
 }
 
 /// Adds the lines of the four costs and their total.
@@ -115,20 +130,20 @@ fn push_costs(page: &mut String, cost: &Cost) -> Result<(), AllocError>
     push_total(page, total)
 }
 
-/// Adds the report as a table. `barred` says whether any room is barred.
+/// Adds the report on an instance as a table.
 #[tactic(auto, unfolding(crate::specs::Report::report))]
 pub(crate) fn push_report(
     page: &mut String,
-    barred: bool,
+    instance: &Instance,
     assessment: &Assessment,
 ) -> Result<(), AllocError>
     requires { total assessment.now.cost < 2 ^ 64 }
     ensures { OnOk result (string_bytes page.new
-        ≡ string_bytes page.old ++ report barred assessment.now.hard assessment.now.cost
+        ≡ string_bytes page.old ++ report instance.now assessment.now.hard assessment.now.cost
         assessment.now.lawful assessment.now.complete) }
 {
     page.push_str("<h2 id='report'>Report</h2><table>\n")?;
-    push_hard(page, barred, &assessment.hard)?;
+    push_hard(page, instance, &assessment.hard)?;
     push_costs(page, &assessment.cost)?;
     push_answer(page, "lawful", assessment.lawful)?;
     push_answer(page, "complete", assessment.complete)?;

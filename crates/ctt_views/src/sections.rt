@@ -3,16 +3,18 @@
 
 ghost use Rattle.std.specs.Prelude.{◌≡◌, ◌<◌, ◌^◌, ◌++◌, [], OnOk, cond, filter, flat_map, string_bytes, take};
 ghost use Rattle.std.specs.List.{AllByRecursion as Each};
+ghost use Rattle.ctt_problem.specs.Problem.{has_blocked};
 ghost use Rattle.ctt_rules.specs.Penalty.{total};
 ghost use Rattle.ctt_findings.specs.Fitting.{FindingFits};
-ghost use Rattle.ctt_views.specs.Sections.{broken_rules, cause_grid, costs, costs_start, finding_item, first, grid_at, is_of_kind, item_start, section, section_start, sections, slot_at};
+ghost use Rattle.ctt_views.specs.Sections.{blocked_section, broken_rules, costs, costs_start, finding_item, first, is_of_kind, item_start, section, section_start, sections};
 
-use crate::grid::{Grid, Place};
+use crate::grid::Place;
 use crate::phrases::{Amount, Price};
+use crate::places::{grid_at, slot_at};
 use crate::ranking::{kind_word, points};
 use crate::sentences::push_sentence;
-use ctt_findings::{Cause, Finding};
-use ctt_problem::{Instance, SlotNo};
+use ctt_findings::Finding;
+use ctt_problem::Instance;
 use ctt_rules::{Assessment, Cost, Hard};
 use std::alloc::AllocError;
 use std::fmt::Write;
@@ -22,50 +24,6 @@ fn is_of_kind(finding: &Finding, kind: &str) -> bool
     ensures { result ≡ is_of_kind kind.now finding.now }
 {
     kind_word(finding) == kind
-}
-
-/// Returns the grid of what two courses have in common.
-fn cause_grid(cause: &Cause) -> Grid
-    ensures { result ≡ cause_grid cause.now }
-{
-    match cause {
-        Cause::Teacher(teacher) => Grid::Teacher(*teacher),
-        Cause::Curriculum(curriculum) => Grid::Curriculum(*curriculum),
-    }
-}
-
-/// Returns the grid that shows a finding. For one on a course alone it is that of the course.
-fn grid_at(finding: &Finding) -> Grid
-    ensures { result ≡ grid_at finding.now }
-{
-    match finding {
-        Finding::Lectures(course, _, _) => Grid::Course(*course),
-        Finding::Conflict(_, _, _, cause) => cause_grid(cause),
-        Finding::Availability(lecture) => Grid::Course(lecture.course),
-        Finding::Occupancy(lecture) => Grid::Room(lecture.room),
-        Finding::Barred(lecture) => Grid::Room(lecture.room),
-        Finding::Capacity(lecture, _) => Grid::Room(lecture.room),
-        Finding::Days(course, _, _, _) => Grid::Course(*course),
-        Finding::Compactness(curriculum, _, _) => Grid::Curriculum(*curriculum),
-        Finding::Stability(course, _, _) => Grid::Course(*course),
-    }
-}
-
-/// Returns the slot of a finding. One on a course as a whole has none.
-fn slot_at(finding: &Finding) -> Option<SlotNo>
-    ensures { result ≡ slot_at finding.now }
-{
-    match finding {
-        Finding::Lectures(_, _, _) => None,
-        Finding::Conflict(_, _, slot, _) => Some(*slot),
-        Finding::Availability(lecture) => Some(lecture.slot),
-        Finding::Occupancy(lecture) => Some(lecture.slot),
-        Finding::Barred(lecture) => Some(lecture.slot),
-        Finding::Capacity(lecture, _) => Some(lecture.slot),
-        Finding::Days(_, _, _, _) => None,
-        Finding::Compactness(_, lecture, _) => Some(lecture.slot),
-        Finding::Stability(_, _, _) => None,
-    }
 }
 
 /// Begins an item: its points, and the link to a place.
@@ -196,6 +154,28 @@ fn push_section(
     page.push_str("</ul></details>\n")
 }
 
+/// Adds the section of the lectures in blocked rooms, if any room is blocked in any slot.
+#[tactic(auto, unfolding(crate::specs::Sections::blocked_section))]
+fn push_blocked(
+    page: &mut String,
+    instance: &Instance,
+    days: &str,
+    found: &[Finding],
+    count: u64,
+) -> Result<(), AllocError>
+    requires { Each (FindingFits instance.now) found.now }
+    ensures { OnOk result (string_bytes page.new
+        ≡ string_bytes page.old
+        ++ blocked_section (has_blocked instance.now) instance.now days.now found.now count) }
+{
+    if instance.has_blocked() {
+        let head = head_of("blocked", "&#9644; blocked", count, "time");
+        push_section(page, instance, days, found, &head)
+    } else {
+        Ok(())
+    }
+}
+
 /// Adds what breaks hard rules.
 #[tactic(auto, unfolding(crate::specs::Sections::broken_rules))]
 fn push_broken_rules(
@@ -225,7 +205,8 @@ fn push_broken_rules(
     push_section(page, instance, days, found, &conflict)?;
     push_section(page, instance, days, found, &availability)?;
     push_section(page, instance, days, found, &occupancy)?;
-    push_section(page, instance, days, found, &barred)
+    push_section(page, instance, days, found, &barred)?;
+    push_blocked(page, instance, days, found, hard.blocked)
 }
 
 /// Begins what costs points: the head, with their total.

@@ -6,6 +6,7 @@ ghost use Rattle.ctt_problem.specs.Problem.{slot_count};
 ghost use Rattle.ctt_problem.specs.Timetable.{Fits};
 ghost use Rattle.ctt_views.specs.Week.{SelectionFits, is_closed, is_selected};
 
+use crate::closures::teacher_closed;
 use ctt_problem::{CourseNo, CurriculumNo, Instance, Placed, RoomNo, SlotNo, TeacherNo};
 use std::alloc::{AllocError, Global};
 
@@ -14,11 +15,11 @@ use std::alloc::{AllocError, Global};
 pub enum Selection {
     /// The lectures of a curriculum's members.
     Curriculum(CurriculumNo),
-    /// The lectures of a teacher's courses.
+    /// The lectures of a teacher's courses. The slots in which closures block them all are marked.
     Teacher(TeacherNo),
     /// The lectures of a course. The slots in which it is unavailable are marked.
     Course(CourseNo),
-    /// The lectures in a room.
+    /// The lectures in a room. The slots in which it is blocked are marked.
     Room(RoomNo),
 }
 
@@ -38,15 +39,18 @@ fn is_selected(instance: &Instance, selection: &Selection, lecture: &Placed) -> 
     }
 }
 
-/// Returns whether the selection is a course that is unavailable in the slot.
+/// Returns whether the selection is a course that is unavailable in the slot, or a room that is
+/// blocked in it, or a teacher all of whose courses closures block in it.
 pub(crate) fn is_closed(instance: &Instance, selection: &Selection, slot: SlotNo) -> bool
     requires selection { SelectionFits instance.now selection.now }
     requires slot { slot < slot_count instance.now }
     ensures { result ≡ is_closed instance.now selection.now slot }
 {
     match selection {
+        Selection::Curriculum(_) => false,
+        Selection::Teacher(teacher) => teacher_closed(instance, *teacher, slot),
         Selection::Course(course) => instance.unavailable(*course, slot),
-        Selection::Curriculum(_) | Selection::Teacher(_) | Selection::Room(_) => false,
+        Selection::Room(room) => instance.blocked(*room, slot),
     }
 }
 

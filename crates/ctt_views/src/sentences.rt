@@ -5,7 +5,7 @@ ghost use Rattle.ctt_problem.specs.Problem.{capacity_of, course_of, day_of, peri
 ghost use Rattle.ctt_problem.specs.Timetable.{Fits};
 ghost use Rattle.ctt_findings.specs.Fitting.{CauseFits, FindingFits};
 ghost use Rattle.ctt_views.specs.Phrases.{when};
-ghost use Rattle.ctt_views.specs.Sentences.{availability_text, barred_text, capacity_text, compactness_text, conflict_by, conflict_text, course, days_text, lectures_text, occupancy_text, room, sentence, stability_text, time};
+ghost use Rattle.ctt_views.specs.Sentences.{availability_text, barred_text, blocked_text, capacity_text, compactness_text, conflict_by, conflict_text, course, days_text, lectures_text, occupancy_text, room, sentence, stability_text, time};
 
 use crate::phrases::{Amount, Named, When};
 use ctt_findings::{Cause, Finding};
@@ -161,6 +161,22 @@ fn push_barred(page: &mut String, spot: &Spot) -> Result<(), AllocError>
     )
 }
 
+/// Adds a sentence about a lecture in a room that is blocked in the slot.
+#[tactic(auto, unfolding(crate::specs::Sentences::blocked_text))]
+fn push_blocked(page: &mut String, spot: &Spot) -> Result<(), AllocError>
+    ensures { OnOk result (string_bytes page.new
+        ≡ string_bytes page.old ++ blocked_text spot.now.course.now spot.now.room.now
+        (when spot.now.time.names.now spot.now.time.day spot.now.time.period)) }
+{
+    let course = Named(spot.course);
+    let room = Named(spot.room);
+    let time = spot.time;
+    write!(
+        page,
+        "{course} is in room {room} on {time}, when the room is blocked"
+    )
+}
+
 /// Adds a sentence about a lecture with more students than its room has seats.
 #[tactic(auto, unfolding(crate::specs::Sentences::capacity_text))]
 fn push_capacity(
@@ -261,6 +277,7 @@ pub(crate) fn push_sentence(
         ),
         Finding::Occupancy(lecture) => push_occupancy(page, &spot_of(instance, days, lecture)),
         Finding::Barred(lecture) => push_barred(page, &spot_of(instance, days, lecture)),
+        Finding::Blocked(lecture) => push_blocked(page, &spot_of(instance, days, lecture)),
         Finding::Capacity(lecture, _) => {
             let students = instance.students(lecture.course);
             let seats = instance.capacity(lecture.room);

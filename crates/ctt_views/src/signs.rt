@@ -178,6 +178,10 @@ pub(crate) fn push_signs(
         instance.barred(lecture.course, lecture.room),
         " <b>&#9632; barred</b>",
     );
+    let blocked = sign(
+        instance.blocked(lecture.room, lecture.slot),
+        " <b>&#9644; blocked</b>",
+    );
     let small = CostSign {
         points: unseated(instance, lecture),
         text: "&#9679; too small",
@@ -186,5 +190,8 @@ pub(crate) fn push_signs(
         points: alone_points(instance, week, grid, lecture),
         text: "&#9675; alone",
     };
-    write!(page, "{conflict}{unavailable}{taken}{barred}{small}{alone}")
+    write!(
+        page,
+        "{conflict}{unavailable}{taken}{barred}{blocked}{small}{alone}"
+    )
 }
