@@ -3,6 +3,8 @@ use Rattle.std.proofs.Common.{◌≡◌, ◌∙◌, ◌⊎◌, inl, inr, ap, sub
 use Rattle.std.specs.Str.{IsUtf8}
 use Rattle.ctt_text.specs.BarredLaws.{IsBarredCauseOf}
 use Rattle.ctt_text.specs.BarredText.{BarSpells}
+use Rattle.ctt_text.specs.BlockedLaws.{IsBlockedCauseOf}
+use Rattle.ctt_text.specs.BlockedText.{BlockSpells}
 use Rattle.ctt_text.specs.InstanceLaws.{IsCauseOf}
 use Rattle.ctt_text.specs.InstanceText.{Spells}
 use Rattle.ctt_problem.specs.Problem.{Problem}
@@ -11,6 +13,8 @@ use Rattle.ctt_text.specs.SolutionText.{SolSpells}
 use Rattle.ctt_text.specs.Words.{words}
 use Rattle.ctt_text.specs.declared.fault.BarredFault.{BarredFault}
 use Rattle.ctt_text.specs.declared.fault.BarredFault.TheVariants as barred
+use Rattle.ctt_text.specs.declared.fault.BlockedFault.{BlockedFault}
+use Rattle.ctt_text.specs.declared.fault.BlockedFault.TheVariants as blocked
 use Rattle.ctt_text.specs.declared.fault.ReadFault.{ReadFault}
 use Rattle.ctt_text.specs.declared.fault.ReadFault.TheVariants as instance
 use Rattle.ctt_text.specs.declared.fault.SolutionFault.{SolutionFault}
@@ -18,8 +22,8 @@ use Rattle.ctt_text.specs.declared.fault.SolutionFault.TheVariants as solution
 use Rattle.ctt_problem.specs.declared.placed.Placed.{Placed}
 use Rattle.ctt_problem.proofs.ResultLemmas.{err_is_ok, err_same}
 use Rattle.ctt_files.specs.Refusals.{IsNoText}
-use Rattle.ctt_files.specs.Texts.{IsNoBarred, IsNoInstance, IsNoSolution}
-use Rattle.ctt_files.specs.Faults.{fault_of_barred, fault_of_instance, fault_of_solution, status_of}
+use Rattle.ctt_files.specs.Texts.{IsNoBarred, IsNoBlocked, IsNoInstance, IsNoSolution}
+use Rattle.ctt_files.specs.Faults.{fault_of_barred, fault_of_blocked, fault_of_instance, fault_of_solution, status_of}
 use Rattle.ctt_files.specs.declared.fault.Fault.{Fault}
 
 -- running out of memory is not a refusal
@@ -68,4 +72,16 @@ no_barred read problem bytes meets takes fault is = record {
   is = is;
   meets = meets;
   is_none = λ one made text. three_is_one (subst (λ other. status_of (fault_of_barred other) ≡ 1) (takes text.table text.is_text text.spells) (sym (ap status_of is) ∙ one));
+}
+
+-- the same for what is blocked
+abbrev pub TakesBlocked : Problem → List ℕ → BlockedFault → Type 0
+TakesBlocked problem bytes read = (closed rooms : List Bool) → IsUtf8 bytes → BlockSpells problem (words bytes) closed rooms → read ≡ blocked.NoMemory
+
+pub no_blocked : (read : BlockedFault) (problem : Problem) (bytes : List ℕ) → IsBlockedCauseOf problem bytes read → TakesBlocked problem bytes read → (fault : Fault) → fault ≡ fault_of_blocked read → IsNoText fault_of_blocked (IsBlockedCauseOf problem) (IsNoBlocked problem) bytes fault
+no_blocked read problem bytes meets takes fault is = record {
+  met = read;
+  is = is;
+  meets = meets;
+  is_none = λ one made text. three_is_one (subst (λ other. status_of (fault_of_blocked other) ≡ 1) (takes text.closed text.blocked text.is_text text.spells) (sym (ap status_of is) ∙ one));
 }

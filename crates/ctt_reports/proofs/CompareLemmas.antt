@@ -3,7 +3,7 @@ use Rattle.std.proofs.Common.{◌≡◌, ◌∙◌, ◌↔◌, ◌++◌, IsTrue,
 use Rattle.std.specs.Global.{Global}
 use Rattle.std.specs.String.{string_bytes}
 use Rattle.std.specs.declared.string.String.{String}
-use Rattle.ctt_problem.specs.Problem.{Problem}
+use Rattle.ctt_problem.specs.Problem.{Problem, has_blocked}
 use Rattle.ctt_problem.specs.declared.placed.Placed.{Placed}
 use Rattle.ctt_rules.specs.Hard.{Complete, Lawful, hard_counts}
 use Rattle.ctt_rules.specs.Penalty.{penalty}
@@ -18,15 +18,15 @@ use Rattle.ctt_reports.specs.declared.row.Row.{Row}
 -- a row with the cells of an assessed solution
 pub row_of : (form : TableForm) (held : Held) (i : Problem) (file : String Global) (name : List ℕ) (row : Row) (t seen : List Placed) (hard : Hard) (cost : Cost) → name ≡ string_bytes file
     → Holds held file (λ text. IsSolutionText i text t) → seen ≡ t → (IsTrue row.lawful ↔ Lawful i seen) → (IsTrue row.complete ↔ Complete i seen) → hard ≡ hard_counts i seen → cost ≡ penalty i seen
-    → row.cells ≡ cells_of form name hard cost row.lawful row.complete → IsRow form held i file row
+    → row.cells ≡ cells_of form (has_blocked i) name hard cost row.lawful row.complete → IsRow form held i file row
 row_of form held i file name row t seen hard cost named is same lawful complete counted priced shown = record {
   timetable = t;
   is_solution = is;
   is_lawful = subst (λ (l : List Placed). IsTrue row.lawful ↔ Lawful i l) same lawful;
   is_complete = subst (λ (l : List Placed). IsTrue row.complete ↔ Complete i l) same complete;
-  shown = shown ∙ ap (λ n. cells_of form n hard cost row.lawful row.complete) named ∙ ap (λ (h : Hard). cells_of form (string_bytes file) h cost row.lawful row.complete) counted
-      ∙ ap (λ (k : Cost). cells_of form (string_bytes file) (hard_counts i seen) k row.lawful row.complete) priced
-      ∙ ap (λ (l : List Placed). cells_of form (string_bytes file) (hard_counts i l) (penalty i l) row.lawful row.complete) same;
+  shown = shown ∙ ap (λ n. cells_of form (has_blocked i) n hard cost row.lawful row.complete) named ∙ ap (λ (h : Hard). cells_of form (has_blocked i) (string_bytes file) h cost row.lawful row.complete) counted
+      ∙ ap (λ (k : Cost). cells_of form (has_blocked i) (string_bytes file) (hard_counts i seen) k row.lawful row.complete) priced
+      ∙ ap (λ (l : List Placed). cells_of form (has_blocked i) (string_bytes file) (hard_counts i l) (penalty i l) row.lawful row.complete) same;
 }
 
 -- these rows and lines are those of the files before the ones that are left

@@ -3,7 +3,7 @@ use Rattle.std.proofs.Common.{◌≡◌, ℕ, ◌<◌, Bool, true, false, List, 
 use Rattle.std.specs.List.{flat_map}
 use Rattle.std.proofs.lemmas.List.{drop-append-le}
 use Rattle.json.specs.Print.{quoted}
-use Rattle.ctt_problem.specs.Problem.{Problem, has_barred}
+use Rattle.ctt_problem.specs.Problem.{Problem}
 use Rattle.ctt_problem.specs.declared.placed.Placed.{Placed}
 use Rattle.ctt_rules.specs.Hard.{hard_counts}
 use Rattle.ctt_rules.specs.Penalty.{penalty}
@@ -37,7 +37,7 @@ text_explained i t front rest none is =
       complete = is.complete;
       is_lawful = is.is_lawful;
       is_complete = is.is_complete;
-      shown = ap (λ bytes. bytes ++ (found ++ rest)) is.shown ∙ ap (λ bytes. text_of i.name (has_barred i) (hard_counts i t) (penalty i t) is.lawful is.complete ++ bytes) only;
+      shown = ap (λ bytes. bytes ++ (found ++ rest)) is.shown ∙ ap (λ bytes. text_of i (hard_counts i t) (penalty i t) is.lawful is.complete ++ bytes) only;
     }
 
 -- an object whose first part has the name of a file

@@ -15,6 +15,7 @@ use Rattle.ctt_files.specs.Output.{AppendsFront}
 use Rattle.ctt_files.specs.Texts.{Held}
 use Rattle.ctt_files.specs.declared.outcome.Outcome.{Outcome}
 use Rattle.ctt_files.specs.declared.outcome.Outcome.TheVariants.{Differs, Done, Incomplete, Unlawful}
+use Rattle.ctt_files.specs.declared.sides.Sides.{Sides}
 use Rattle.ctt_reports.specs.declared.forms.ReportForm.{ReportForm}
 use Rattle.ctt_reports.specs.declared.forms.ReportForm.TheVariants.{Json, NamedJson, Text}
 use Rattle.ctt_reports.specs.Subjects.{Shows}
@@ -60,11 +61,11 @@ IsJudged true i t Differs = ⊥
 
 -- the files contain an instance and a solution of it, whose report with all findings is printed,
 -- with this outcome
-abbrev pub ExplainsSolution : ReportForm → Bool → String Global → Option (String Global) → String Global → Outcome → Held → Option (List ℕ) → Option (List ℕ) → Type 0
-ExplainsSolution form strict instance barred solution outcome held old new =
-    Shows (λ problem selection timetable. ((bytes : List ℕ) × IsExplained form (string_bytes solution) problem timetable bytes × Appends old new bytes) × IsJudged strict problem timetable outcome) instance barred None solution held
+abbrev pub ExplainsSolution : ReportForm → Bool → String Global → Sides → String Global → Outcome → Held → Option (List ℕ) → Option (List ℕ) → Type 0
+ExplainsSolution form strict instance sides solution outcome held old new =
+    Shows (λ problem selection timetable. ((bytes : List ℕ) × IsExplained form (string_bytes solution) problem timetable bytes × Appends old new bytes) × IsJudged strict problem timetable outcome) instance sides None solution held
 
 -- a prefix of the report with all findings is printed
-abbrev pub PrintsFront : ReportForm → String Global → Option (String Global) → String Global → Held → Option (List ℕ) → Option (List ℕ) → Type 0
-PrintsFront form instance barred solution held old new =
-    Shows (λ problem selection timetable. (bytes : List ℕ) × IsExplained form (string_bytes solution) problem timetable bytes × AppendsFront old new bytes) instance barred None solution held
+abbrev pub PrintsFront : ReportForm → String Global → Sides → String Global → Held → Option (List ℕ) → Option (List ℕ) → Type 0
+PrintsFront form instance sides solution held old new =
+    Shows (λ problem selection timetable. (bytes : List ℕ) × IsExplained form (string_bytes solution) problem timetable bytes × AppendsFront old new bytes) instance sides None solution held

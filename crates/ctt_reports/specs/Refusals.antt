@@ -7,6 +7,7 @@ use Rattle.ctt_files.specs.Refusals.{IsOfInstanceOr, IsOfSolution}
 use Rattle.ctt_files.specs.Texts.{Held}
 use Rattle.ctt_files.specs.declared.fault.Fault.{Fault}
 use Rattle.ctt_files.specs.declared.fault.Fault.TheVariants.{NoCourse, NoCurriculum, NoRoom, NoTeacher}
+use Rattle.ctt_files.specs.declared.sides.Sides.{Sides}
 use Rattle.ctt_views.specs.declared.selection.Selection.{Selection}
 use Rattle.ctt_words.specs.declared.job.Whose.{Whose}
 use Rattle.ctt_words.specs.declared.job.Whose.TheVariants.{Course, Curriculum, Room, Teacher}
@@ -31,13 +32,13 @@ IsOfSubject whose solution held problem fault = IsNoName problem whose fault
     ⊎ ((selection : Option Selection) × IsSelection problem whose selection × IsOfSolution solution held problem fault)
 
 -- why `week` is refused
-abbrev pub IsOfWeek : Held → String Global → Option (String Global) → Option Whose → String Global → Fault → Type 0
-IsOfWeek held instance barred whose solution = IsOfInstanceOr (IsOfSubject whose solution) held instance barred
+abbrev pub IsOfWeek : Held → String Global → Sides → Option Whose → String Global → Fault → Type 0
+IsOfWeek held instance sides whose solution = IsOfInstanceOr (IsOfSubject whose solution) held instance sides
 
 -- why `check` is refused
-abbrev pub IsOfCheck : Held → String Global → Option (String Global) → String Global → Fault → Type 0
-IsOfCheck held instance barred solution = IsOfWeek held instance barred None solution
+abbrev pub IsOfCheck : Held → String Global → Sides → String Global → Fault → Type 0
+IsOfCheck held instance sides solution = IsOfWeek held instance sides None solution
 
 -- why `page` is refused
-abbrev pub IsOfPage : Held → String Global → Option (String Global) → String Global → Fault → Type 0
-IsOfPage held instance barred solution = IsOfWeek held instance barred None solution
+abbrev pub IsOfPage : Held → String Global → Sides → String Global → Fault → Type 0
+IsOfPage held instance sides solution = IsOfWeek held instance sides None solution

@@ -6,6 +6,7 @@ use Rattle.ctt_files.specs.Answers.{IsTextAlone}
 use Rattle.ctt_files.specs.Texts.{Held}
 use Rattle.ctt_files.specs.declared.outcome.Outcome.TheVariants.{Done}
 use Rattle.ctt_files.specs.declared.printed.Printed.{Printed}
+use Rattle.ctt_files.specs.declared.sides.Sides.{Sides}
 use Rattle.ctt_views.specs.Page.{IsPage}
 use Rattle.ctt_views.specs.Week.{week}
 use Rattle.ctt_words.specs.declared.job.Whose.{Whose}
@@ -14,14 +15,14 @@ use Rattle.ctt_reports.specs.Subjects.{Shows}
 use Rattle.ctt_reports.specs.declared.forms.ReportForm.{ReportForm}
 
 -- the text is the report on the solution in a file, and the command has the outcome of the check
-abbrev pub ShowsReport : ReportForm → Bool → String Global → Option (String Global) → String Global → Held → Printed → Type 0
-ShowsReport form strict instance barred solution held p =
-    Shows (λ i selection t. IsReport form (string_bytes solution) i t p.text.items × IsJudged strict i t p.outcome) instance barred None solution held × IsTextAlone p
+abbrev pub ShowsReport : ReportForm → Bool → String Global → Sides → String Global → Held → Printed → Type 0
+ShowsReport form strict instance sides solution held p =
+    Shows (λ i selection t. IsReport form (string_bytes solution) i t p.text.items × IsJudged strict i t p.outcome) instance sides None solution held × IsTextAlone p
 
 -- the text is the week of the solution in a file: of what is named, or of all rooms
-abbrev pub ShowsWeek : Option Whose → String Global → Option (String Global) → String Global → Held → Printed → Type 0
-ShowsWeek whose instance barred solution held p =
-    Shows (λ i selection t. (p.text.items ≡ week i selection t) × (p.outcome ≡ Done)) instance barred whose solution held × IsTextAlone p
+abbrev pub ShowsWeek : Option Whose → String Global → Sides → String Global → Held → Printed → Type 0
+ShowsWeek whose instance sides solution held p =
+    Shows (λ i selection t. (p.text.items ≡ week i selection t) × (p.outcome ≡ Done)) instance sides whose solution held × IsTextAlone p
 
 -- the names of days in one text, or an empty text if there are none
 abbrev pub names_of : Option (String Global) → List ℕ
@@ -29,6 +30,6 @@ names_of None = []
 names_of (Some names) = string_bytes names
 
 -- the text is the page on the solution in a file
-abbrev pub ShowsPage : Option (String Global) → String Global → Option (String Global) → String Global → Held → Printed → Type 0
-ShowsPage days instance barred solution held p =
-    Shows (λ i selection t. IsPage (string_bytes solution) (names_of days) i t p.text.items × (p.outcome ≡ Done)) instance barred None solution held × IsTextAlone p
+abbrev pub ShowsPage : Option (String Global) → String Global → Sides → String Global → Held → Printed → Type 0
+ShowsPage days instance sides solution held p =
+    Shows (λ i selection t. IsPage (string_bytes solution) (names_of days) i t p.text.items × (p.outcome ≡ Done)) instance sides None solution held × IsTextAlone p

@@ -5,6 +5,7 @@ use Rattle.std.specs.declared.string.String.{String}
 use Rattle.ctt_problem.specs.Problem.{Problem, number_in}
 use Rattle.ctt_problem.specs.declared.placed.Placed.{Placed}
 use Rattle.ctt_files.specs.Texts.{Held, Holds, IsInstanceIn, IsSolutionText}
+use Rattle.ctt_files.specs.declared.sides.Sides.{Sides}
 use Rattle.ctt_views.specs.declared.selection.Selection.{Selection}
 use Rattle.ctt_views.specs.declared.selection.Selection.TheVariants as number
 use Rattle.ctt_words.specs.declared.job.Whose.{Whose}
@@ -23,9 +24,9 @@ IsSelection i None selection = selection ≡ None
 IsSelection i (Some whose) selection = (found : Selection) × (numbered i whose ≡ Some found) × (selection ≡ Some found)
 
 -- the files contain an instance, which has what is named, and a solution of it, of which P holds
-pub record Shows (P : Problem → Option Selection → List Placed → Type 0) (instance : String Global) (barred : Option (String Global)) (whose : Option Whose) (solution : String Global) (held : Held) : Type 0 where
+pub record Shows (P : Problem → Option Selection → List Placed → Type 0) (instance : String Global) (sides : Sides) (whose : Option Whose) (solution : String Global) (held : Held) : Type 0 where
   pub problem : Problem
-  pub is_instance : IsInstanceIn held instance barred problem
+  pub is_instance : IsInstanceIn held instance sides problem
   pub selection : Option Selection
   pub is_selection : IsSelection problem whose selection
   pub timetable : List Placed

@@ -1,17 +1,23 @@
 -- Rows of cells as text: aligned, as CSV and as JSON. Each row begins with the name of a file.
-use Rattle.std.specs.Prelude.{ℕ, zero, suc, ◌+◌, ◌-◌, max, Bool, true, false, List, [], ◌∷◌, ◌++◌, codes, chars, fold, flat_map, get_or, replicate, ◌==◌, ◌||◌, if◌then◌else◌}
+use Rattle.std.specs.Prelude.{ℕ, zero, suc, ◌+◌, ◌-◌, max, Bool, true, false, List, [], ◌∷◌, ◌++◌, codes, chars, fold, flat_map, get_or, length, replicate, ◌==◌, ◌||◌, if◌then◌else◌}
 use Rattle.std.specs.List.{list_any}
 use Rattle.json.specs.Print.{quoted}
 use Rattle.unicode_width.specs.Width.{str_width}
 
--- the names of the columns
-unfoldable pub columns : List (List ℕ)
-columns = codes "file" ∷ codes "lectures" ∷ codes "conflicts" ∷ codes "availability" ∷ codes "occupancy" ∷ codes "barred"
-    ∷ codes "capacity" ∷ codes "days" ∷ codes "compactness" ∷ codes "stability" ∷ codes "total" ∷ codes "lawful" ∷ codes "complete" ∷ []
+-- a cell that some tables have, or none
+abbrev pub cell_if : Bool → List ℕ → List (List ℕ)
+cell_if true text = text ∷ []
+cell_if false text = []
 
--- the number of columns after the first
-unfoldable pub others : ℕ
-others = 12
+-- the names of the columns; the Boolean says whether any room is blocked in any slot
+unfoldable pub columns : Bool → List (List ℕ)
+columns blocked = codes "file" ∷ codes "lectures" ∷ codes "conflicts" ∷ codes "availability" ∷ codes "occupancy" ∷ codes "barred"
+    ∷ (cell_if blocked (codes "blocked") ++ (codes "capacity" ∷ codes "days" ∷ codes "compactness" ∷ codes "stability" ∷ codes "total"
+    ∷ codes "lawful" ∷ codes "complete" ∷ []))
+
+-- the number of cells after the first
+abbrev pub others : List (List ℕ) → ℕ
+others cells = length cells - 1
 
 -- the lists of the numbers below n, joined
 abbrev pub for_each : {X : Type 0} → (ℕ → List X) → ℕ → List X
@@ -32,8 +38,8 @@ width text = str_width false (chars text)
 abbrev pub widest : ℕ → List (List (List ℕ)) → ℕ
 widest k rows = fold (λ n cells. max n (width (cell cells k))) 0 rows
 
-abbrev pub widths : List (List (List ℕ)) → List ℕ
-widths rows = for_each (λ k. widest k rows ∷ []) 13
+abbrev pub widths : List (List ℕ) → List (List (List ℕ)) → List ℕ
+widths head rows = for_each (λ k. widest k (head ∷ rows) ∷ []) (length head)
 
 -- the blanks that fill a column
 abbrev pub gap : List ℕ → List (List ℕ) → ℕ → List ℕ
@@ -44,10 +50,10 @@ abbrev pub right : List ℕ → List (List ℕ) → ℕ → List ℕ
 right widths cells k = codes " " ++ (gap widths cells k ++ cell cells k)
 
 abbrev pub aligned_line : List ℕ → List (List ℕ) → List ℕ
-aligned_line widths cells = cell cells 0 ++ (gap widths cells 0 ++ (for_each (λ k. right widths cells (k + 1)) others ++ codes "\n"))
+aligned_line widths cells = cell cells 0 ++ (gap widths cells 0 ++ (for_each (λ k. right widths cells (k + 1)) (others cells) ++ codes "\n"))
 
-abbrev pub aligned : List (List (List ℕ)) → List ℕ
-aligned rows = flat_map (aligned_line (widths rows)) rows
+abbrev pub aligned : List (List ℕ) → List (List (List ℕ)) → List ℕ
+aligned head rows = flat_map (aligned_line (widths head rows)) (head ∷ rows)
 
 -- ---- CSV
 
@@ -67,7 +73,7 @@ abbrev pub next_field : List (List ℕ) → ℕ → List ℕ
 next_field cells k = codes "," ++ field (cell cells k)
 
 abbrev pub csv_line : List (List ℕ) → List ℕ
-csv_line cells = field (cell cells 0) ++ (for_each (λ k. next_field cells (k + 1)) others ++ codes "\n")
+csv_line cells = field (cell cells 0) ++ (for_each (λ k. next_field cells (k + 1)) (others cells) ++ codes "\n")
 
 abbrev pub csv : List (List (List ℕ)) → List ℕ
 csv rows = flat_map csv_line rows
@@ -80,7 +86,7 @@ member head cells k = codes ",\"" ++ (cell head k ++ (codes "\":" ++ cell cells 
 
 -- an object that begins with the name of the file
 abbrev pub json_row : List (List ℕ) → List (List ℕ) → List ℕ
-json_row head cells = codes "{\"file\":" ++ (quoted (cell cells 0) ++ (for_each (λ k. member head cells (k + 1)) others ++ codes "}"))
+json_row head cells = codes "{\"file\":" ++ (quoted (cell cells 0) ++ (for_each (λ k. member head cells (k + 1)) (others cells) ++ codes "}"))
 
 -- the items of an array, with commas between them
 abbrev pub comma : Bool → List ℕ

@@ -3,7 +3,7 @@
 ghost use Rattle.std.specs.Prelude.{◌≡◌, ◌+◌, ◌∷◌, ◌++◌, flat_map, map, replicate, OnOk, IfOk};
 ghost use Rattle.ctt_reports.specs.Tables.{aligned, aligned_line, for_each, gap, others, right, widest, width, widths};
 
-use crate::cells::{COLUMNS, Cells, OTHERS};
+use crate::cells::Cells;
 use crate::row::Row;
 use std::alloc::{AllocError, Global};
 use unicode_width::UnicodeWidthStr;
@@ -30,10 +30,10 @@ fn widest(head: &Cells, rows: &[Row], column: usize) -> usize
 #[tactic(auto, using(crate::proofs::TableLemmas::each_more))]
 fn widths(alloc: Global, head: &Cells, rows: &[Row]) -> Result<Vec<usize>, AllocError>
     ensures { IfOk result (λ made. made.items
-        ≡ widths (head.now ∷ map (λ row. row.cells) rows.now)) }
+        ≡ widths head.now (map (λ row. row.cells) rows.now)) }
 {
     let mut widths = Vec::new(alloc);
-    for column in 0..COLUMNS.len() {
+    for column in 0..head.len() {
         widths.push(widest(head, rows, column))?;
     }
     Ok(widths)
@@ -80,12 +80,11 @@ fn push_right(
 }
 
 /// Adds the cells after the first.
-#[tactic(auto, unfolding(crate::specs::Tables::others))]
 fn push_others(text: &mut Vec<u8>, widths: &[usize], cells: &Cells) -> Result<(), AllocError>
     ensures { OnOk result (text.new.items ≡ text.old.items
-        ++ for_each (λ k. right widths.now cells.now (k + 1)) others) }
+        ++ for_each (λ k. right widths.now cells.now (k + 1)) (others cells.now)) }
 {
-    for column in 0..OTHERS {
+    for column in 0..cells.len().saturating_sub(1) {
         push_right(text, widths, cells, column + 1)?;
     }
     Ok(())
@@ -115,7 +114,7 @@ fn push_lines(text: &mut Vec<u8>, widths: &[usize], rows: &[Row]) -> Result<(), 
 /// Returns the rows as a table, below the names of the columns.
 pub(crate) fn aligned(alloc: Global, head: &Cells, rows: &[Row]) -> Result<Vec<u8>, AllocError>
     ensures { IfOk result (λ text. text.items
-        ≡ aligned (head.now ∷ map (λ row. row.cells) rows.now)) }
+        ≡ aligned head.now (map (λ row. row.cells) rows.now)) }
 {
     let widths = widths(alloc, head, rows)?;
     let mut text = Vec::new(alloc);

@@ -1,9 +1,9 @@
 //! The cells of a row of a comparison.
 
-ghost use Rattle.std.specs.Prelude.{◌≡◌, ◌∷◌, ◌++◌, ◌^◌, ◌<◌, [], OnOk, IfOk, decimal, map};
+ghost use Rattle.std.specs.Prelude.{◌≡◌, ◌∷◌, ◌++◌, ◌^◌, ◌<◌, [], OnOk, IfOk, decimal, length, map};
 ghost use Rattle.ctt_rules.specs.Penalty.{total};
 ghost use Rattle.ctt_reports.specs.Compare.{answer, cells_of};
-ghost use Rattle.ctt_reports.specs.Tables.{cell, columns};
+ghost use Rattle.ctt_reports.specs.Tables.{cell, cell_if, columns};
 
 use crate::forms::TableForm;
 use ctt_rules::{Assessment, Cost, Hard};
@@ -11,14 +11,18 @@ use std::alloc::{AllocError, Global};
 use std::fmt::Write;
 use std::marker::Model;
 
-/// The names of the columns.
-pub(crate) const COLUMNS: &[&str] = &[
+/// The names of the columns up to the count of lectures in barred rooms.
+const FIRST_COLUMNS: &[&str] = &[
     "file",
     "lectures",
     "conflicts",
     "availability",
     "occupancy",
     "barred",
+];
+
+/// The names of the columns after the hard counts.
+const LAST_COLUMNS: &[&str] = &[
     "capacity",
     "days",
     "compactness",
@@ -27,9 +31,6 @@ pub(crate) const COLUMNS: &[&str] = &[
     "lawful",
     "complete",
 ];
-
-/// The number of columns after the first.
-pub(crate) const OTHERS: usize = 12;
 
 /// The texts of a row, one for each column.
 #[derive(Drop)]
@@ -79,18 +80,22 @@ impl Cells {
         Ok(self.texts.push(format!(in alloc; "{count}")?)?)
     }
 
-    /// Adds the hard counts.
-    fn push_hard(&mut self, alloc: Global, hard: &Hard) -> Result<(), AllocError>
+    /// Adds the hard counts, with that of lectures in blocked rooms if any room is blocked.
+    fn push_hard(&mut self, alloc: Global, blocked: bool, hard: &Hard) -> Result<(), AllocError>
         ensures { OnOk result (self.new ≡ self.old
             ++ decimal hard.now.lectures ∷ decimal hard.now.conflicts
             ∷ decimal hard.now.availability ∷ decimal hard.now.occupancy
-            ∷ decimal hard.now.barred ∷ []) }
+            ∷ decimal hard.now.barred ∷ cell_if blocked (decimal hard.now.blocked)) }
     {
         self.push_count(alloc, hard.lectures)?;
         self.push_count(alloc, hard.conflicts)?;
         self.push_count(alloc, hard.availability)?;
         self.push_count(alloc, hard.occupancy)?;
-        self.push_count(alloc, hard.barred)
+        self.push_count(alloc, hard.barred)?;
+        if blocked {
+            self.push_count(alloc, hard.blocked)?;
+        }
+        Ok(())
     }
 
     /// Adds the costs and their total.
@@ -105,6 +110,13 @@ impl Cells {
         self.push_count(alloc, cost.compactness)?;
         self.push_count(alloc, cost.stability)?;
         self.push_count(alloc, cost.total())
+    }
+
+    /// Returns the number of columns.
+    pub(crate) fn len(&self) -> usize
+        ensures { result ≡ length self.now }
+    {
+        self.texts.len()
     }
 
     /// Returns the text in a column, or an empty one after the last.
@@ -128,32 +140,38 @@ fn answer(form: TableForm, yes: bool) -> &'static str
     }
 }
 
-/// Returns the cells of a solution in this file.
+/// Returns the cells of a solution in this file. `blocked` says whether any room is blocked.
 pub(crate) fn cells_of(
     alloc: Global,
     form: TableForm,
+    blocked: bool,
     file: &str,
     assessment: &Assessment,
 ) -> Result<Cells, AllocError>
     requires { total assessment.now.cost < 2 ^ 64 }
-    ensures { IfOk result (λ cells. cells ≡ cells_of form file.now assessment.now.hard
-        assessment.now.cost assessment.now.lawful assessment.now.complete) }
+    ensures { IfOk result (λ cells. cells ≡ cells_of form blocked file.now
+        assessment.now.hard assessment.now.cost assessment.now.lawful
+        assessment.now.complete) }
 {
     let mut cells = Cells::new(alloc);
     cells.push(alloc, file)?;
-    cells.push_hard(alloc, &assessment.hard)?;
+    cells.push_hard(alloc, blocked, &assessment.hard)?;
     cells.push_cost(alloc, &assessment.cost)?;
     cells.push(alloc, answer(form, assessment.lawful))?;
     cells.push(alloc, answer(form, assessment.complete))?;
     Ok(cells)
 }
 
-/// Returns the names of the columns as a row.
+/// Returns the names of the columns as a row. `blocked` says whether any room is blocked.
 #[tactic(auto, unfolding(crate::specs::Tables::columns))]
-pub(crate) fn head(alloc: Global) -> Result<Cells, AllocError>
-    ensures { IfOk result (λ cells. cells ≡ columns) }
+pub(crate) fn head(alloc: Global, blocked: bool) -> Result<Cells, AllocError>
+    ensures { IfOk result (λ cells. cells ≡ columns blocked) }
 {
     let mut cells = Cells::new(alloc);
-    cells.push_all(alloc, COLUMNS)?;
+    cells.push_all(alloc, FIRST_COLUMNS)?;
+    if blocked {
+        cells.push(alloc, "blocked")?;
+    }
+    cells.push_all(alloc, LAST_COLUMNS)?;
     Ok(cells)
 }

@@ -16,7 +16,7 @@ use crate::json_rows::quote;
 use crate::judging::judge;
 use crate::subject::fetch_subject;
 use crate::told::tell;
-use ctt_files::{Fault, Files, Outcome, Printed, Sink, print};
+use ctt_files::{Fault, Files, Outcome, Printed, Sides, Sink, print};
 use ctt_findings::{report_around, report_json, report_text};
 use ctt_text::{Instance, NoMemory, Placed, let_go};
 use std::alloc::{AllocError, Global};
@@ -124,18 +124,18 @@ pub fn check<F: Files>(
     alloc: Global,
     files: &mut F,
     instance: String,
-    barred: Option<String>,
+    sides: Sides,
     solution: String,
     form: ReportForm,
     strict: bool,
 ) -> Result<Printed, Fault>
     ensures shows { IfOk result
-        (ShowsReport form strict instance barred solution (F.held files.old)) }
+        (ShowsReport form strict instance sides solution (F.held files.old)) }
     ensures kept { F.held files.new ≡ F.held files.old }
-    ensures cause { IfErr result (IsOfCheck (F.held files.old) instance barred solution) }
+    ensures cause { IfErr result (IsOfCheck (F.held files.old) instance sides solution) }
 {
     let file = solution.clone()?;
-    let subject = fetch_subject(alloc, files, instance, barred, None, solution)?;
+    let subject = fetch_subject(alloc, files, instance, sides, None, solution)?;
     let (instance, timetable) = (&subject.instance, &subject.timetable);
     let text = report(alloc, form, &file, instance, timetable);
     let outcome = judge(instance, timetable, strict);
@@ -150,26 +150,26 @@ pub fn explain<F: Files, W: Sink>(
     files: &mut F,
     out: &mut W,
     instance: String,
-    barred: Option<String>,
+    sides: Sides,
     solution: String,
     form: ReportForm,
     strict: bool,
 ) -> Result<Outcome, Fault>
     ensures explains { IfOk result (λ outcome.
-        ExplainsSolution form strict instance barred solution outcome (F.held files.old)
+        ExplainsSolution form strict instance sides solution outcome (F.held files.old)
         (W.taken out.old) (W.taken out.new)) }
     ensures kept { F.held files.new ≡ F.held files.old }
     ensures unmarked { OnOk result (W.has_failed out.new ≡ W.has_failed out.old) }
     ensures cause { IfErr result (λ fault. IfUnwritten fault
         (W.has_failed out.new ≡ true)
-        (IsOfCheck (F.held files.old) instance barred solution fault
+        (IsOfCheck (F.held files.old) instance sides solution fault
         × (W.has_failed out.new ≡ W.has_failed out.old))) }
     ensures part { IfErr result (λ fault. (out.new ≡ out.old) ⊎ (MayHaveWritten fault
-        × PrintsFront form instance barred solution (F.held files.old)
+        × PrintsFront form instance sides solution (F.held files.old)
         (W.taken out.old) (W.taken out.new))) }
 {
     let file = solution.clone()?;
-    let subject = fetch_subject(alloc, files, instance, barred, None, solution)?;
+    let subject = fetch_subject(alloc, files, instance, sides, None, solution)?;
     let (instance, timetable) = (&subject.instance, &subject.timetable);
     let printed = print_explained(alloc, out, form, &file, instance, timetable);
     let outcome = judge(instance, timetable, strict);

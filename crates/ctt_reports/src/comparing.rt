@@ -5,6 +5,7 @@ ghost use Rattle.std.specs.List.{list_all};
 ghost use Rattle.ctt_files.specs.Faults.{IsLineOf};
 ghost use Rattle.ctt_files.specs.declared.fault.Fault.TheVariants.{NoMemory as OutOfMemory};
 ghost use Rattle.ctt_reports.specs.Compare.{AddsFile, AreCompared, ComparesSolutions, IsOfCompare, judged, outcome_of, text_of};
+ghost use Rattle.ctt_reports.specs.Tables.{columns};
 
 use crate::aligned::aligned;
 use crate::cells::{cells_of, head};
@@ -12,8 +13,8 @@ use crate::csv_rows::csv;
 use crate::forms::TableForm;
 use crate::json_rows::json;
 use crate::row::Row;
-use ctt_files::{Fault, Files, Outcome, Printed, fetch_instance, fetch_solution};
-use ctt_rules::{Assessment, assess};
+use ctt_files::{Fault, Files, Outcome, Printed, Sides, fetch_instance, fetch_solution};
+use ctt_rules::assess;
 use ctt_text::{Instance, let_go};
 use std::alloc::{AllocError, Global};
 
@@ -60,7 +61,7 @@ fn compare_file<F: Files>(
         Ok(timetable) => {
             let assessment = assess(instance, &timetable);
             let row = Row {
-                cells: cells_of(alloc, form, &name, &assessment)?,
+                cells: cells_of(alloc, form, instance.has_blocked(), &name, &assessment)?,
                 lawful: assessment.lawful,
                 complete: assessment.complete,
             };
@@ -95,11 +96,17 @@ fn compare_files<F: Files>(
     Ok(compared)
 }
 
-/// Returns the rows in this form.
-fn text_of(alloc: Global, form: TableForm, rows: &[Row]) -> Result<Vec<u8>, AllocError>
-    ensures { IfOk result (λ text. text.items ≡ text_of form (map (λ row. row.cells) rows.now)) }
+/// Returns the rows in this form. `blocked` says whether any room is blocked.
+fn text_of(
+    alloc: Global,
+    form: TableForm,
+    blocked: bool,
+    rows: &[Row],
+) -> Result<Vec<u8>, AllocError>
+    ensures { IfOk result (λ text. text.items
+        ≡ text_of form (columns blocked) (map (λ row. row.cells) rows.now)) }
 {
-    let head = head(alloc)?;
+    let head = head(alloc, blocked)?;
     match form {
         TableForm::Aligned => aligned(alloc, &head, rows),
         TableForm::Csv => csv(alloc, &head, rows),
@@ -154,21 +161,22 @@ pub fn compare<F: Files>(
     alloc: Global,
     files: &mut F,
     instance: String,
-    barred: Option<String>,
+    sides: Sides,
     solutions: Vec<String>,
     form: TableForm,
     strict: bool,
 ) -> Result<Printed, Fault>
     ensures compares { IfOk result
-        (ComparesSolutions form strict instance barred solutions.items (F.held files.old)) }
+        (ComparesSolutions form strict instance sides solutions.items (F.held files.old)) }
     ensures kept { F.held files.new ≡ F.held files.old }
-    ensures cause { IfErr result (IsOfCompare (F.held files.old) instance barred) }
+    ensures cause { IfErr result (IsOfCompare (F.held files.old) instance sides) }
 {
-    let instance = fetch_instance(alloc, files, instance, barred)?;
+    let instance = fetch_instance(alloc, files, instance, sides)?;
+    let blocked = instance.has_blocked();
     let compared = compare_files(alloc, files, &instance, form, solutions);
     let_go(instance);
     let Compared { rows, refused } = compared?;
-    let text = text_of(alloc, form, &rows)?;
+    let text = text_of(alloc, form, blocked, &rows)?;
     let outcome = judge_rows(strict, &refused, &rows);
     Ok(Printed {
         text,

@@ -4,7 +4,7 @@ ghost use Rattle.std.specs.Prelude.{◌≡◌, ◌+◌, ◌∷◌, ◌++◌, map
 ghost use Rattle.std.specs.List.{list_any};
 ghost use Rattle.ctt_reports.specs.Tables.{csv, csv_line, doubled, field, for_each, is_special, next_field, others};
 
-use crate::cells::{Cells, OTHERS};
+use crate::cells::Cells;
 use crate::row::Row;
 use std::alloc::{AllocError, Global};
 
@@ -50,12 +50,11 @@ fn push_next(text: &mut Vec<u8>, cells: &Cells, column: usize) -> Result<(), All
 }
 
 /// Adds the fields after the first.
-#[tactic(auto, unfolding(crate::specs::Tables::others))]
 fn push_others(text: &mut Vec<u8>, cells: &Cells) -> Result<(), AllocError>
     ensures { OnOk result (text.new.items
-        ≡ text.old.items ++ for_each (λ k. next_field cells.now (k + 1)) others) }
+        ≡ text.old.items ++ for_each (λ k. next_field cells.now (k + 1)) (others cells.now)) }
 {
-    for column in 0..OTHERS {
+    for column in 0..cells.len().saturating_sub(1) {
         push_next(text, cells, column + 1)?;
     }
     Ok(())

@@ -4,7 +4,7 @@ ghost use Rattle.std.specs.Prelude.{◌≡◌, ◌+◌, ◌++◌, false, map, On
 ghost use Rattle.json.specs.Print.{quoted};
 ghost use Rattle.ctt_reports.specs.Tables.{comma, for_each, json, json_row, json_rows, member, others};
 
-use crate::cells::{Cells, OTHERS};
+use crate::cells::Cells;
 use crate::row::Row;
 use serde_json::Value;
 use std::alloc::{AllocError, Global};
@@ -33,12 +33,11 @@ fn push_member(
 }
 
 /// Adds the members after the first.
-#[tactic(auto, unfolding(crate::specs::Tables::others))]
 fn push_others(text: &mut Vec<u8>, head: &Cells, cells: &Cells) -> Result<(), AllocError>
     ensures { OnOk result (text.new.items
-        ≡ text.old.items ++ for_each (λ k. member head.now cells.now (k + 1)) others) }
+        ≡ text.old.items ++ for_each (λ k. member head.now cells.now (k + 1)) (others cells.now)) }
 {
-    for column in 0..OTHERS {
+    for column in 0..cells.len().saturating_sub(1) {
         push_member(text, head, cells, column + 1)?;
     }
     Ok(())

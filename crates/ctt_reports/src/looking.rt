@@ -7,7 +7,7 @@ ghost use Rattle.ctt_reports.specs.Refusals.{IsOfPage, IsOfWeek};
 ghost use Rattle.ctt_reports.specs.Showings.{ShowsPage, ShowsWeek, names_of};
 
 use crate::subject::{Subject, fetch_subject};
-use ctt_files::{Fault, Files, Outcome, Printed};
+use ctt_files::{Fault, Files, Outcome, Printed, Sides};
 use ctt_text::{NoMemory, let_go};
 use ctt_views::{page_text, week_text};
 use ctt_words::Whose;
@@ -19,16 +19,16 @@ pub fn week<F: Files>(
     alloc: Global,
     files: &mut F,
     instance: String,
-    barred: Option<String>,
+    sides: Sides,
     solution: String,
     whose: Option<Whose>,
 ) -> Result<Printed, Fault>
     ensures shows { IfOk result
-        (ShowsWeek whose instance barred solution (F.held files.old)) }
+        (ShowsWeek whose instance sides solution (F.held files.old)) }
     ensures kept { F.held files.new ≡ F.held files.old }
-    ensures cause { IfErr result (IsOfWeek (F.held files.old) instance barred whose solution) }
+    ensures cause { IfErr result (IsOfWeek (F.held files.old) instance sides whose solution) }
 {
-    let subject = fetch_subject(alloc, files, instance, barred, whose, solution)?;
+    let subject = fetch_subject(alloc, files, instance, sides, whose, solution)?;
     let text = week_text(
         alloc,
         &subject.instance,
@@ -71,18 +71,18 @@ pub fn page<F: Files>(
     alloc: Global,
     files: &mut F,
     instance: String,
-    barred: Option<String>,
+    sides: Sides,
     solution: String,
     days: Option<String>,
 ) -> Result<Printed, Fault>
     ensures shows { IfOk result
-        (ShowsPage days instance barred solution (F.held files.old)) }
+        (ShowsPage days instance sides solution (F.held files.old)) }
     ensures kept { F.held files.new ≡ F.held files.old }
-    ensures cause { IfErr result (IsOfPage (F.held files.old) instance barred solution) }
+    ensures cause { IfErr result (IsOfPage (F.held files.old) instance sides solution) }
 {
     let given = solution.as_str();
     let copy = String::from_str(alloc, given)?;
-    let subject = fetch_subject(alloc, files, instance, barred, None, solution)?;
+    let subject = fetch_subject(alloc, files, instance, sides, None, solution)?;
     let name = copy.as_str();
     let text = page_of(alloc, &subject, name, &days);
     let_go(subject);

@@ -7,7 +7,7 @@ ghost use Rattle.ctt_views.specs.Week.{SelectionFits};
 ghost use Rattle.ctt_reports.specs.Refusals.{IsNoName, IsOfSubject, IsOfWeek};
 ghost use Rattle.ctt_reports.specs.Subjects.{IsSelection};
 
-use ctt_files::{Fault, Files, fetch_instance, fetch_solution};
+use ctt_files::{Fault, Files, Sides, fetch_instance, fetch_solution};
 use ctt_text::{Instance, Placed, let_go};
 use ctt_views::Selection;
 use ctt_words::Whose;
@@ -77,12 +77,12 @@ pub(crate) fn fetch_subject<F: Files>(
     alloc: Global,
     files: &mut F,
     instance: String,
-    barred: Option<String>,
+    sides: Sides,
     whose: Option<Whose>,
     solution: String,
 ) -> Result<Subject, Fault>
     ensures instance { IfOk result (λ subject.
-        IsInstanceIn (F.held files.old) instance barred subject.instance) }
+        IsInstanceIn (F.held files.old) instance sides subject.instance) }
     ensures found { IfOk result (λ subject.
         IsSelection subject.instance whose subject.selection) }
     ensures fits { IfOk result (λ subject.
@@ -93,9 +93,9 @@ pub(crate) fn fetch_subject<F: Files>(
     ensures timetable { IfOk result (λ subject.
         IsTimetable subject.instance subject.timetable.items) }
     ensures kept { F.held files.new ≡ F.held files.old }
-    ensures cause { IfErr result (IsOfWeek (F.held files.old) instance barred whose solution) }
+    ensures cause { IfErr result (IsOfWeek (F.held files.old) instance sides whose solution) }
 {
-    let instance = fetch_instance(alloc, files, instance, barred)?;
+    let instance = fetch_instance(alloc, files, instance, sides)?;
     match fetch_behind(alloc, files, &instance, whose, solution) {
         Ok((selection, timetable)) => Ok(Subject {
             instance,

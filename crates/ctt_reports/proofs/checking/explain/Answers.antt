@@ -9,15 +9,15 @@ use Rattle.ctt_reports.proofs.checking.explain.Goals as goal
 pub returns-in_err-subject-clause-cause : goal.returns-in_err-subject-clause-cause
 returns-in_err-subject-clause-cause g c =
     let held = g.F.Files.held c.args.files.now in
-    passed_plain c.from_residual-in_err-subject.result c.in_err-subject.field-0.0 _ _ (IsOfCheck held c.args.instance c.args.barred c.args.solution) c.from_residual-in_err-subject.ensures.1
-    (look_plain held c.args.instance c.args.barred None c.args.solution c.in_err-subject.field-0.0 c.in_err-subject.ensures.cause) c.in_err-subject.ensures.cause refl
+    passed_plain c.from_residual-in_err-subject.result c.in_err-subject.field-0.0 _ _ (IsOfCheck held c.args.instance c.args.sides c.args.solution) c.from_residual-in_err-subject.ensures.1
+    (look_plain held c.args.instance c.args.sides None c.args.solution c.in_err-subject.field-0.0 c.in_err-subject.ensures.cause) c.in_err-subject.ensures.cause refl
 
 pub returns-in_err-printed-clause-cause : goal.returns-in_err-printed-clause-cause
 returns-in_err-printed-clause-cause g c =
     let held = g.F.Files.held c.args.files.now in
     let fault = c.in_err-printed.field-0.0 in
     passed_on c.from_residual-in_err-printed.result fault _ c.from_residual-in_err-printed.ensures.1
-    (unwritten_more fault _ _ _ _ (λ marked. marked) (λ why. (of_memory held c.args.instance c.args.barred None c.args.solution fault why.0, why.1)) c.in_err-printed.ensures.cause)
+    (unwritten_more fault _ _ _ _ (λ marked. marked) (λ why. (of_memory held c.args.instance c.args.sides None c.args.solution fault why.0, why.1)) c.in_err-printed.ensures.cause)
 
 pub returns-in_err-printed-clause-part : goal.returns-in_err-printed-clause-part
 returns-in_err-printed-clause-part g c =
