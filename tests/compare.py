@@ -13,23 +13,28 @@ import sys
 import tempfile
 
 sys.dont_write_bytecode = True
-from drawn import draw_instance, draw_solution  # noqa: E402
+from drawn import draw_blocked, draw_instance, draw_solution  # noqa: E402
 from program import EXAMPLES, PROGRAM, call, check, check_full, check_run, end, pair_of, read_files, words_of, write_files  # noqa: E402
 from rules import Instance  # noqa: E402
 from week import width  # noqa: E402
 
 DRAWN = 60
 SOLUTIONS = 5
-COLUMNS = ["file", "lectures", "conflicts", "availability", "occupancy", "barred", "capacity", "days", "compactness",
-           "stability", "total", "lawful", "complete"]
+COUNTS = ["lectures", "conflicts", "availability", "occupancy", "barred", "blocked", "capacity", "days", "compactness", "stability"]
 FILES = ["plain.sol", 'a "quoted", one.sol', "wide 数学.sol", "two\nlines.sol", "long-" + "x" * 30 + ".sol"]
+
+
+def columns(instance):
+    """The names of the columns. Blocked rooms have one only if there are some."""
+    return ["file", *(key for key in COUNTS if key != "blocked" or instance.blocked), "total", "lawful", "complete"]
 
 
 def row(instance, file, t):
     """The cells of a solution."""
     counts, lawful, complete = instance.count(t)
     total = sum(counts[kind] for kind in ("capacity", "days", "compactness", "stability"))
-    return {"file": file, **{key: counts[key] for key in COLUMNS[1:10]}, "total": total, "lawful": lawful, "complete": complete}
+    cells = {"file": file, **counts, "total": total, "lawful": lawful, "complete": complete}
+    return {key: cells[key] for key in columns(instance)}
 
 
 def words(cells):
@@ -37,9 +42,9 @@ def words(cells):
     return [{True: "yes", False: "no"}[cell] if isinstance(cell, bool) else str(cell) for cell in cells.values()]
 
 
-def aligned(rows):
+def aligned(head, rows):
     """A table with the files at the left and all else at the right of its column."""
-    lines = [COLUMNS, *map(words, rows)]
+    lines = [head, *map(words, rows)]
     widths = [max(map(width, column)) for column in zip(*lines)]
     text = ""
     for first, *others in lines:
@@ -48,20 +53,20 @@ def aligned(rows):
     return text
 
 
-def csv_text(rows):
+def csv_text(head, rows):
     out = io.StringIO()
-    csv.writer(out, lineterminator="\n").writerows([COLUMNS, *map(words, rows)])
+    csv.writer(out, lineterminator="\n").writerows([head, *map(words, rows)])
     return out.getvalue()
 
 
-def check_rows(name, given, rows, said=""):
-    """Compares all forms of a comparison."""
+def check_rows(name, given, head, rows, said=""):
+    """Compares all forms of a comparison, given the names of its columns, and its rows."""
     if said:
         status = strict = 1
     else:
         status, strict = 0, 0 if all(each["complete"] for each in rows) else 5 if all(each["lawful"] for each in rows) else 4
-    check_run(f"{name}: aligned", "compare", *given, wanted=aligned(rows), said=said, status=status)
-    check_run(f"{name}: CSV", "compare", *given, "--csv", "--strict", wanted=csv_text(rows), said=said, status=strict)
+    check_run(f"{name}: aligned", "compare", *given, wanted=aligned(head, rows), said=said, status=status)
+    check_run(f"{name}: CSV", "compare", *given, "--csv", "--strict", wanted=csv_text(head, rows), said=said, status=strict)
     text = json.dumps(rows, ensure_ascii=False, separators=(",", ":")) + "\n"
     check_run(f"{name}: JSON", "compare", *given, "--json", wanted=text, said=said, status=status)
 
@@ -71,8 +76,9 @@ def check_drawn(folder):
     draw = random.Random(59)
     for n in range(DRAWN):
         text, barred = draw_instance(draw)
-        instance = Instance(text, barred)
-        given = words_of(write_files(folder, text, b"", barred))
+        blocked = draw_blocked(draw, Instance(text, barred))
+        instance = Instance(text, barred, blocked)
+        given = words_of(write_files(folder, text, b"", barred, blocked))
         rows, said, files = [], "", []
         for file in FILES[:SOLUTIONS]:
             files.append(os.path.join(folder, file))
@@ -86,18 +92,18 @@ def check_drawn(folder):
                 said += f"{files[-1]}: {complaint}"
             else:
                 rows.append(row(instance, files[-1], instance.read_solution(solution)))
-        check_rows(f"drawn solutions {n}", [given[0], *files, *given[2:]], rows, said)
+        check_rows(f"drawn solutions {n}", [given[0], *files, *given[2:]], columns(instance), rows, said)
 
 
 def check_examples(folder):
     instance, solution = pair_of(EXAMPLES, "comp07")
     texts = read_files([instance, solution])
     read = Instance(texts[0])
-    rows = [row(read, solution, read.read_solution(texts[1]))]
-    check_rows("comp07", [instance, solution], rows)
-    check_rows("comp07, many times", [instance, *[solution] * 100], rows * 100)
+    head, rows = columns(read), [row(read, solution, read.read_solution(texts[1]))]
+    check_rows("comp07", [instance, solution], head, rows)
+    check_rows("comp07, many times", [instance, *[solution] * 100], head, rows * 100)
     none = os.path.join(folder, "none.sol")
-    check_rows("no file", [instance, none, solution], rows, f"{none}: timedesk: cannot read {none}\n")
+    check_rows("no file", [instance, none, solution], head, rows, f"{none}: timedesk: cannot read {none}\n")
     check_run("no instance", "compare", none, solution, said=f"timedesk: cannot read {none}\n", status=3)
     check_full("no place for the rows", "compare", instance, solution)
     named = {"file": solution}
