@@ -42,14 +42,14 @@ _timedesk_names() {
 _timedesk_options() {
     local option options='' one='--(course|curriculum|room|teacher)'
     case $2 in
-    check) options='--barred --explain --json --name --strict' ;;
-    compare) options='--barred --csv --json --strict' ;;
-    week) options='--barred --course --curriculum --room --teacher' ;;
-    run) options='--barred --journal --start' ;;
-    audit | list) options='--barred --start' ;;
-    desk) options='--barred --minutes --start' ;;
-    page) options='--barred --days' ;;
-    crew | journal | mend) options='--barred' ;;
+    check) options='--barred --blocked --explain --json --name --strict' ;;
+    compare) options='--barred --blocked --csv --json --strict' ;;
+    week) options='--barred --blocked --course --curriculum --room --teacher' ;;
+    run) options='--barred --blocked --journal --start' ;;
+    audit | list) options='--barred --blocked --start' ;;
+    desk) options='--barred --blocked --minutes --start' ;;
+    page) options='--barred --blocked --days' ;;
+    crew | journal | mend) options='--barred --blocked' ;;
     '') options='--version' ;;
     esac
     for option in $options --help; do

@@ -63,25 +63,25 @@ offers '' timedesk frobnicate
 offers $'--help\n--version' timedesk -
 
 # options
-offers $'--barred\n--explain\n--help\n--json\n--name\n--strict' timedesk check small.ctt monday.sol -
-offers $'--barred\n--help\n--strict' timedesk check small.ctt --json --name monday.sol --explain --
-offers $'--barred\n--csv\n--help\n--strict' timedesk compare small.ctt monday.sol --json --
+offers $'--barred\n--blocked\n--explain\n--help\n--json\n--name\n--strict' timedesk check small.ctt monday.sol -
+offers $'--barred\n--blocked\n--help\n--strict' timedesk check small.ctt --json --name monday.sol --explain --
+offers $'--barred\n--blocked\n--csv\n--help\n--strict' timedesk compare small.ctt monday.sol --json --
 offers $'--help' timedesk where small.ctt 1 --
 offers $'--explain' timedesk check --e
-offers $'--barred\n--course\n--curriculum\n--help\n--room\n--teacher' timedesk week small.ctt monday.sol --
-offers $'--barred\n--help' timedesk week small.ctt monday.sol --room A --
-offers $'--barred\n--days\n--help' timedesk page small.ctt monday.sol --
+offers $'--barred\n--blocked\n--course\n--curriculum\n--help\n--room\n--teacher' timedesk week small.ctt monday.sol --
+offers $'--barred\n--blocked\n--help' timedesk week small.ctt monday.sol --room A --
+offers $'--barred\n--blocked\n--days\n--help' timedesk page small.ctt monday.sol --
 offers 'mon,tue,wed,thu,fri' timedesk page small.ctt monday.sol --days ''
-offers $'--barred\n--help\n--journal\n--start' timedesk run small.ctt day.txt --
-offers $'--help\n--journal' timedesk run --start monday.sol --barred barred small.ctt day.txt -
-offers $'--barred\n--help' timedesk crew --
-offers $'--barred\n--help\n--minutes\n--start' timedesk desk --
-offers $'--barred\n--help' timedesk journal --
-offers $'--barred\n--help\n--start' timedesk audit --
-offers $'--barred\n--help\n--start' timedesk list --
-offers $'--barred\n--help' timedesk mend --
+offers $'--barred\n--blocked\n--help\n--journal\n--start' timedesk run small.ctt day.txt --
+offers $'--help\n--journal' timedesk run --start monday.sol --barred barred --blocked blocked small.ctt day.txt -
+offers $'--barred\n--blocked\n--help' timedesk crew --
+offers $'--barred\n--blocked\n--help\n--minutes\n--start' timedesk desk --
+offers $'--barred\n--blocked\n--help' timedesk journal --
+offers $'--barred\n--blocked\n--help\n--start' timedesk audit --
+offers $'--barred\n--blocked\n--help\n--start' timedesk list --
+offers $'--barred\n--blocked\n--help' timedesk mend --
 # behind the last place of a command stand options
-offers $'--barred\n--help\n--name\n--strict' timedesk check small.ctt monday.sol --json --explain ''
+offers $'--barred\n--blocked\n--help\n--name\n--strict' timedesk check small.ctt monday.sol --json --explain ''
 
 # files
 offers "$folders"$'\n''monday.ctt'$'\n''small.ctt'$'\n''two words.ctt' timedesk check ''
@@ -100,6 +100,7 @@ offers $'day.txt' timedesk run small.ctt d
 offers $'day.txt' timedesk crew small.ctt day.txt d
 offers $'monday.ctt\nmonday.sol' timedesk audit small.ctt m
 offers $'monday.ctt\nmonday.sol' timedesk check small.ctt monday.sol --barred m
+offers $'monday.ctt\nmonday.sol' timedesk check small.ctt monday.sol --blocked m
 offers $'monday.sol' timedesk audit small.ctt journal --start = m
 offers "$folders"$'\n''monday.sol'$'\n''tuesday.sol' timedesk audit small.ctt journal --start =
 # where no file has the ending, all are offered

@@ -17,6 +17,7 @@ sys.dont_write_bytecode = True
 from program import EXAMPLES, PROGRAM, build, check, end  # noqa: E402
 
 JOURNAL = "journal 1\nentry 0 1\nplace top A 0 1\nrefused roomtaken geo\nEND.\n"
+BLOCKED = "Blocked: 1 teacher t2 0 0 END.\n"
 OWN = "open\nplace geo A 0 1\ncommit\n"
 # what is typed at a seat, its answers, and the entry of each commit
 TYPED = ["open", "place geo A 0 1", "commit", "open", "slot 0 1", "commit", "show cost", "leave"]
@@ -133,13 +134,13 @@ with tempfile.TemporaryDirectory() as room:
     for example in ("small.ctt", "s.sol", "phantom.txt"):
         shutil.copy(os.path.join(EXAMPLES, example), room)
     start = "".join(held(room, "s.sol").decode().splitlines(keepends=True)[:4])
-    for example, text in (("told", JOURNAL), ("own", OWN), ("s0.sol", start), ("barred", "Barred: 0 END.\n")):
+    for example, text in (("told", JOURNAL), ("own", OWN), ("s0.sol", start), ("barred", "Barred: 0 END.\n"), ("blocked", BLOCKED)):
         with open(os.path.join(room, example), "w", encoding="ascii") as opened:
             opened.write(text)
     for command, read in (
-        ("check small.ctt s.sol --barred barred", ["small.ctt", "barred", "s.sol"]),
+        ("check small.ctt s.sol --blocked blocked --barred barred", ["small.ctt", "barred", "blocked", "s.sol"]),
         ("run small.ctt phantom.txt --journal kept", ["small.ctt", "phantom.txt"]),
-        ("audit small.ctt told --start s0.sol", ["small.ctt", "told", "s0.sol"]),
+        ("audit small.ctt told --start s0.sol --blocked blocked", ["small.ctt", "blocked", "told", "s0.sol"]),
         ("mend small.ctt s.sol --barred barred", ["small.ctt", "barred", "s.sol"]),
         ("crew small.ctt own", ["small.ctt", "own"]),
     ):

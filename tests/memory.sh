@@ -49,6 +49,7 @@ lecture_size=6
 head -n 4 s.sol >s0.sol
 printf '%s\n' 'journal 1' 'entry 0 2' 'place top A 0 1' 'refused roomtaken geo' 'slot 0 0' 'lectures 1 alg A 0 0' END. >told
 echo 'Barred: 2 alg A top A END.' >barred
+echo 'Blocked: 3 room B 1 * teacher t2 0 0 course top 1 1 END.' >blocked
 printf '%s\n' 'entry 0 1' 'place top B 0 2' done 'entry 1 1' 'slot 0 2' 'lectures 1 top B 0 2' 'entry 0 1' 'drop top 0' >torn
 # each line of a crew's planner, twice
 printf '%s\n' open open 'place geo A 0 1' 'place geo A 0 1' 'slot 0 1' 'slot 0 1' refresh refresh commit commit >twice
@@ -172,10 +173,11 @@ done_without=0
 made_again=0
 names=$("$program" --help | sed -n '/^Commands:$/,/^$/s/^  \([a-z]*\) .*/\1/p')
 for words in 'check small.ctt s.sol --json --barred barred' 'check small.ctt small.ctt' \
+    'check small.ctt s.sol --json --blocked blocked --barred barred' 'check small.ctt s.sol --blocked barred' 'week small.ctt s.sol --blocked blocked' \
     'check small.ctt s.sol --explain' 'check small.ctt s.sol --explain --json' 'compare small.ctt s.sol small.ctt' 'week small.ctt s.sol' 'week small.ctt s.sol --course geo' \
     'page small.ctt s.sol' \
-    'run small.ctt refreshed --barred barred --journal journal' 'audit small.ctt told --start s0.sol' \
-    'journal small.ctt torn' 'list small.ctt told --start s0.sol' 'mend small.ctt mixed --barred barred' 'crew small.ctt twice' 'crew small.ctt one' 'where small.ctt 14' frobnicate; do
+    'run small.ctt refreshed --barred barred --journal journal' 'run small.ctt refreshed --blocked blocked --journal journal' 'audit small.ctt told --start s0.sol' \
+    'journal small.ctt torn' 'list small.ctt told --start s0.sol' 'mend small.ctt mixed --barred barred' 'mend small.ctt mixed --blocked blocked' 'crew small.ctt twice' 'crew small.ctt one' 'where small.ctt 14' frobnicate; do
     rm -f journal
     "$program" $words >out 2>err
     wanted=$?

@@ -89,12 +89,13 @@ Arguments:
   <SOLUTION>  The file of the solution
 
 Options:
-      --barred <FILE>  The file of the rooms that are barred for courses; without it none are
-      --json           Print the report as JSON
-      --name           Begin the JSON with the name of the solution'\''s file
-      --explain        Print after the report each thing that breaks a rule or costs points
-      --strict         End with status 4 if the solution is not lawful, 5 if it is lawful but not complete
-  -h, --help           Print help
+      --barred <FILE>   The file of the rooms that are barred for courses; without it none are
+      --blocked <FILE>  The file of the slots in which rooms, teachers and courses are blocked; without it none are
+      --json            Print the report as JSON
+      --name            Begin the JSON with the name of the solution'\''s file
+      --explain         Print after the report each thing that breaks a rule or costs points
+      --strict          End with status 4 if the solution is not lawful, 5 if it is lawful but not complete
+  -h, --help            Print help
 
 The lines of --explain, with days and periods counted from 0:
   lectures COURSE PLACED STATED
@@ -102,6 +103,7 @@ The lines of --explain, with days and periods counted from 0:
   availability COURSE DAY PERIOD
   occupancy ROOM DAY PERIOD COURSE
   barred COURSE ROOM DAY PERIOD
+  blocked COURSE ROOM DAY PERIOD
   capacity COURSE ROOM DAY PERIOD POINTS
   days COURSE DAYS MINIMUM POINTS
   compactness CURRICULUM COURSE DAY PERIOD POINTS
@@ -118,11 +120,12 @@ Arguments:
   <SOLUTION>...  The files of the solutions
 
 Options:
-      --barred <FILE>  The file of the rooms that are barred for courses; without it none are
-      --csv            Print the rows as CSV
-      --json           Print the rows as a JSON array
-      --strict         End with status 4 if a solution is not lawful, 5 if all are lawful but one is not complete
-  -h, --help           Print help
+      --barred <FILE>   The file of the rooms that are barred for courses; without it none are
+      --blocked <FILE>  The file of the slots in which rooms, teachers and courses are blocked; without it none are
+      --csv             Print the rows as CSV
+      --json            Print the rows as a JSON array
+      --strict          End with status 4 if a solution is not lawful, 5 if all are lawful but one is not complete
+  -h, --help            Print help
 
 Example: timedesk compare comp07.ctt monday.sol tuesday.sol --csv
 '
@@ -136,6 +139,7 @@ Arguments:
 
 Options:
       --barred <FILE>      The file of the rooms that are barred for courses; without it none are
+      --blocked <FILE>     The file of the slots in which rooms, teachers and courses are blocked; without it none are
       --curriculum <NAME>  The week of this curriculum alone
       --teacher <NAME>     The week of this teacher alone
       --course <NAME>      The week of this course alone; - marks a slot in which it is unavailable, ! a lecture there
@@ -153,9 +157,10 @@ Arguments:
   <SOLUTION>  The file of the solution
 
 Options:
-      --barred <FILE>  The file of the rooms that are barred for courses; without it none are
-      --days <NAMES>   The names of the days, with commas between them; a day without a name has its number
-  -h, --help           Print help
+      --barred <FILE>   The file of the rooms that are barred for courses; without it none are
+      --blocked <FILE>  The file of the slots in which rooms, teachers and courses are blocked; without it none are
+      --days <NAMES>    The names of the days, with commas between them; a day without a name has its number
+  -h, --help            Print help
 
 Example: timedesk page comp07.ctt comp07.sol >comp07.html
 '
@@ -169,6 +174,7 @@ Arguments:
 
 Options:
       --barred <FILE>     The file of the rooms that are barred for courses; without it none are
+      --blocked <FILE>    The file of the slots in which rooms, teachers and courses are blocked; without it none are
       --start <SOLUTION>  The file of the opening timetable; without it the desk opens empty
       --journal <FILE>    The file to write the accepted drafts to
   -h, --help              Print help
@@ -185,6 +191,7 @@ Arguments:
 
 Options:
       --barred <FILE>     The file of the rooms that are barred for courses; without it none are
+      --blocked <FILE>    The file of the slots in which rooms, teachers and courses are blocked; without it none are
       --start <SOLUTION>  The file of the opening timetable; without it the desk opens empty
   -h, --help              Print help
 
@@ -199,8 +206,9 @@ Arguments:
   <SCRIPT>...  The files of the planners' steps, one for each planner, at most 64
 
 Options:
-      --barred <FILE>  The file of the rooms that are barred for courses; without it none are
-  -h, --help           Print help
+      --barred <FILE>   The file of the rooms that are barred for courses; without it none are
+      --blocked <FILE>  The file of the slots in which rooms, teachers and courses are blocked; without it none are
+  -h, --help            Print help
 
 Example: timedesk crew comp07.ctt anna.txt ben.txt
 "
@@ -214,6 +222,7 @@ Arguments:
 
 Options:
       --barred <FILE>     The file of the rooms that are barred for courses; without it none are
+      --blocked <FILE>    The file of the slots in which rooms, teachers and courses are blocked; without it none are
       --start <SOLUTION>  The file of the opening timetable; without it the desk opens empty
       --minutes <FILE>    The file to write each accepted draft to before its planner is answered
   -h, --help              Print help
@@ -229,8 +238,9 @@ Arguments:
   <MINUTES>   The file of the minutes
 
 Options:
-      --barred <FILE>  The file of the rooms that are barred for courses; without it none are
-  -h, --help           Print help
+      --barred <FILE>   The file of the rooms that are barred for courses; without it none are
+      --blocked <FILE>  The file of the slots in which rooms, teachers and courses are blocked; without it none are
+  -h, --help            Print help
 
 Example: timedesk journal comp07.ctt monday.minutes >monday.journal
 '
@@ -244,6 +254,7 @@ Arguments:
 
 Options:
       --barred <FILE>     The file of the rooms that are barred for courses; without it none are
+      --blocked <FILE>    The file of the slots in which rooms, teachers and courses are blocked; without it none are
       --start <SOLUTION>  The file of the opening timetable; without it the desk opens empty
   -h, --help              Print help
 
@@ -258,8 +269,9 @@ Arguments:
   <SOLUTION>  The file of the solution
 
 Options:
-      --barred <FILE>  The file of the rooms that are barred for courses; without it none are
-  -h, --help           Print help
+      --barred <FILE>   The file of the rooms that are barred for courses; without it none are
+      --blocked <FILE>  The file of the slots in which rooms, teachers and courses are blocked; without it none are
+  -h, --help            Print help
 
 Example: timedesk mend comp07.ctt comp07.sol >mended.sol
 '
@@ -530,6 +542,26 @@ for words in 'check small.ctt nowhere' 'run small.ctt nowhere --start nowhere --
     run "barred rooms behind an instance that is refused: $words" 1 '' 'timedesk: instance I2 14
 ' ${words/small.ctt/cut.ctt} --barred none
 done
+# and the file of the closures behind that of the barred rooms, whatever the order of the options
+echo 'Barred: 0 END.' >barred
+echo 'Blocked: 1 room C 0 0 END.' >told.blocked
+for words in 'check small.ctt nowhere' 'compare small.ctt nowhere' 'week small.ctt nowhere --room C' 'page small.ctt nowhere' \
+    'run small.ctt nowhere --start nowhere --journal unwritten' 'audit small.ctt nowhere --start nowhere' 'crew small.ctt nowhere nowhere' \
+    'desk small.ctt nowhere --start nowhere --minutes unwritten' 'journal small.ctt nowhere' 'list small.ctt nowhere --start nowhere' \
+    'mend small.ctt nowhere'; do
+    # shellcheck disable=SC2086
+    run "closures that are refused: $words" 1 '' 'timedesk: blocked L6 4
+' $words --blocked told.blocked --barred barred
+    # shellcheck disable=SC2086
+    run "closures that are missing: $words" 3 '' 'timedesk: cannot read none
+' $words --blocked none
+    # shellcheck disable=SC2086
+    run "closures behind barred rooms that are refused: $words" 1 '' 'timedesk: barred B1 22
+' $words --blocked none --barred told.barred
+    # shellcheck disable=SC2086
+    run "closures behind an instance that is refused: $words" 1 '' 'timedesk: instance I2 14
+' ${words/small.ctt/cut.ctt} --blocked told.blocked
+done
 # other layouts
 sed -e 's/: 3/: 0003/' -e 's/ /\t/g' -e 's/$/\r\n/' small.ctt >told.ctt
 printf 'and more \xc3\xa4' >>told.ctt
@@ -569,6 +601,8 @@ for words in 'check small.ctt s.sol' 'run small.ctt phantom.txt' 'audit small.ct
     'desk small.ctt -' 'journal small.ctt minutes' 'list small.ctt journal' 'mend small.ctt s.sol'; do
     # shellcheck disable=SC2086
     run "barred rooms without a file: $words" 2 '' "${no_value/--journal/--barred}" $words --barred
+    # shellcheck disable=SC2086
+    run "closures without a file: $words" 2 '' "${no_value/--journal/--blocked}" $words --blocked
 done
 run 'an unknown option' 2 '' "$unknown_option" check small.ctt s.sol --xml
 run 'words that are not text' 2 '' 'timedesk: words that are not text
@@ -589,6 +623,12 @@ run 'barred rooms that are a folder' 3 '' 'timedesk: cannot read folder
 ' check small.ctt s.sol --barred folder
 run 'barred rooms that are too long' 3 '' 'timedesk: too long longer
 ' check small.ctt s.sol --barred longer
+run 'closures that are a folder' 3 '' 'timedesk: cannot read folder
+' check small.ctt s.sol --blocked folder
+run 'closures that are too long' 3 '' 'timedesk: too long longer
+' check small.ctt s.sol --blocked longer
+run 'closures without an end' 3 '' 'timedesk: too long /dev/zero
+' check small.ctt s.sol --blocked /dev/zero
 run 'an instance without an end' 3 '' 'timedesk: too long /dev/zero
 ' check /dev/zero nowhere
 run 'a solution without an end' 3 '' 'timedesk: too long /dev/zero
@@ -636,6 +676,14 @@ set aside top A 1 2 roomtaken geo
 echo 'Barred: 1 alg A END.' >barred
 mends 'a barred room' "$(tail -n 4 s.sol)"$'\n' 'set aside alg A 0 0 barred
 ' s.sol --barred barred
+echo 'Blocked: 2 room A 0 1 teacher t1 1 0 END.' >blocked
+mends 'a room and a teacher that are blocked' $'alg A 0 0\ngeo A 1 2\ntop B 0 2\n' 'set aside alg B 1 0 unavailable
+set aside geo A 0 1 blocked
+' s.sol --blocked blocked
+mends 'a barred room, and one that is blocked' $'geo A 1 2\ntop B 0 2\n' 'set aside alg A 0 0 barred
+set aside alg B 1 0 unavailable
+set aside geo A 0 1 blocked
+' s.sol --blocked blocked --barred barred
 run 'a solution to mend with a repeated lecture' 1 '' 'timedesk: solution S8 8
 ' mend small.ctt twice.sol
 run 'a solution to mend that is not UTF-8' 1 '' 'timedesk: solution S1 6
