@@ -61,7 +61,7 @@ impl BitRows {
     }
 
     /// Marks all numbers of `marks` in a row.
-    pub(crate) fn mark_all(&mut self, row: usize, marks: &Marks)
+    pub fn mark_all(&mut self, row: usize, marks: &Marks)
         requires row { row < self.old.rows }
         requires within { (n : ℕ) → self.old.width ≤ n → is_marked marks.now n ≡ false }
         ensures { AddsMarks self.old self.new (λ r n. r == row && is_marked marks.now n) }

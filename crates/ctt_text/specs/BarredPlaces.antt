@@ -1,17 +1,14 @@
 -- The form of the text of barred rooms: its places in order, each with its rule and its faults.
-use Rattle.std.specs.Prelude.{ℕ, ◌+◌, ◌*◌, List, Bool, true, false, nat_le, codes, replicate, Result}
+use Rattle.std.specs.Prelude.{ℕ, ◌+◌, ◌*◌, List, Bool, true, false, codes, replicate, Result}
 use Rattle.std.specs.List.{slice_set}
 use Rattle.ctt_text.specs.declared.fault.BarredFault.{BarredFault}
 use Rattle.ctt_text.specs.declared.fault.BarredFault.TheVariants.{Missing, Expected, BadNumber, TooLarge, UnknownCourse, UnknownRoom, NoMemory}
 use Rattle.ctt_text.specs.Left.{Left}
-use Rattle.ctt_text.specs.Forms.{Form, done, ◌>>=◌, times}
-use Rattle.ctt_text.specs.Places.{fixed, number_if, known_name, after}
+use Rattle.ctt_text.specs.Forms.{Form, done, ◌>>=◌}
+use Rattle.ctt_text.specs.Places.{known_name}
+use Rattle.ctt_text.specs.SideFile.{side_file}
 use Rattle.ctt_problem.specs.Problem.{Problem, course_count, room_count}
 use Rattle.ctt_text.specs.Reading.{Gives, reading}
-
--- the number of pairs, up to a limit
-unfoldable pub pair_count : ℕ → Form BarredFault ℕ
-pair_count greatest = number_if BadNumber (λ n. nat_le n greatest) TooLarge
 
 -- a course and a room that is barred for it, marked in addition to the pairs so far
 unfoldable pub barred_pair : Problem → List Bool → Form BarredFault (List Bool)
@@ -26,11 +23,7 @@ none_barred i = replicate (course_count i * room_count i) false
 
 -- the whole text, which gives for each course in turn, and each room in turn, whether it is barred
 unfoldable pub barred_rooms : Problem → Form BarredFault (List Bool)
-barred_rooms i = do
-  count ← after Expected (codes "Barred:") (pair_count 2000000)
-  table ← times (barred_pair i) count (none_barred i)
-  end ← fixed Expected (codes "END.")
-  done table
+barred_rooms i = side_file Expected BadNumber TooLarge (codes "Barred:") (barred_pair i) (none_barred i)
 
 -- the fault of a missing word
 abbrev pub ends_early : ℕ → BarredFault

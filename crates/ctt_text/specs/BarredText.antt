@@ -1,11 +1,12 @@
 -- How barred rooms are spelled: a relation between the whole list of words and the marks of the pairs.
-use Rattle.std.specs.Prelude.{◌≡◌, ◌<◌, ℕ, ◌*◌, List, [], ◌∷◌, ◌++◌, flat_map, length, Bool, true, ◌==◌, ◌&&◌, codes}
+use Rattle.std.specs.Prelude.{◌≡◌, ◌<◌, ℕ, ◌*◌, List, [], ◌∷◌, ◌++◌, length, Bool, true, ◌==◌, ◌&&◌, codes}
 use Rattle.std.specs.List.{list_any, AllByRecursion as Each}
 use Rattle.ctt_text.specs.declared.fault.BarredFault.{BarredFault}
 use Rattle.ctt_text.specs.Numbers.{value}
 use Rattle.ctt_problem.specs.Problem.{Problem, course_count, room_count, is_among, place_of, is_barred}
 use Rattle.ctt_text.specs.Forms.{BreaksAt}
 use Rattle.ctt_text.specs.InstanceText.{IsUpTo}
+use Rattle.ctt_text.specs.SideFile.{spelled_entries}
 use Rattle.ctt_text.specs.BarredPlaces.{barred_rooms, ends_early}
 
 -- the words of a pair
@@ -19,7 +20,7 @@ spelled_barred w = w.course ∷ w.room ∷ []
 
 -- the whole text: the number of pairs, the pairs, and the final word
 abbrev pub spelled_pairs : List ℕ → List BarredWords → List (List ℕ)
-spelled_pairs count given = codes "Barred:" ∷ count ∷ flat_map spelled_barred given ++ codes "END." ∷ []
+spelled_pairs count given = spelled_entries (codes "Barred:") spelled_barred count given
 
 -- the pair names a known course and a known room
 abbrev pub IsBarredPair : Problem → BarredWords → Type 0

@@ -2,6 +2,8 @@
 use Rattle.std.specs.Prelude.{ℕ, List, codes}
 use Rattle.ctt_text.specs.declared.fault.BarredFault.{BarredFault}
 use Rattle.ctt_text.specs.declared.fault.BarredFault.TheVariants as barred
+use Rattle.ctt_text.specs.declared.fault.BlockedFault.{BlockedFault}
+use Rattle.ctt_text.specs.declared.fault.BlockedFault.TheVariants as blocked
 use Rattle.ctt_text.specs.declared.fault.ReadFault.{ReadFault}
 use Rattle.ctt_text.specs.declared.fault.ReadFault.TheVariants as instance
 use Rattle.ctt_text.specs.declared.fault.SolutionFault.{SolutionFault}
@@ -78,3 +80,27 @@ barred_at (barred.TooLarge at) = at
 barred_at (barred.UnknownCourse at) = at
 barred_at (barred.UnknownRoom at) = at
 barred_at barred.NoMemory = 0
+
+-- the code of a fault of closures
+abbrev pub blocked_code : BlockedFault → List ℕ
+blocked_code (blocked.NotText at) = codes "L1"
+blocked_code (blocked.Missing at) = codes "L2"
+blocked_code (blocked.Expected at) = codes "L3"
+blocked_code (blocked.BadNumber at) = codes "L4"
+blocked_code (blocked.TooLarge at) = codes "L5"
+blocked_code (blocked.UnknownName at) = codes "L6"
+blocked_code (blocked.DayOut at) = codes "L7"
+blocked_code (blocked.PeriodOut at) = codes "L8"
+blocked_code blocked.NoMemory = codes "memory"
+
+-- the number that a fault of closures carries
+abbrev pub blocked_at : BlockedFault → ℕ
+blocked_at (blocked.NotText at) = at
+blocked_at (blocked.Missing at) = at
+blocked_at (blocked.Expected at) = at
+blocked_at (blocked.BadNumber at) = at
+blocked_at (blocked.TooLarge at) = at
+blocked_at (blocked.UnknownName at) = at
+blocked_at (blocked.DayOut at) = at
+blocked_at (blocked.PeriodOut at) = at
+blocked_at blocked.NoMemory = 0

@@ -135,7 +135,9 @@ problem_of head courses rooms curricula unavailable = record {
   days = head.days;
   periods = head.periods;
   unavailable = unavailable;
+  closed = replicate (length courses.facts * (head.days * head.periods)) false;
   barred = replicate (length courses.facts * length rooms.capacities) false;
+  blocked = replicate (length rooms.capacities * (head.days * head.periods)) false;
 }
 
 unfoldable pub instance : Form ReadFault Problem

@@ -173,8 +173,12 @@ pub record SaysInstance (g : Given) (i : Problem) : Type 0 where
   pub marks : length i.unavailable ≡ length i.courses * (i.days * i.periods)
   -- exactly in the listed pairs
   pub unavailable : (c s : ℕ) → c < length i.courses → s < i.days * i.periods → is_unavailable i c s ≡ list_any (is_listed i.course_names i.periods c s) g.pairs
+  -- nothing is closed: another text closes slots
+  pub closed : i.closed ≡ replicate (length i.courses * (i.days * i.periods)) false
   -- no room is barred: another text bars rooms
   pub barred : i.barred ≡ replicate (length i.courses * length i.capacities) false
+  -- no room is blocked: the text that closes slots blocks rooms
+  pub blocked : i.blocked ≡ replicate (length i.capacities * (i.days * i.periods)) false
 
 -- The words begin with words that obey the rules and describe the instance; words after them are
 -- ignored.

@@ -1,5 +1,5 @@
 -- The kinds of places in a text: the rule of one word, and the value that the word gives.
-use Rattle.std.specs.Prelude.{ℕ, List, Bool, Option, Some, None, if◌then◌else◌}
+use Rattle.std.specs.Prelude.{ℕ, List, Bool, Option, Some, None, nat_le, if◌then◌else◌, codes}
 use Rattle.std.specs.Str.{bytes_eq}
 use Rattle.ctt_text.specs.Numbers.{is_number, value, number_of}
 use Rattle.ctt_problem.specs.Problem.{is_among, number_in}
@@ -43,6 +43,30 @@ number bad = known bad number_of 0
 
 unfoldable pub number_if : {F : Type 0} → (ℕ → F) → (ℕ → Bool) → (ℕ → F) → Form F ℕ
 number_if bad test fault = one (passing_number bad test fault) value
+
+-- a number of at most `greatest`
+unfoldable pub number_at_most : {F : Type 0} → (ℕ → F) → ℕ → (ℕ → F) → Form F ℕ
+number_at_most bad greatest fault = number_if bad (λ n. nat_le n greatest) fault
+
+-- whether the word is `*`, which stands for all
+abbrev pub is_all : List ℕ → Bool
+is_all word = bytes_eq word (codes "*")
+
+-- a number, or None for `*`
+abbrev pub number_or_all : List ℕ → Option (Option ℕ)
+number_or_all word = if is_number word then Some (Some (value word)) else (if is_all word then Some None else None)
+
+-- the rule of a number that passes the test, or `*`
+abbrev pub passing_choice : {F : Type 0} → (ℕ → F) → (ℕ → Bool) → (ℕ → F) → Rule F
+passing_choice bad test fault word = if is_number word then (if test (value word) then None else Some fault) else (if is_all word then None else Some bad)
+
+-- `*`, or a number
+unfoldable pub choice : {F : Type 0} → (ℕ → F) → Form F (Option ℕ)
+choice bad = known bad number_or_all None
+
+-- `*`, or a number that passes the test
+unfoldable pub choice_if : {F : Type 0} → (ℕ → F) → (ℕ → Bool) → (ℕ → F) → Form F (Option ℕ)
+choice_if bad test fault = one (passing_choice bad test fault) number_of
 
 unfoldable pub new_name : {F : Type 0} → (ℕ → F) → List (List ℕ) → Form F (List ℕ)
 new_name fault names = one (λ word. if is_among names word then Some fault else None) (λ word. word)

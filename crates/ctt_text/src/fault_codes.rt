@@ -1,9 +1,9 @@
 //! The codes of faults, as the documents have them.
 
 ghost use Rattle.std.specs.Prelude.{◌≡◌};
-ghost use Rattle.ctt_text.specs.FaultCodes.{barred_at, barred_code, instance_at, instance_code, solution_at, solution_code};
+ghost use Rattle.ctt_text.specs.FaultCodes.{barred_at, barred_code, blocked_at, blocked_code, instance_at, instance_code, solution_at, solution_code};
 
-use crate::fault::{BarredFault, ReadFault, SolutionFault};
+use crate::fault::{BarredFault, BlockedFault, ReadFault, SolutionFault};
 
 impl ReadFault {
     /// Returns the code of the fault. Running out of memory has none of its own, and gives
@@ -112,6 +112,43 @@ impl BarredFault {
             | BarredFault::UnknownCourse(at)
             | BarredFault::UnknownRoom(at) => *at,
             BarredFault::NoMemory => 0,
+        }
+    }
+}
+
+impl BlockedFault {
+    /// Returns the code of the fault. Running out of memory has none of its own, and gives
+    /// `memory`.
+    pub fn code(&self) -> &'static str
+        ensures { result.now ≡ blocked_code self.now }
+    {
+        match self {
+            BlockedFault::NotText(_) => "L1",
+            BlockedFault::Missing(_) => "L2",
+            BlockedFault::Expected(_) => "L3",
+            BlockedFault::BadNumber(_) => "L4",
+            BlockedFault::TooLarge(_) => "L5",
+            BlockedFault::UnknownName(_) => "L6",
+            BlockedFault::DayOut(_) => "L7",
+            BlockedFault::PeriodOut(_) => "L8",
+            BlockedFault::NoMemory => "memory",
+        }
+    }
+
+    /// Returns the number of the word, or of the bytes that are valid. It is 0 if memory ran out.
+    pub fn at(&self) -> u64
+        ensures { result ≡ blocked_at self.now }
+    {
+        match self {
+            BlockedFault::NotText(at)
+            | BlockedFault::Missing(at)
+            | BlockedFault::Expected(at)
+            | BlockedFault::BadNumber(at)
+            | BlockedFault::TooLarge(at)
+            | BlockedFault::UnknownName(at)
+            | BlockedFault::DayOut(at)
+            | BlockedFault::PeriodOut(at) => *at,
+            BlockedFault::NoMemory => 0,
         }
     }
 }

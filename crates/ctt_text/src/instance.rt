@@ -1,6 +1,8 @@
-//! The text formats of instances and barred rooms.
+//! The text formats of instances, barred rooms and closures.
 
 mod barred;
+mod blocked;
+mod closing;
 mod courses;
 mod curricula;
 mod header;
@@ -11,4 +13,5 @@ mod rooms;
 mod unavailability;
 
 pub use barred::read_barred;
+pub use blocked::read_blocked;
 pub use read::read_instance;

@@ -1,8 +1,9 @@
-//! Laws of the texts of instances, solutions and barred rooms, each stated as the contract of a
-//! function that computes nothing.
+//! Laws of the texts of instances, solutions, barred rooms and closures, each stated as the contract
+//! of a function that computes nothing.
 
 ghost use Rattle.ctt_text.specs.InstanceLaws.{ReadsWhatIsSpelled, SpellsOne, FailsWhereBroken, BreaksOnce, SpellsOrBreaks, SpelledIsProblem, SpelledIsNamed};
 ghost use Rattle.ctt_text.specs.BarredLaws.{ReadsBarred, SpellsOneBarred, BarredFailsWhereBroken, BarredBreaksOnce, BarredSpellsOrBreaks};
+ghost use Rattle.ctt_text.specs.BlockedLaws.{ReadsBlocked, SpellsOneBlocked, BlockedFailsWhereBroken, BlockedBreaksOnce, BlockedSpellsOrBreaks};
 ghost use Rattle.ctt_text.specs.SolutionLaws.{ReadsSolutions, SpellsOneTimetable, SolutionFailsWhereBroken, SolutionBreaksOnce, SolutionSpellsOrBreaks, SpelledIsTimetable, WrittenSpells};
 
 /// States that parsing returns an instance if and only if the words spell it.
@@ -101,4 +102,31 @@ pub fn barred_breaks_once()
 /// States that words either spell a table of barred rooms or break the form, and never both.
 pub fn barred_spells_or_breaks()
     ensures { BarredSpellsOrBreaks }
+{}
+
+/// States that parsing returns two tables, of what is closed for courses and for rooms, if and only
+/// if the words spell them.
+pub fn reads_blocked()
+    ensures { ReadsBlocked }
+{}
+
+/// States that words spell at most one pair of tables of closures.
+pub fn spells_one_blocked()
+    ensures { SpellsOneBlocked }
+{}
+
+/// States that parsing closures fails with a fault if and only if the words break the form at some
+/// place with that fault.
+pub fn blocked_fails_where_broken()
+    ensures { BlockedFailsWhereBroken }
+{}
+
+/// States that words break the form of closures at most at one place, with one fault.
+pub fn blocked_breaks_once()
+    ensures { BlockedBreaksOnce }
+{}
+
+/// States that words either spell two tables of closures or break the form, and never both.
+pub fn blocked_spells_or_breaks()
+    ensures { BlockedSpellsOrBreaks }
 {}

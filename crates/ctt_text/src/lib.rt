@@ -1,4 +1,5 @@
-//! The text formats of curriculum-based course timetabling: instances, solutions and barred rooms.
+//! The text formats of curriculum-based course timetabling: instances, solutions, barred rooms and
+//! closures.
 #![tactic(auto)]
 
 mod fault;
@@ -6,6 +7,7 @@ mod fault_codes;
 mod instance;
 pub mod laws;
 mod numbers;
+mod place_faults;
 mod places;
 mod reader;
 mod solution;
@@ -15,8 +17,8 @@ pub use ctt_problem::{
     BitRows, Compact, CourseFacts, CourseNo, CurriculumNo, Instance, Marks, NoMemory, Placed,
     RoomNo, SlotNo, TeacherNo, add_to, empty_lists, is_before, is_timetable, let_go,
 };
-pub use fault::{BarredFault, ReadFault, SolutionFault};
-pub use instance::{read_barred, read_instance};
+pub use fault::{BarredFault, BlockedFault, ReadFault, SolutionFault};
+pub use instance::{read_barred, read_blocked, read_instance};
 pub use numbers::number;
 pub use places::{
     FixedFault, PlaceFault, RoomFault, SlotFault, next_course, next_fixed, next_number, next_room,

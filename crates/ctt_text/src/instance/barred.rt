@@ -8,32 +8,17 @@ ghost use Rattle.ctt_text.specs.Forms.{times};
 ghost use Rattle.ctt_text.specs.Reading.{Gives};
 ghost use Rattle.ctt_problem.specs.Problem.{course_count, room_count};
 ghost use Rattle.ctt_problem.specs.BitRows.{marks_of, HasSize};
-ghost use Rattle.ctt_text.specs.BarredPlaces.{GivesBarred, reads_barred, wants_memory, pair_count, barred_pair, none_barred, barred_rooms};
+ghost use Rattle.ctt_text.specs.BarredPlaces.{GivesBarred, reads_barred, wants_memory, barred_pair, none_barred, barred_rooms};
 ghost use Rattle.ctt_text.specs.BarredText.{BarSpells, BarBreaksAt};
 ghost use Rattle.ctt_text.specs.BarredLaws.{barred_answer, IsBarredCauseOf};
 ghost use Rattle.ctt_text.specs.declared.fault.BarredFault.{BarredFault};
 ghost use Rattle.ctt_text.specs.declared.fault.BarredFault.TheVariants.{NotText, NoMemory};
 
 use crate::fault::BarredFault;
-use crate::places::{next_course, next_fixed, next_number, next_room};
+use crate::places::{next_count, next_course, next_fixed, next_room};
 use crate::reader::Reader;
 use ctt_problem::{BitRows, Instance};
 use std::alloc::Global;
-
-/// Parses the number of pairs, at most `greatest`.
-#[tactic(auto, using(crate::proofs::Steps::read_number_if), unfolding(crate::specs::BarredPlaces::pair_count))]
-fn read_count(reader: &mut Reader, greatest: u32) -> Result<u32, BarredFault>
-    ensures { GivesBarred (λ number. (number, reader.new)) result
-        (reads_barred (pair_count greatest) reader.old) }
-{
-    let at = reader.next();
-    let number = next_number::<BarredFault>(reader)?;
-    if number <= greatest {
-        Ok(number)
-    } else {
-        Err(BarredFault::TooLarge(at))
-    }
-}
 
 /// Parses one pair, and marks it in the table.
 #[tactic(auto, using(crate::proofs::Steps::read_bind, crate::proofs::Steps::read_done, ctt_problem::proofs::BitRowLemmas::marks_set), unfolding(crate::specs::BarredPlaces::barred_pair))]
@@ -95,7 +80,7 @@ fn read_table(
 }
 
 /// Parses the whole text, up to `END.`.
-#[tactic(auto, using(crate::proofs::Steps::read_bind, crate::proofs::Steps::read_done), unfolding(crate::specs::BarredPlaces::barred_rooms))]
+#[tactic(auto, using(crate::proofs::Steps::read_bind, crate::proofs::Steps::read_done), unfolding(crate::specs::BarredPlaces::barred_rooms, crate::specs::SideFile::side_file))]
 fn read_rooms(
     alloc: Global,
     reader: &mut Reader,
@@ -106,8 +91,7 @@ fn read_rooms(
     ensures exact { GivesBarred
         (λ table. (marks_of table, reader.new)) result (reads_barred (barred_rooms instance.now) reader.old) }
 {
-    next_fixed::<BarredFault>(reader, "Barred:")?;
-    let count = read_count(reader, 2_000_000)?;
+    let count = next_count::<BarredFault>(reader, "Barred:", 2_000_000)?;
     let table = read_table(alloc, reader, instance, count)?;
     next_fixed::<BarredFault>(reader, "END.")?;
     Ok(table)

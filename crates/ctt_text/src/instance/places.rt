@@ -7,7 +7,9 @@ ghost use Rattle.ctt_text.specs.InstancePlaces.{GivesRead, reads, number_up_to, 
 ghost use Rattle.ctt_text.specs.declared.fault.ReadFault.TheVariants.{Expected, BadNumber, RepeatedName, UnknownCourse};
 
 use crate::fault::ReadFault;
-use crate::places::{next_day_below, next_fixed, next_number, next_period_below, next_word};
+use crate::places::{
+    next_day_below, next_fixed, next_number, next_number_at_most, next_period_below, next_word,
+};
 use crate::reader::Reader;
 use ctt_problem::Names;
 
@@ -66,19 +68,13 @@ pub(crate) fn read_course(reader: &mut Reader, courses: &Names) -> Result<usize,
 }
 
 /// Parses a number of at most `greatest`.
-#[tactic(auto, using(crate::proofs::Steps::read_number_if), unfolding(crate::specs::InstancePlaces::number_up_to))]
+#[tactic(auto, unfolding(crate::specs::InstancePlaces::number_up_to, crate::specs::Places::number_at_most))]
 pub(crate) fn read_number_up_to(reader: &mut Reader, greatest: u32) -> Result<u32, ReadFault>
     ensures limit { IfOk result (λ number. number ≤ greatest) }
     ensures exact { GivesRead (λ number. (number, reader.new)) result
         (reads (number_up_to greatest) reader.old) }
 {
-    let at = reader.next();
-    let number = read_number(reader)?;
-    if number <= greatest {
-        Ok(number)
-    } else {
-        Err(ReadFault::TooLarge(at))
-    }
+    next_number_at_most(reader, greatest)
 }
 
 /// Parses the number of periods per day: at most 2,000, with at most 2,000 slots in all.
