@@ -41,6 +41,12 @@ const FILES: &[(&str, &str)] = &[
     ("word.sol", "alg A 0 0\nalg B one 0\n"),
     ("ok.barred", "Barred: 1\ntop A\nEND.\n"),
     ("room.barred", "Barred: 1\ntop C\nEND.\n"),
+    (
+        "ok.blocked",
+        "Blocked: 2\nroom A 0 0\nteacher t1 1 *\nEND.\n",
+    ),
+    ("room.blocked", "Blocked: 1\nroom C x 9\nEND.\n"),
+    ("no.blocked", "Blocked: 0\nEND.\n"),
     ("script", "1 open\n1 place top B 0 2\n1 commit\n"),
     (
         "agrees.journal",

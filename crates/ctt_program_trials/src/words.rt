@@ -11,13 +11,14 @@ fn is_run(job: &Job) -> bool {
     match job {
         Job::Run {
             instance,
-            barred,
+            sides,
             script,
             start,
             journal,
         } => {
             instance.as_str() == "small.ctt"
-                && barred.is_none()
+                && sides.barred.is_none()
+                && sides.blocked.is_none()
                 && script.as_str() == "row9.txt"
                 && start.is_none()
                 && journal.is_none()

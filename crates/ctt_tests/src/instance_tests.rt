@@ -69,7 +69,9 @@ fn same_curriculum(one: &Instance, other: &Instance, curriculum: CurriculumNo) -
 
 /// Returns whether two instances are the same.
 fn are_same(one: &Instance, other: &Instance) -> bool {
-    let mut are_same = same_counts(one, other) && one.has_barred() == other.has_barred();
+    let mut are_same = same_counts(one, other)
+        && one.has_barred() == other.has_barred()
+        && one.has_blocked() == other.has_blocked();
     for course in 0..one.courses() {
         let course = CourseNo::new(course);
         are_same = are_same && same_course(one, other, course) && same_slots(one, other, course);

@@ -50,6 +50,8 @@ pub(crate) enum On {
     LongDraft,
     /// Record which changes a sheet accepts.
     Accepted,
+    /// Record which changes a sheet accepts where a room and a course are blocked.
+    AcceptedBlocked,
     /// Send its lines as events, one by one.
     Step,
     /// Send its lines as events, all at once.
@@ -112,7 +114,9 @@ fn play_plain(script: &Script, story: &mut Story, plain: &Plain) {
 /// Runs a case on sheets of one kind.
 fn play_on<'i, S: Sheet<'i>>(script: &Script<'i>, story: &mut Story, on: &On) {
     match on {
-        On::Lines | On::Placement | On::Accepted => sheets::play::<S>(script, story, on),
+        On::Lines | On::Placement | On::Accepted | On::AcceptedBlocked => {
+            sheets::play::<S>(script, story, on);
+        }
         On::Draft | On::LongDraft => drafts::play::<S>(script, story, on),
         On::Step | On::Run => desks::play::<S>(script, story, on),
         On::Audit | On::Left => {

@@ -5,6 +5,7 @@
 #![tactic(auto)]
 
 mod barred;
+mod blocked;
 mod cases;
 mod desks;
 mod drafts;
@@ -46,6 +47,7 @@ fn play<R: Wait>(story: &mut Story, rt: &R) {
             play_cases(story, rt, &small, refusing_desks());
             play_cases(story, rt, &small, of_texts());
             play_cases(story, rt, &small, on_shared_desks());
+            blocked::play(story, rt, &mut small);
             barred::play(story, rt, &mut small);
             let_go(small);
         }

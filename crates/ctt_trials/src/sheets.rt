@@ -125,13 +125,21 @@ fn place_geo<'i, S: Sheet<'i>>(story: &mut Story, sheet: &mut S) {
     }
 }
 
-/// Returns a cell in which a lecture is added in room A, or removed.
-fn cell(course: u16, slot: u16, is_added: bool) -> Cell {
-    let room = if is_added { Some(RoomNo::new(0)) } else { None };
+/// Returns a cell in which a lecture is added in a room.
+fn added(course: u16, slot: u16, room: u16) -> Cell {
     Cell {
         course: CourseNo::new(course),
         slot: SlotNo::new(slot),
-        room,
+        room: Some(RoomNo::new(room)),
+    }
+}
+
+/// Returns a cell in which a lecture is removed.
+fn removed(course: u16, slot: u16) -> Cell {
+    Cell {
+        course: CourseNo::new(course),
+        slot: SlotNo::new(slot),
+        room: None,
     }
 }
 
@@ -146,9 +154,20 @@ fn tell_accepted<'i, S: Sheet<'i>>(story: &mut Story, sheet: &S, cells: &[Cell])
 /// Records whether a sheet accepts a third course in a room that is taken, the removal of a
 /// lecture, and an unknown course.
 fn tell_all_accepted<'i, S: Sheet<'i>>(story: &mut Story, sheet: &S) {
-    tell_accepted(story, sheet, &[cell(2, 1, true)]);
-    tell_accepted(story, sheet, &[cell(1, 5, false)]);
-    tell_accepted(story, sheet, &[cell(3, 1, true)]);
+    tell_accepted(story, sheet, &[added(2, 1, 0)]);
+    tell_accepted(story, sheet, &[removed(1, 5)]);
+    tell_accepted(story, sheet, &[added(3, 1, 0)]);
+}
+
+/// Records whether a sheet accepts lectures in a blocked room, beside it, and of a course that is
+/// closed; a lecture that goes into a blocked room, stays, and leaves.
+fn tell_all_blocked<'i, S: Sheet<'i>>(story: &mut Story, sheet: &S) {
+    tell_accepted(story, sheet, &[added(2, 1, 1)]);
+    tell_accepted(story, sheet, &[added(2, 2, 1)]);
+    tell_accepted(story, sheet, &[added(2, 4, 1)]);
+    tell_accepted(story, sheet, &[removed(1, 1), added(1, 1, 1)]);
+    tell_accepted(story, sheet, &[removed(1, 1), added(1, 1, 0)]);
+    tell_accepted(story, sheet, &[removed(1, 1)]);
 }
 
 /// Returns a sheet with these lectures.
@@ -192,6 +211,7 @@ pub(crate) fn play<'i, S: Sheet<'i>>(script: &Script<'i>, story: &mut Story, on:
         Ok(mut sheet) => match on {
             On::Placement => place_geo(story, &mut sheet),
             On::Accepted => tell_all_accepted(story, &sheet),
+            On::AcceptedBlocked => tell_all_blocked(story, &sheet),
             _ => answer_lines(script, story, &mut sheet),
         },
         Err(_fault) => story.no_memory(),

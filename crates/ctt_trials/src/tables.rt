@@ -1,5 +1,6 @@
 //! The tables of all cases.
 
+use crate::blocked::{BLOCKED_PATTERNS, BLOCKED_ROOM};
 use crate::cases::{Case, On, Plain, Play, Told, Way};
 use crate::texts::{CLASH, JOURNAL, NOTHING, SOLUTION, TOP, WITHOUT_TOP};
 use crate::worked::*;
@@ -51,6 +52,12 @@ const PLACEMENT: &[Play] = plays![
 const ACCEPTED: &[Play] = plays![
     Way::List(On::Accepted) => "",
     Way::Grid(On::Accepted) => "on the grid sheet",
+];
+
+/// Accepted changes on both kinds of sheets, where a room and a course are blocked.
+const ACCEPTED_BLOCKED: &[Play] = plays![
+    Way::List(On::AcceptedBlocked) => "",
+    Way::Grid(On::AcceptedBlocked) => "on the grid sheet",
 ];
 
 /// An input that is read whole.
@@ -235,6 +242,34 @@ pub(crate) const BARRED: &[Case] = &[
 /// Cases while room A is barred for alg.
 pub(crate) const OTHER_BARRED: &[Case] = &[case!("", SOLUTION, "", REPORTS_ALONE)];
 
+/// Cases while room B is blocked in the second period of the first day, and top in that of the
+/// second.
+const BLOCKED: &[Case] = &[
+    case!(
+        "changes beside what is blocked",
+        WITHOUT_TOP,
+        "",
+        ACCEPTED_BLOCKED
+    ),
+    case!(
+        "patterns beside what is blocked",
+        WITHOUT_TOP,
+        BLOCKED_PATTERNS,
+        LINES
+    ),
+    case!("a blocked room", WITHOUT_TOP, BLOCKED_ROOM, DESK),
+];
+
+/// Cases while a room, a teacher and a course are blocked where the solution has lectures.
+const CLOSED: &[Case] = &[
+    case!("", SOLUTION, "", REPORTS_ALONE),
+    case!("an opening that is blocked", SOLUTION, JOURNAL, LEFT),
+    case!("an old journal and closures", NOTHING, TOP_JOURNAL, AUDIT),
+];
+
+/// Cases while rooms are blocked in slots of which lectures go through in a swap.
+const SWAPPED: &[Case] = &[case!("a swap beside what is blocked", SOLUTION, SWAP, LINES)];
+
 // A use of a constant costs more the longer the constant is, so each table has a function that
 // names it only once.
 
@@ -266,4 +301,19 @@ pub(crate) fn on_shared_desks() -> &'static [Case] {
 /// Returns the cases with journals, and with answers that cannot be flushed.
 pub(crate) fn of_texts() -> &'static [Case] {
     TEXTS
+}
+
+/// Returns the cases with a blocked room and a course that is closed.
+pub(crate) fn blocked() -> &'static [Case] {
+    BLOCKED
+}
+
+/// Returns the cases with lectures where rooms, teachers and courses are blocked.
+pub(crate) fn closed() -> &'static [Case] {
+    CLOSED
+}
+
+/// Returns the cases of swaps past blocked rooms.
+pub(crate) fn swapped() -> &'static [Case] {
+    SWAPPED
 }
