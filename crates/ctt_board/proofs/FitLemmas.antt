@@ -3,7 +3,7 @@ use Rattle.std.proofs.Common.{◌≡◌, ℕ, ◌+◌, ◌<◌, Bool, true, fals
 use Rattle.std.specs.List.{filter, find, AllByRecursion as Each}
 use Rattle.std.proofs.lemmas.Bool.{cases_Bool, and_parts, eq-eqb, lt-ltb, ltb-true}
 use Rattle.ctt_problem.specs.Lists.{Pairwise}
-use Rattle.ctt_problem.specs.Problem.{Problem, course_of, course_count, slot_count, room_count, clash, is_unavailable, is_barred}
+use Rattle.ctt_problem.specs.Problem.{Problem, course_of, course_count, slot_count, room_count, clash, is_unavailable, is_barred, is_blocked}
 use Rattle.ctt_problem.specs.Timetable.{before, Fits, course_row, slot_row, with, without}
 use Rattle.ctt_problem.specs.declared.placed.Placed.{Placed}
 use Rattle.ctt_problem.proofs.TimetableLemmas.{Each-map}
@@ -67,13 +67,14 @@ module _ (i : Problem) (t : List Placed) (l : Placed) where
         let both = and_parts (is_wanted i t l) (is_unhindered i t l) (and_parts (is_known i l) (is_wanted i t l && is_unhindered i t l) told).1 in
         let wanted = and_parts (is_none (room_at l.course l.slot t)) (ltb (length (course_row l.course t)) (course_of i l.course).lectures && is_allowed i l) both.0 in
         let room = and_parts (ltb (length (course_row l.course t)) (course_of i l.course).lectures) (is_allowed i l) wanted.1 in
-        let allowed = and_parts (not (is_unavailable i l.course l.slot)) (not (is_barred i l.course l.room)) room.1 in
+        let allowed = and_parts (not (is_unavailable i l.course l.slot)) (not (is_barred i l.course l.room) && not (is_blocked i l.room l.slot)) room.1 in
+        let usable = and_parts (not (is_barred i l.course l.room)) (not (is_blocked i l.room l.slot)) allowed.1 in
         let alone = and_parts (is_none (clash_at i l.course l.slot t)) (is_none (holder_at l.slot l.room t)) both.1 in
         record {
           empty = not_some (room_at l.course l.slot t) wanted.0;
           absent = find_none (λ (y : Placed). y.slot == l.slot) (course_row l.course t) (no_lecture (find (λ (y : Placed). y.slot == l.slot) (course_row l.course t)) wanted.0);
           fewer = ltb-true (length (course_row l.course t)) (course_of i l.course).lectures room.0;
-          allowed = (not_true (is_unavailable i l.course l.slot) allowed.0, not_true (is_barred i l.course l.room) allowed.1);
+          allowed = (not_true (is_unavailable i l.course l.slot) allowed.0, not_true (is_barred i l.course l.room) usable.0, not_true (is_blocked i l.room l.slot) usable.1);
           no_clash = find_none (λ (y : Placed). clash i l.course y.course) (slot_row l.slot t) (no_named (find (λ (y : Placed). clash i l.course y.course) (slot_row l.slot t)) alone.0);
           room_free = find_none (λ (y : Placed). y.room == l.room) (slot_row l.slot t) (no_named (find (λ (y : Placed). y.room == l.room) (slot_row l.slot t)) alone.1);
         }
@@ -88,7 +89,7 @@ module _ (i : Problem) (t : List Placed) (l : Placed) where
         let own : length (course_row l.course (with l t)) ≡ 1 + length (course_row l.course t) = one_in_row l t (with l t) l.course (more_with l t) ∙ ap (λ b. cond {A = ℕ} b 1 0 + length (course_row l.course t)) (eq-eqb l.course l.course refl) in
         let fewer : length (course_row l.course t) < (course_of i l.course).lectures = omega (arith, own, lawful.few l.course) in
         let allowed : IsAllowed i l = put_has (IsAllowed i) l t lawful.allowed in
-        rw (is_not_some (room_at l.course l.slot t) empty, lt-ltb (length (course_row l.course t)) (course_of i l.course).lectures fewer, allowed.0, allowed.1) refl
+        rw (is_not_some (room_at l.course l.slot t) empty, lt-ltb (length (course_row l.course t)) (course_of i l.course).lectures fewer, allowed.0, allowed.1, allowed.2) refl
 
     turned : (a b : Placed) → conflicts i a b ≡ false → conflicts i b a ≡ false
     turned a b h = ap₂ (λ x y. x && y) (eqb_comm b.slot a.slot) (clash_comm i b.course a.course) ∙ h

@@ -3,7 +3,7 @@ use Rattle.std.proofs.Common.{◌≡◌, ℕ, ℤ, Bool, true, false, leb, ◌==
 use Rattle.std.specs.List.{find}
 use Rattle.std.specs.Option.{option_map}
 use Rattle.std.proofs.lemmas.Bool.{leb-false}
-use Rattle.ctt_problem.specs.Problem.{Problem, course_of, clash, is_unavailable, is_barred}
+use Rattle.ctt_problem.specs.Problem.{Problem, course_of, clash, is_unavailable, is_barred, is_blocked}
 use Rattle.ctt_problem.specs.Timetable.{course_row, slot_row}
 use Rattle.ctt_problem.specs.declared.placed.Placed.{Placed}
 use Rattle.ctt_board.specs.Changes.{room_of, room_at}
@@ -13,7 +13,7 @@ use Rattle.ctt_board.proofs.LawfulLemmas.{Free}
 use Rattle.ctt_edits.specs.Edits.{or_else, fault_if, fault_alone, first_course, try_fault, checked_by}
 use Rattle.ctt_edits.specs.Looks.{priced_by}
 use Rattle.ctt_edits.specs.declared.fault.EditFault.{EditFault}
-use Rattle.ctt_edits.specs.declared.fault.EditFault.TheVariants.{AlreadyThere, CourseFull, Unavailable, Barred, Clash, RoomTaken}
+use Rattle.ctt_edits.specs.declared.fault.EditFault.TheVariants.{AlreadyThere, CourseFull, Unavailable, Barred, Blocked, Clash, RoomTaken}
 
 pub no_fault : (o : Option EditFault) → is_some o ≡ false → o ≡ None
 no_fault None h = refl
@@ -42,13 +42,14 @@ free i t c s r e =
     let e2 = or_else_none full rest2 e1.1 in
     let e3 = or_else_none closed rest3 e2.1 in
     let e4 = or_else_none clashes taken e3.1 in
-    let own = or_else_none (fault_if (is_unavailable i c s) Unavailable) (fault_if (is_barred i c r) Barred) e3.0 in
+    let own = or_else_none (fault_if (is_unavailable i c s) Unavailable) unusable e3.0 in
+    let room = or_else_none (fault_if (is_barred i c r) Barred) (fault_if (is_blocked i r s) Blocked) own.1 in
     let empty : is_some (room_at c s t) ≡ false = fault_if_none (is_some (room_at c s t)) AlreadyThere e1.0 in
     record {
       empty = empty;
       absent = find_none (λ (l : Placed). l.slot == s) (course_row c t) (no_room (find (λ (l : Placed). l.slot == s) (course_row c t)) empty);
       fewer = leb-false (course_of i c).lectures (length (course_row c t)) (fault_if_none (leb (course_of i c).lectures (length (course_row c t))) CourseFull e2.0);
-      allowed = (fault_if_none (is_unavailable i c s) Unavailable own.0, fault_if_none (is_barred i c r) Barred own.1);
+      allowed = (fault_if_none (is_unavailable i c s) Unavailable own.0, fault_if_none (is_barred i c r) Barred room.0, fault_if_none (is_blocked i r s) Blocked room.1);
       no_clash = find_none (λ (l : Placed). clash i c l.course) (slot_row s t) (named_none Clash (find (λ (l : Placed). clash i c l.course) (slot_row s t)) e4.0);
       room_free = find_none (λ (l : Placed). l.room == r) (slot_row s t) (named_none RoomTaken (find (λ (l : Placed). l.room == r) (slot_row s t)) e4.1);
     }
@@ -58,6 +59,9 @@ free i t c s r e =
 
     full : Option EditFault
     full = fault_if (leb (course_of i c).lectures (length (course_row c t))) CourseFull
+
+    unusable : Option EditFault
+    unusable = or_else (fault_if (is_barred i c r) Barred) (fault_if (is_blocked i r s) Blocked)
 
     closed : Option EditFault
     closed = fault_alone i c s r

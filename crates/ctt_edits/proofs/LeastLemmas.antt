@@ -5,7 +5,7 @@ use Rattle.std.specs.Option.{option_map}
 use Rattle.std.proofs.lemmas.Bool.{cases_Bool, eq-eqb}
 use Rattle.std.proofs.lemmas.Bool.Decides.{nat_tests}
 use Rattle.ctt_problem.specs.Lists.{Pairwise}
-use Rattle.ctt_problem.specs.Problem.{course_of, clash, is_unavailable, is_barred}
+use Rattle.ctt_problem.specs.Problem.{course_of, clash, is_unavailable, is_barred, is_blocked}
 use Rattle.ctt_problem.specs.Timetable.{before, course_row, slot_row}
 use Rattle.ctt_problem.specs.declared.placed.Placed.{Placed}
 use Rattle.ctt_problem.proofs.TimetableLemmas.{Each-map}
@@ -14,7 +14,7 @@ use Rattle.ctt_board.specs.Changes.{room_at}
 use Rattle.ctt_edits.specs.Edits.{or_else, fault_if}
 use Rattle.ctt_edits.specs.Laws.{ClashIsLeast}
 use Rattle.ctt_edits.specs.declared.fault.EditFault.{EditFault}
-use Rattle.ctt_edits.specs.declared.fault.EditFault.TheVariants.{AlreadyThere, CourseFull, Unavailable, Barred, Clash, RoomTaken}
+use Rattle.ctt_edits.specs.declared.fault.EditFault.TheVariants.{AlreadyThere, CourseFull, Unavailable, Barred, Blocked, Clash, RoomTaken}
 use Rattle.ctt_board.proofs.LawfulLemmas.{Each-from_filter}
 
 not_above : (a b : Placed) → before a b ≡ true → a.course ≤ b.course
@@ -25,10 +25,11 @@ later : (b : Bool) (f g : EditFault) (rest : Option EditFault) → (f ≡ g → 
 later true f g rest n e = absurd (n cc)
 later false f g rest n e = e
 
--- the same of two faults
-later_both : (a b : Bool) (f h g : EditFault) (rest : Option EditFault) → (f ≡ g → ⊥) → (h ≡ g → ⊥) → or_else (or_else (fault_if a f) (fault_if b h)) rest ≡ Some g → rest ≡ Some g
-later_both true b f h g rest n m e = absurd (n cc)
-later_both false b f h g rest n m e = later b h g rest m e
+-- the same of some faults
+later_all : (a b d : Bool) (f h k g : EditFault) (rest : Option EditFault) → (f ≡ g → ⊥) → (h ≡ g → ⊥) → (k ≡ g → ⊥) → or_else (or_else (fault_if a f) (or_else (fault_if b h) (fault_if d k))) rest ≡ Some g → rest ≡ Some g
+later_all true b d f h k g rest n m o e = absurd (n cc)
+later_all false true d f h k g rest n m o e = absurd (m cc)
+later_all false false d f h k g rest n m o e = later d k g rest o e
 
 clashing : (o p : Option Placed) (d : ℕ) → or_else (option_map Clash (option_map (λ (l : Placed). l.course) o)) (option_map RoomTaken (option_map (λ (l : Placed). l.course) p)) ≡ Some (Clash d) → (l : Placed) × (o ≡ Some l) × (l.course ≡ d)
 clashing (Some l) p d e = (l, refl, cc)
@@ -57,7 +58,7 @@ pub clash_is_least : ClashIsLeast
 clash_is_least i t c s r d h e =
     let e1 = later (is_some (room_at c s t)) AlreadyThere (Clash d) _ (λ z. cc) e in
     let e2 = later (leb (course_of i c).lectures (length (course_row c t))) CourseFull (Clash d) _ (λ z. cc) e1 in
-    let e3 = later_both (is_unavailable i c s) (is_barred i c r) Unavailable Barred (Clash d) _ (λ z. cc) (λ z. cc) e2 in
+    let e3 = later_all (is_unavailable i c s) (is_barred i c r) (is_blocked i r s) Unavailable Barred Blocked (Clash d) _ (λ z. cc) (λ z. cc) (λ z. cc) e2 in
     let f = clashing (find (λ l. clash i c l.course) (slot_row s t)) (find (λ l. l.room == r) (slot_row s t)) d e3 in
     let first : IsLeast (λ l. clash i c l.course) (slot_row s t) f.0 = least_first (λ l. clash i c l.course) (slot_row s t) f.0 (Pairwise-filter (λ a b. before a b ≡ true) (λ l. l.slot == s) t h) f.1 in (
       subst (λ x. clash i c x ≡ true) f.2 first.passes,

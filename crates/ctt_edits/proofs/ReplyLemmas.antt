@@ -26,7 +26,7 @@ use Rattle.ctt_edits.specs.declared.looks.Look.TheVariants.{Course, Slot, Teache
 use Rattle.ctt_edits.specs.declared.call.Call.{Call}
 use Rattle.ctt_edits.specs.declared.call.Call.TheVariants.{Look as Looks, Edit as Edits}
 use Rattle.ctt_edits.specs.declared.fault.EditFault.{EditFault}
-use Rattle.ctt_edits.specs.declared.fault.EditFault.TheVariants.{NotPlaced, SameSlot, SameCourse, AlreadyThere, CourseFull, Unavailable, Barred, Clash, RoomTaken}
+use Rattle.ctt_edits.specs.declared.fault.EditFault.TheVariants.{NotPlaced, SameSlot, SameCourse, AlreadyThere, CourseFull, Unavailable, Barred, Blocked, Clash, RoomTaken}
 use Rattle.ctt_edits.specs.declared.reply.Reply.{Reply}
 use Rattle.ctt_edits.specs.declared.reply.Reply.TheVariants.{Done, Price as Priced, Missing as AreMissing, Edits as AreCheapest}
 use Rattle.ctt_edits.specs.Edits.{EditFits, or_else, fault_if, first_course, try_fault, try_room_of, edit_fault, edited}
@@ -82,7 +82,7 @@ module _ (i : Problem) where
       let slot : Each (Fits i) (slot_row s t) = Each-filter (Fits i) (λ l. l.slot == s) t h in
       else_fits _ _ (if_fits _ AlreadyThere tt)
       (else_fits _ _ (if_fits _ CourseFull tt)
-      (else_fits _ _ (else_fits _ _ (if_fits _ Unavailable tt) (if_fits _ Barred tt))
+      (else_fits _ _ (else_fits _ _ (if_fits _ Unavailable tt) (else_fits _ _ (if_fits _ Barred tt) (if_fits _ Blocked tt)))
       (else_fits _ _ (named_fits Clash (λ d lt. lt) (λ l. clash i c l.course) (slot_row s t) slot)
       (named_fits RoomTaken (λ d lt. lt) (λ l. l.room == r) (slot_row s t) slot))))
 

@@ -4,7 +4,7 @@ use Rattle.std.specs.List.{filter, find, AllByRecursion as Each}
 use Rattle.std.specs.Option.{option_map}
 use Rattle.std.proofs.lemmas.Bool.{eq-eqb, lt-leb}
 use Rattle.std.proofs.lemmas.Bool.Decides.{nat_tests}
-use Rattle.ctt_problem.specs.Problem.{Problem, course_of, clash, is_unavailable, is_barred}
+use Rattle.ctt_problem.specs.Problem.{Problem, course_of, clash, is_unavailable, is_barred, is_blocked}
 use Rattle.ctt_problem.specs.Timetable.{before, course_row, slot_row, with, without}
 use Rattle.ctt_problem.specs.declared.placed.Placed.{Placed}
 use Rattle.ctt_rules.specs.Hard.{Lawful}
@@ -21,7 +21,19 @@ use Rattle.ctt_board.proofs.RoomLemmas.{is_at, room_is, room_after, find-filter,
 use Rattle.ctt_edits.specs.Edits.{or_else, fault_if, fault_alone, try_fault, fault_in_place_of, edit_fault}
 use Rattle.ctt_edits.specs.declared.edit.Edit.TheVariants.{Swap}
 use Rattle.ctt_edits.specs.declared.fault.EditFault.{EditFault}
-use Rattle.ctt_edits.specs.declared.fault.EditFault.TheVariants.{AlreadyThere, CourseFull, Barred, Clash, RoomTaken}
+use Rattle.ctt_edits.specs.declared.fault.EditFault.TheVariants.{AlreadyThere, CourseFull, Unavailable, Barred, Blocked, Clash, RoomTaken}
+
+-- the faults of a lecture in a free room that is not blocked
+abbrev in_place : Bool → Bool → Bool → Option ℕ → Option EditFault
+in_place there closed barred clashing = or_else (fault_if there AlreadyThere) (or_else (fault_if closed Unavailable) (or_else (fault_if barred Barred) (option_map Clash clashing)))
+
+not_blocked : (there closed barred : Bool) (rest : Option EditFault) →
+    or_else (fault_if there AlreadyThere) (or_else (or_else (fault_if closed Unavailable) (or_else (fault_if barred Barred) None)) rest)
+    ≡ or_else (fault_if there AlreadyThere) (or_else (fault_if closed Unavailable) (or_else (fault_if barred Barred) rest))
+not_blocked true closed barred rest = refl
+not_blocked false true barred rest = refl
+not_blocked false false true rest = refl
+not_blocked false false false rest = refl
 
 or_none : (o : Option EditFault) → or_else o None ≡ o
 or_none None = refl
@@ -37,9 +49,14 @@ in_free_room : (i : Problem) (t : List Placed) (c s r : ℕ) → length (course_
     try_fault i t c s r ≡ or_else (fault_if (is_some (room_at c s t)) AlreadyThere) (or_else (fault_alone i c s r) (option_map Clash (clash_at i c s t)))
 in_free_room i t c s r fewer free = by_parts (is_some (room_at c s t)) (leb (course_of i c).lectures (length (course_row c t))) (fault_alone i c s r) (clash_at i c s t) (holder_at s r t) (lt-leb (course_of i c).lectures (length (course_row c t)) fewer) free
 
+-- the same if the room is not blocked in the slot
+in_open_room : (i : Problem) (t : List Placed) (c s r : ℕ) → length (course_row c t) < (course_of i c).lectures → holder_at s r t ≡ None → is_blocked i r s ≡ false →
+    try_fault i t c s r ≡ in_place (is_some (room_at c s t)) (is_unavailable i c s) (is_barred i c r) (clash_at i c s t)
+in_open_room i t c s r fewer free open = in_free_room i t c s r fewer free ∙ rw open (not_blocked (is_some (room_at c s t)) (is_unavailable i c s) (is_barred i c r) (option_map Clash (clash_at i c s t)))
+
 -- if there is no other fault, the room may be barred
-only_barred : (i : Problem) (t : List Placed) (c s r : ℕ) → length (course_row c t) < (course_of i c).lectures → holder_at s r t ≡ None → room_at c s t ≡ None → is_unavailable i c s ≡ false → clash_at i c s t ≡ None → try_fault i t c s r ≡ fault_if (is_barred i c r) Barred
-only_barred i t c s r fewer free empty available clear = in_free_room i t c s r fewer free ∙ rw (empty, available, clear) (or_none (fault_if (is_barred i c r) Barred))
+only_barred : (i : Problem) (t : List Placed) (c s r : ℕ) → length (course_row c t) < (course_of i c).lectures → holder_at s r t ≡ None → is_blocked i r s ≡ false → room_at c s t ≡ None → is_unavailable i c s ≡ false → clash_at i c s t ≡ None → try_fault i t c s r ≡ fault_if (is_barred i c r) Barred
+only_barred i t c s r fewer free open empty available clear = in_open_room i t c s r fewer free open ∙ rw (empty, available, clear) (or_none (fault_if (is_barred i c r) Barred))
 
 -- two lectures of two courses, each with its room, and the timetable without them
 module _ (i : Problem) (t : List Placed) (c s r d e q : ℕ) (lawful : Lawful i t) (there : room_at c s t ≡ Some r) (other_there : room_at d e t ≡ Some q) (apart : (c == d) ≡ false) where
@@ -95,7 +112,7 @@ module _ (i : Problem) (t : List Placed) (c s r d e q : ℕ) (lawful : Lawful i 
     own_room = room_after d e None c e left (ap is_some stays) ∙ rw turned (room_after c s None c e t (ap is_some there) ∙ rw (eq-eqb c c refl, differ) refl)
 
     first_is : fault_in_place_of i t c (record { course = d; slot = e; room = q }) ≡ try_fault i gone c e q
-    first_is = ap₂ (λ o x. or_else (fault_if (is_some o) AlreadyThere) (or_else (fault_alone i c e q) (option_map Clash x))) (sym own_room) (ap (λ ls. course_named (find (λ l. clash i c l.course) ls)) (sym here)) ∙ sym (in_free_room i gone c e q own_fewer nobody)
+    first_is = ap₂ (λ o x. in_place (is_some o) (is_unavailable i c e) (is_barred i c q) x) (sym own_room) (ap (λ ls. course_named (find (λ l. clash i c l.course) ls)) (sym here)) ∙ sym (in_open_room i gone c e q own_fewer nobody other_free.allowed.2)
 
     there_row : slot_row s first ≡ slot_row s left
     there_row = untouched_slot_at (λ x. x == s) c e (Some q) gone back ∙ untouched_slot_at (λ x. x == s) d e None left back
@@ -104,8 +121,8 @@ module _ (i : Problem) (t : List Placed) (c s r d e q : ℕ) (lawful : Lawful i 
     other_room = ap (λ ls. room_of (find (λ l. l.slot == s) ls)) other_row ∙ room_after d e None d s left (ap is_some stays) ∙ rw (eq-eqb d d refl, back) (room_after c s None d s t (ap is_some there) ∙ rw apart refl)
 
     second_is : fault_in_place_of i t d (record { course = c; slot = s; room = r }) ≡ try_fault i first d s r
-    second_is = ap₂ (λ o x. or_else (fault_if (is_some o) AlreadyThere) (or_else (fault_alone i d s r) (option_map Clash x))) (sym other_room) (ap (λ ls. course_named (find (λ l. clash i d l.course) ls)) (sym there_row))
-        ∙ sym (in_free_room i first d s r other_fewer (ap (λ ls. course_named (find (λ l. l.room == r) ls)) there_row ∙ nobody_left))
+    second_is = ap₂ (λ o x. in_place (is_some o) (is_unavailable i d s) (is_barred i d r) x) (sym other_room) (ap (λ ls. course_named (find (λ l. clash i d l.course) ls)) (sym there_row))
+        ∙ sym (in_open_room i first d s r other_fewer (ap (λ ls. course_named (find (λ l. l.room == r) ls)) there_row ∙ nobody_left) free.allowed.2)
 
     pub by_slots : edit_fault i t (Swap c s d e) ≡ or_else (fault_in_place_of i t c (record { course = d; slot = e; room = q })) (fault_in_place_of i t d (record { course = c; slot = s; room = r }))
     by_slots = rw (there, other_there, apart) (ap₂ or_else (sym first_is) (sym second_is))
@@ -138,7 +155,7 @@ module _ (i : Problem) (t : List Placed) (c s r d e q : ℕ) (lawful : Lawful i 
     own_clear = ap (λ x. course_named (find (λ l. clash i c l.course) (slot_row x gone))) same ∙ ap course_named (without_them (λ l. clash i c l.course) free.no_clash)
 
     first_barred : try_fault i gone c e q ≡ fault_if (is_barred i c q) Barred
-    first_barred = only_barred i gone c e q own_fewer nobody own_empty (rw same free.allowed.0) own_clear
+    first_barred = only_barred i gone c e q own_fewer nobody other_free.allowed.2 own_empty (rw same free.allowed.0) own_clear
 
     -- if no lecture in the slot passes, nor the one that was added, none passes now
     with_first : (p : Placed → Bool) → p (record { course = c; slot = e; room = q }) ≡ false → find p (slot_row s gone) ≡ None → find p (slot_row s first) ≡ None
@@ -161,7 +178,7 @@ module _ (i : Problem) (t : List Placed) (c s r d e q : ℕ) (lawful : Lawful i 
     other_nobody = ap course_named (with_first (λ l. l.room == r) unlike.1 (without_them (λ l. l.room == r) free.room_free))
 
     second_barred : try_fault i first d s r ≡ fault_if (is_barred i d r) Barred
-    second_barred = only_barred i first d s r other_fewer other_nobody other_empty (rw (← same) other_free.allowed.0) other_clear
+    second_barred = only_barred i first d s r other_fewer other_nobody free.allowed.2 other_empty (rw (← same) other_free.allowed.0) other_clear
 
     -- which may be barred
     pub within : edit_fault i t (Swap c s d e) ≡ or_else (fault_if (is_barred i c q) Barred) (fault_if (is_barred i d r) Barred)

@@ -10,5 +10,5 @@ pub mod MarkLaws
 pub mod BitRowLemmas
 pub mod TogetherLemmas
 pub mod LectureLaws
-pub mod BarredTables
+pub mod SideTables
 pub mod ResultLemmas

@@ -5,21 +5,22 @@ use Rattle.std.proofs.lemmas.Bool.Decides.{nat_tests}
 use Rattle.std.proofs.lemmas.Bool.{cases_Bool, cases_eq, cases_lt, ne_eqb}
 use Rattle.std.proofs.lemmas.List.{get_or_past}
 use Rattle.ctt_problem.specs.Lists.{Pairwise, sum_below}
-use Rattle.ctt_problem.specs.Problem.{Problem, course_of, course_count, slot_count, room_count, is_unavailable, is_barred}
+use Rattle.ctt_problem.specs.Problem.{Problem, course_of, course_count, slot_count, room_count, is_unavailable, is_barred, is_blocked}
 use Rattle.ctt_problem.specs.Timetable.{IsTimetable, Fits, course_row}
 use Rattle.ctt_problem.specs.declared.placed.Placed.{Placed}
 use Rattle.ctt_problem.proofs.TimetableLemmas.{Each-map}
-use Rattle.ctt_rules.specs.Hard.{Lawful, IsAllowed, conflicts, share_room, missing_count, conflict_count, unavailable_count, barred_count, occupancy_count}
+use Rattle.ctt_rules.specs.Hard.{Lawful, IsAllowed, conflicts, share_room, missing_count, conflict_count, unavailable_count, barred_count, blocked_count, occupancy_count}
 use Rattle.ctt_rules.proofs.ListLemmas.{filter_none, Each-both}
 use Rattle.ctt_rules.proofs.SumLemmas.{sum_below_zero, count_by-cons}
 use Rattle.ctt_rules.proofs.TimetableLemmas.{courses_fit}
 
--- four counts are zero
+-- five counts are zero
 pub record NoneCounted (i : Problem) (t : List Placed) : Type 0 where
   pub conflicts : conflict_count i t ≡ 0
   pub unavailable : unavailable_count i t ≡ 0
   pub occupancy : occupancy_count i t ≡ 0
   pub barred : barred_count i t ≡ 0
+  pub blocked : blocked_count i t ≡ 0
 
 one_or_none : (b : Bool) (n m : ℕ) → n ≡ cond b 1 0 + m → ((b ≡ true) → n ≡ suc m) × ((b ≡ false) → n ≡ m)
 one_or_none true n m e = ((λ h. e ∙ omega arith), (λ h. cc))
@@ -90,6 +91,7 @@ module _ (i : Problem) (t : List Placed) (h : IsTimetable i t) where
     conflicts = no_conflicts i t l.conflict_free;
     unavailable = count_none (λ l. is_unavailable i l.course l.slot) t (Each-map (IsAllowed i) (λ l. is_unavailable i l.course l.slot ≡ false) (λ l a. a.0) t l.allowed);
     barred = count_none (λ l. is_barred i l.course l.room) t (Each-map (IsAllowed i) (λ l. is_barred i l.course l.room ≡ false) (λ l a. a.1) t l.allowed);
+    blocked = count_none (λ l. is_blocked i l.room l.slot) t (Each-map (IsAllowed i) (λ l. is_blocked i l.room l.slot ≡ false) (λ l a. a.2) t l.allowed);
     occupancy = sum_below_zero (λ r. sum_below (λ s. count_by (stands r s) t - 1) (slot_count i)) (room_count i)
         (λ r lt. sum_below_zero (λ s. count_by (stands r s) t - 1) (slot_count i) (λ s lt2. let few' : count_by (stands r s) t ≤ 1 = at_most_one r s t l.rooms_apart in omega arith));
   }
@@ -98,8 +100,10 @@ module _ (i : Problem) (t : List Placed) (h : IsTimetable i t) where
   lawful few n = record {
     timetable = h;
     conflict_free = conflict_free i t n.conflicts;
-    allowed = Each-both (λ (l : Placed). is_unavailable i l.course l.slot ≡ false) (λ l. is_barred i l.course l.room ≡ false) (IsAllowed i) (λ l a b. (a, b)) t
-        (none_counted (λ l. is_unavailable i l.course l.slot) t n.unavailable) (none_counted (λ l. is_barred i l.course l.room) t n.barred);
+    allowed = Each-both (λ (l : Placed). is_unavailable i l.course l.slot ≡ false) (λ l. (is_barred i l.course l.room ≡ false) × (is_blocked i l.room l.slot ≡ false)) (IsAllowed i) (λ l a b. (a, b.0, b.1)) t
+        (none_counted (λ l. is_unavailable i l.course l.slot) t n.unavailable)
+        (Each-both (λ (l : Placed). is_barred i l.course l.room ≡ false) (λ l. is_blocked i l.room l.slot ≡ false) _ (λ l a b. (a, b)) t
+        (none_counted (λ l. is_barred i l.course l.room) t n.barred) (none_counted (λ l. is_blocked i l.room l.slot) t n.blocked));
     rooms_apart = apart_from t (room_count i) (slot_count i) (Each-map (Fits i) (λ l. (l.room < room_count i) × (l.slot < slot_count i)) (λ l f. (f.2, f.1)) t h.fits)
         (λ r s lt lt2. let row : sum_below (λ s. count_by (stands r s) t - 1) (slot_count i) ≡ 0 = zero_terms (λ r. sum_below (λ s. count_by (stands r s) t - 1) (slot_count i)) (room_count i) n.occupancy r lt in
         let one : count_by (stands r s) t - 1 ≡ 0 = zero_terms (λ s. count_by (stands r s) t - 1) (slot_count i) row s lt2 in omega arith);

@@ -23,7 +23,9 @@ small = record {
   days = 2;
   periods = 3;
   unavailable = false ∷ false ∷ false ∷ false ∷ false ∷ false ∷ true ∷ false ∷ false ∷ false ∷ false ∷ false ∷ false ∷ false ∷ false ∷ false ∷ false ∷ false ∷ [];
+  closed = false ∷ false ∷ false ∷ false ∷ false ∷ false ∷ false ∷ false ∷ false ∷ false ∷ false ∷ false ∷ false ∷ false ∷ false ∷ false ∷ false ∷ false ∷ [];
   barred = false ∷ false ∷ false ∷ false ∷ false ∷ false ∷ [];
+  blocked = false ∷ false ∷ false ∷ false ∷ false ∷ false ∷ false ∷ false ∷ false ∷ false ∷ false ∷ false ∷ [];
 }
 
 abbrev at : ℕ → ℕ → ℕ → Placed
@@ -33,7 +35,7 @@ abbrev cost : ℕ → ℕ → ℕ → ℕ → Cost
 cost a b c d = record { capacity = a; days = b; compactness = c; stability = d }
 
 abbrev counts : ℕ → ℕ → ℕ → ℕ → Hard
-counts a b c d = record { lectures = a; conflicts = b; availability = c; occupancy = d; barred = 0 }
+counts a b c d = record { lectures = a; conflicts = b; availability = c; occupancy = d; barred = 0; blocked = 0 }
 
 abbrev full : List Placed
 full = at 0 0 0 ∷ at 0 3 1 ∷ at 1 1 0 ∷ at 1 5 0 ∷ at 2 2 1 ∷ []
@@ -48,11 +50,19 @@ full_counts : hard_counts small full ≡ counts 0 0 0 0
 full_counts = refl
 
 -- the counts if room A is barred for alg, or for top, which has no lecture there
-barred_counts : hard_counts (record small { barred = true ∷ false ∷ false ∷ false ∷ false ∷ false ∷ [] }) full ≡ record { lectures = 0; conflicts = 0; availability = 0; occupancy = 0; barred = 1 }
+barred_counts : hard_counts (record small { barred = true ∷ false ∷ false ∷ false ∷ false ∷ false ∷ [] }) full ≡ record { lectures = 0; conflicts = 0; availability = 0; occupancy = 0; barred = 1; blocked = 0 }
 barred_counts = refl
 
 elsewhere_counts : hard_counts (record small { barred = false ∷ false ∷ false ∷ false ∷ true ∷ false ∷ [] }) full ≡ counts 0 0 0 0
 elsewhere_counts = refl
+
+-- the counts if room A is blocked in slots 1, 2 and 5, and room B in slot 0
+blocked_counts : hard_counts (record small { blocked = false ∷ true ∷ true ∷ false ∷ false ∷ true ∷ true ∷ false ∷ false ∷ false ∷ false ∷ false ∷ [] }) full ≡ record { lectures = 0; conflicts = 0; availability = 0; occupancy = 0; barred = 0; blocked = 2 }
+blocked_counts = refl
+
+-- the counts if alg is closed in slots 3 and 4
+closed_counts : hard_counts (record small { closed = false ∷ false ∷ false ∷ true ∷ true ∷ false ∷ false ∷ false ∷ false ∷ false ∷ false ∷ false ∷ false ∷ false ∷ false ∷ false ∷ false ∷ false ∷ [] }) full ≡ counts 0 0 1 0
+closed_counts = refl
 
 course_costs : course_cost small full 0 ∷ course_cost small full 2 ∷ course_cost small [] 0 ∷ [] ≡ cost 5 0 0 1 ∷ cost 10 0 0 0 ∷ cost 0 10 0 0 ∷ []
 course_costs = refl
@@ -82,6 +92,10 @@ crowded_cost = refl
 
 crowded_counts : hard_counts small crowded ≡ counts 3 0 1 1
 crowded_counts = refl
+
+-- geo is closed in slot 0, too
+twice_counts : hard_counts (record small { closed = false ∷ false ∷ false ∷ false ∷ false ∷ false ∷ true ∷ false ∷ false ∷ false ∷ false ∷ false ∷ false ∷ false ∷ false ∷ false ∷ false ∷ false ∷ [] }) crowded ≡ counts 3 0 1 1
+twice_counts = refl
 
 -- two lectures of one teacher in one slot
 abbrev doubled : List Placed
