@@ -34,6 +34,8 @@ sys.dont_write_bytecode = True
 from program import HERE, PROGRAM, build, check, end  # noqa: E402
 
 TRIALS = os.path.join(HERE, "crates/ctt_trials/src")
+# the side files of the tables of the trials that have one
+SIDES = {"BARRED": ("--barred", "Barred: 1 top A END.\n"), "BLOCKED": ("--blocked", "Blocked: 2 room B 0 1 course top 1 1 END.\n")}
 # a row of a desk in the tables of the trials: its name, its opening, its script
 ROW = re.compile(r'case!\(\s*"([^"]+)",\s*(\w+),\s*(\w+),\s*DESK\s*\)')
 # a planner who does all that he may
@@ -216,17 +218,17 @@ def texts_of(name):
 
 
 def worked_desks():
-    """Each worked desk: its name, its opening, its script, which rooms are barred, and whether its first planner goes away when
-    another one begins, with the draft that he has open."""
-    texts, scripts = texts_of("texts.rt"), texts_of("worked.rt")
+    """Each worked desk: its name, its opening, its script, a side file with its option or none, and whether its first planner goes
+    away when another one begins, with the draft that he has open."""
+    texts, scripts = texts_of("texts.rt"), {**texts_of("worked.rt"), **texts_of("blocked.rt")}
     with open(os.path.join(TRIALS, "tables.rt"), encoding="utf-8") as file:
         text = file.read()
     # each place that names the ways of a desk, but the one that says what they are
     check("rows of desks", len(ROW.findall(text)), len(re.findall(r"\bDESK\b", text)) - 1)
     for table in re.split(r"\nconst |\npub\(crate\) const ", text):
-        barred = "Barred: 1 top A END.\n" if table.startswith("BARRED:") else None
+        side = SIDES.get(table.split(":")[0])
         for name, opening, script in ROW.findall(table):
-            yield name, texts[opening], scripts[script], barred, False
+            yield name, texts[opening], scripts[script], side, False
     yield "left open by a planner who is gone", "", scripts["LEFT_OPEN"], None, True
     yield "a day", "", DAY, None, False
 
@@ -400,9 +402,9 @@ class Desk:
         )
 
 
-def worked(folder, opening, script, barred, goes):
+def worked(folder, opening, script, side, goes):
     """A worked desk, with the answers of a run."""
-    texts = (("--start", opening), ("--barred", barred))
+    texts = [("--start", opening), *([side] if side else [])]
     desk = Desk(folder, texts, [seat_of(line) for line in script.splitlines()], [], b"", b"")
     journal = os.path.join(folder, "journal")
     words = [PROGRAM, "run", desk.words[0], desk.file("script", script + "show cost\n"), *desk.words[1:]]
