@@ -9,16 +9,16 @@ use Rattle.ctt_problem.specs.Lists.{sum_below, has}
 use Rattle.ctt_problem.specs.Problem.{Problem, course_of, course_count, members}
 use Rattle.ctt_problem.specs.Timetable.{IsTimetable, course_row}
 use Rattle.ctt_problem.specs.declared.placed.Placed.{Placed}
-use Rattle.ctt_rules.specs.Hard.{share_room, missing_count, unavailable_count, barred_count, occupancy_count}
+use Rattle.ctt_rules.specs.Hard.{share_room, missing_count, unavailable_count, barred_count, blocked_count, occupancy_count}
 use Rattle.ctt_rules.specs.Earlier.{tally, room_taken}
 use Rattle.ctt_rules.specs.Penalty.{penalty, unseated, days_cost, rooms_cost, is_alone, lectures_of, alone_cost}
 use Rattle.ctt_rules.proofs.ConflictLemmas.{rooms_tallied}
 use Rattle.ctt_rules.proofs.SumLemmas.{sum_below_same}
 use Rattle.ctt_rules.proofs.TimetableLemmas.{courses_fit, sum_by_course}
-use Rattle.ctt_findings.specs.Findings.{for_each, where_passes, found, by_course, lectures_finding, availability_finding, occupancy_from, occupancy_finding, barred_finding, capacity_finding, days_finding, stability_finding, compactness_finding, alone_of, compactness_of, compactness_findings}
+use Rattle.ctt_findings.specs.Findings.{for_each, where_passes, found, by_course, lectures_finding, availability_finding, occupancy_from, occupancy_finding, barred_finding, blocked_finding, capacity_finding, days_finding, stability_finding, compactness_finding, alone_of, compactness_of, compactness_findings}
 use Rattle.ctt_findings.specs.Laws.{points_of}
 use Rattle.ctt_findings.specs.declared.finding.Finding.{Finding}
-use Rattle.ctt_findings.specs.declared.finding.Finding.TheVariants.{Lectures, Availability, Occupancy, Barred, Capacity, Compactness}
+use Rattle.ctt_findings.specs.declared.finding.Finding.TheVariants.{Lectures, Availability, Occupancy, Barred, Blocked, Capacity, Compactness}
 
 abbrev pub worth : List Finding → ℕ
 worth xs = sum_by points_of xs
@@ -83,6 +83,9 @@ module _ (i : Problem) (t : List Placed) where
 
   pub barred_counted : worth (filter_map (barred_finding i) t) ≡ barred_count i t
   barred_counted = worth_map (barred_finding i) _ (λ l. found_worth _ (Barred l)) t
+
+  pub blocked_counted : worth (filter_map (blocked_finding i) t) ≡ blocked_count i t
+  blocked_counted = worth_map (blocked_finding i) _ (λ l. found_worth _ (Blocked l)) t
 
   pub capacity_counted : worth (filter_map (capacity_finding i) t) ≡ (penalty i t).capacity
   capacity_counted = worth_map (capacity_finding i) (unseated i) (λ l. found_worth (nat_lt 0 (unseated i l)) (Capacity l (unseated i l)) ∙ some_points (unseated i l)) t

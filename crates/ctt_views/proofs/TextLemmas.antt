@@ -84,3 +84,6 @@ module _ {T E : Type 0} (r : Result T E) where
 
   pub six_in : (p q1 q2 q3 q4 q5 new a b c d e f : List ℕ) → q1 ≡ p ++ a → q2 ≡ q1 ++ b → q3 ≡ q2 ++ c → q4 ≡ q3 ++ d → q5 ≡ q4 ++ e → OnOk r (new ≡ q5 ++ f) → OnOk r (new ≡ p ++ (a ++ (b ++ (c ++ (d ++ (e ++ f))))))
   six_in p q1 q2 q3 q4 q5 new a b c d e f h1 h2 h3 h4 h5 k = before r p q1 new a (b ++ (c ++ (d ++ (e ++ f)))) h1 (five_in q1 q2 q3 q4 q5 new b c d e f h2 h3 h4 h5 k)
+
+  pub seven_in : (p q1 q2 q3 q4 q5 q6 new a b c d e f g : List ℕ) → q1 ≡ p ++ a → q2 ≡ q1 ++ b → q3 ≡ q2 ++ c → q4 ≡ q3 ++ d → q5 ≡ q4 ++ e → q6 ≡ q5 ++ f → OnOk r (new ≡ q6 ++ g) → OnOk r (new ≡ p ++ (a ++ (b ++ (c ++ (d ++ (e ++ (f ++ g)))))))
+  seven_in p q1 q2 q3 q4 q5 q6 new a b c d e f g h1 h2 h3 h4 h5 h6 k = before r p q1 new a (b ++ (c ++ (d ++ (e ++ (f ++ g))))) h1 (six_in q1 q2 q3 q4 q5 q6 new b c d e f g h2 h3 h4 h5 h6 k)

@@ -9,8 +9,8 @@ pub returns : goal.returns
 unfolding data_of
 returns c =
     let found = c.assess-assessment.result in
-    let written : c.in_ok-line.field-0.items ≡ json_of c.name.result.now c.has_barred-barred.result found.hard found.cost found.lawful found.complete =
-    c.in_ok-line.ensures (ap (λ ms. has_float (object ms)) c.in_ok-report.ensures ∙ no_float _ _ _ _ _ _)
+    let written : c.in_ok-line.field-0.items ≡ json_of c.args.instance.now found.hard found.cost found.lawful found.complete =
+    c.in_ok-line.ensures (ap (λ ms. has_float (object ms)) c.in_ok-report.ensures ∙ no_float _ _ _ _ _)
     ∙ ap (λ ms. compact_text (object ms) ++ codes "\n") c.in_ok-report.ensures in
     record {
       lawful = found.lawful;

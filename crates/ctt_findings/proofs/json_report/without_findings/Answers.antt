@@ -10,15 +10,14 @@ use Rattle.ctt_findings.proofs.json_report.without_findings.Goals as goal
 
 pub returns : goal.returns
 returns c =
-    let name = c.args.name.now in
-    let barred = c.args.barred in
+    let i = c.args.instance.now in
     let report = c.args.assessment.now in
     let empty : view (Array c.new.result) ≡ array no_items = view-Array c.new.result ∙ search rules in
-    let value_is : object (members_view c.put.new.map.entries) ≡ explained_data_of (array no_items) name barred report.hard report.cost report.lawful report.complete =
+    let value_is : object (members_view c.put.new.map.entries) ≡ explained_data_of (array no_items) i report.hard report.cost report.lawful report.complete =
     ap object (c.in_ok-put.ensures.ok
     ∙ ap (λ (d : Data). put (codes "findings") d (members_view c.in_ok-report.report.entries)) empty
     ∙ ap (put (codes "findings") (array no_items)) c.in_ok-report.ensures)
-    ∙ findings_put name barred report.hard report.cost report.lawful report.complete in
-    let plain = ap has_float value_is ∙ no_float_explained name barred report.hard report.cost report.lawful report.complete in
+    ∙ findings_put i report.hard report.cost report.lawful report.complete in
+    let plain = ap has_float value_is ∙ no_float_explained i report.hard report.cost report.lawful report.complete in
     let text = ap (λ d. compact_text d ++ codes "\n") value_is in
     search (rules, plain, text)

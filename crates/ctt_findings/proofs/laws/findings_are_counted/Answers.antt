@@ -1,5 +1,5 @@
 use Rattle.ctt_findings.proofs.PairLemmas.{conflicts_counted}
-use Rattle.ctt_findings.proofs.PointLemmas.{lectures_counted, availability_counted, occupancy_counted, barred_counted, capacity_counted, days_counted, compactness_counted, stability_counted}
+use Rattle.ctt_findings.proofs.PointLemmas.{lectures_counted, availability_counted, occupancy_counted, barred_counted, blocked_counted, capacity_counted, days_counted, compactness_counted, stability_counted}
 use Rattle.ctt_findings.proofs.laws.findings_are_counted.Goals as goal
 
 pub returns : goal.returns
@@ -9,6 +9,7 @@ returns c i t h = record {
   availability = availability_counted i t;
   occupancy = occupancy_counted i t h;
   barred = barred_counted i t;
+  blocked = blocked_counted i t;
   capacity = capacity_counted i t;
   days = days_counted i t;
   compactness = compactness_counted i t h;

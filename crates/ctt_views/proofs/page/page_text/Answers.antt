@@ -1,5 +1,5 @@
 use Rattle.std.proofs.Common.{string_bytes}
-use Rattle.ctt_problem.specs.Problem.{has_barred, slot_count}
+use Rattle.ctt_problem.specs.Problem.{slot_count}
 use Rattle.ctt_rules.specs.Hard.{hard_counts}
 use Rattle.ctt_rules.specs.Penalty.{penalty}
 use Rattle.ctt_views.specs.Page.{HasFindings, page, page_end}
@@ -27,8 +27,8 @@ returns c =
       found = told.found;
       ranked = told.ranked;
       shown = five_pieces (string_bytes c.new-page.result) (string_bytes c.push_head.new.page) (string_bytes c.push_report.new.page) (string_bytes c.push_found.new.page) (string_bytes c.push_week.new.page) (string_bytes c.push_end.new.page)
-          _ (report (has_barred i) (hard_counts i t) (penalty i t) judged.lawful judged.complete) (sections i days told.found (hard_counts i t) (penalty i t)) (parts i (by_slot (slot_count i) t) days) (page_end script)
+          _ (report i (hard_counts i t) (penalty i t) judged.lawful judged.complete) (sections i days told.found (hard_counts i t) (penalty i t)) (parts i (by_slot (slot_count i) t) days) (page_end script)
           c.new-page.ensures.bytes (rw (c.style.ensures, c.name.ensures) at c.in_ok-push_head.ensures)
-          (rw (c.has_barred.ensures, c.assess-assessment.ensures.hard, c.assess-assessment.ensures.cost) at c.in_ok-push_report.ensures)
+          (rw (c.assess-assessment.ensures.hard, c.assess-assessment.ensures.cost) at c.in_ok-push_report.ensures)
           told.shown c.in_ok-push_week.ensures (rw c.script.ensures at c.in_ok-push_end.ensures);
     }

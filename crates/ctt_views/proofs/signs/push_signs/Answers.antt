@@ -13,6 +13,8 @@ returns c =
       c.shares_room.ensures,
       c.sign-barred.ensures,
       c.barred.ensures,
+      c.sign-blocked.ensures,
+      c.blocked.ensures,
       c.unseated.ensures,
       c.alone_points.ensures,
       c.row-row.ensures.row,
