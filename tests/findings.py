@@ -10,7 +10,7 @@ import sys
 import tempfile
 
 sys.dont_write_bytecode = True
-from drawn import draw_instance, draw_solution  # noqa: E402
+from drawn import draw_blocked, draw_instance, draw_solution  # noqa: E402
 from program import EXAMPLES, NAMES, check, check_full, check_run, end, pair_of, read_files, words_of, write_files  # noqa: E402
 from rules import KINDS, Instance, line  # noqa: E402
 
@@ -30,12 +30,12 @@ def check_sums(name, findings, members):
                 sums[count] += abs(finding["placed"] - finding["stated"])
             elif finding["kind"] == kind:
                 sums[count] += finding.get("points", 1)
-    check(f"{name}: the sums", sums, {"barred": 0, **{count: members[count] for count in KINDS if count in members}})
+    check(f"{name}: the sums", sums, {"barred": 0, "blocked": 0, **{count: members[count] for count in KINDS if count in members}})
 
 
 def check_files(name, files):
-    """Compares all forms of the report on a solution: files of an instance, a solution, and perhaps barred rooms. Gives what is
-    found, whether it is lawful, and whether it is complete."""
+    """Compares all forms of the report on a solution: files of an instance, a solution, and perhaps barred rooms and closures. Gives
+    what is found, whether it is lawful, and whether it is complete."""
     texts = read_files(files)
     instance = Instance(texts[0], *texts[2:])
     t = instance.read_solution(texts[1])
@@ -57,24 +57,25 @@ def check_drawn(folder):
     seen = dict.fromkeys([*KINDS.values(), "unlawful", "incomplete", "complete"], 0)
     for n in range(DRAWN):
         text, barred = draw_instance(draw)
-        solution = draw_solution(draw, Instance(text, barred))
-        findings, lawful, complete = check_files(f"drawn solution {n}", write_files(folder, text, solution, barred))
+        instance = Instance(text, barred)
+        files = write_files(folder, text, draw_solution(draw, instance), barred, draw_blocked(draw, instance))
+        findings, lawful, complete = check_files(f"drawn solution {n}", files)
         for kind in {finding["kind"] for finding in findings}:
             seen[kind] += 1
         seen["complete" if complete else "incomplete" if lawful else "unlawful"] += 1
     check("each kind in 30 drawn solutions or more", [kind for kind, times in seen.items() if times < 30], [])
 
 
-# solutions of the instance `small`, a barred file for it or none, the counts of the report, and what is found
+# solutions of the instance `small`, its side files, the counts of the report, and what is found
 WORKED = [
-    ("the small solution", "alg A 0 0 alg B 1 0 geo A 0 1 geo A 1 2 top B 0 2", None, "0 0 0 0 15 0 4 1 20 yes yes", """\
+    ("the small solution", "alg A 0 0 alg B 1 0 geo A 0 1 geo A 1 2 top B 0 2", [], "0 0 0 0 15 0 4 1 20 yes yes", """\
 capacity alg A 0 0 5
 capacity top B 0 2 10
 compactness q1 alg 1 0 2
 compactness q1 geo 1 2 2
 stability alg 2 1
 """),
-    ("a barred room", "alg A 0 0 alg B 1 0 geo A 0 1 geo A 1 2 top B 0 2", "Barred: 1 alg A END.", "0 0 0 0 1 15 0 4 1 20 no no", """\
+    ("a barred room", "alg A 0 0 alg B 1 0 geo A 0 1 geo A 1 2 top B 0 2", ["Barred: 1 alg A END."], "0 0 0 0 1 15 0 4 1 20 no no", """\
 barred alg A 0 0
 capacity alg A 0 0 5
 capacity top B 0 2 10
@@ -82,7 +83,59 @@ compactness q1 alg 1 0 2
 compactness q1 geo 1 2 2
 stability alg 2 1
 """),
-    ("no lecture at all", "", None, "5 0 0 0 0 20 0 0 20 yes no", """\
+    ("a room that is blocked", "alg A 0 0 alg B 1 0 geo A 0 1 geo A 1 2 top B 0 2", ["Blocked: 1 room A 0 0 END."],
+     "0 0 0 0 1 15 0 4 1 20 no no", """\
+blocked alg A 0 0
+capacity alg A 0 0 5
+capacity top B 0 2 10
+compactness q1 alg 1 0 2
+compactness q1 geo 1 2 2
+stability alg 2 1
+"""),
+    ("a room that is blocked where nobody stands", "alg A 0 0 top B 0 2", ["Blocked: 2 room B 1 1 room A 0 2 END."],
+     "3 0 0 0 0 15 10 2 0 27 yes no", """\
+lectures alg 1 2
+lectures geo 0 2
+capacity alg A 0 0 5
+capacity top B 0 2 10
+days alg 1 2 5
+days geo 0 1 5
+compactness q1 alg 0 0 2
+"""),
+    ("barred and blocked", "alg A 0 0 alg B 1 0 geo A 0 1 geo A 1 2 top B 0 2", ["Barred: 1 alg A END.", "Blocked: 1 room A * * END."],
+     "0 0 0 0 1 3 15 0 4 1 20 no no", """\
+barred alg A 0 0
+blocked alg A 0 0
+blocked geo A 0 1
+blocked geo A 1 2
+capacity alg A 0 0 5
+capacity top B 0 2 10
+compactness q1 alg 1 0 2
+compactness q1 geo 1 2 2
+stability alg 2 1
+"""),
+    ("a teacher and a course that are blocked", "alg A 0 0 alg B 1 0 geo A 0 1 geo A 1 2 top B 0 2",
+     ["Blocked: 2 teacher t1 0 0 course geo 0 1 END."], "0 0 2 0 15 0 4 1 20 no no", """\
+availability alg 0 0
+availability geo 0 1
+capacity alg A 0 0 5
+capacity top B 0 2 10
+compactness q1 alg 1 0 2
+compactness q1 geo 1 2 2
+stability alg 2 1
+"""),
+    ("two lectures in a room that is blocked by several entries", "geo A 0 1 top A 0 1",
+     ["Blocked: 3 room A 0 1 room A 0 1 room A 0 * END."], "3 0 0 1 2 25 10 2 0 37 no no", """\
+lectures alg 0 2
+lectures geo 1 2
+occupancy A 0 1 top
+blocked geo A 0 1
+blocked top A 0 1
+capacity top A 0 1 25
+days alg 0 2 10
+compactness q1 geo 0 1 2
+"""),
+    ("no lecture at all", "", [], "5 0 0 0 0 20 0 0 20 yes no", """\
 lectures alg 0 2
 lectures geo 0 2
 lectures top 0 1
@@ -90,7 +143,7 @@ days alg 0 2 10
 days geo 0 1 5
 days top 0 1 5
 """),
-    ("the last period is not beside the first of the next day", "alg A 0 2 geo A 1 0", None, "3 0 0 0 5 10 4 0 19 yes no", """\
+    ("the last period is not beside the first of the next day", "alg A 0 2 geo A 1 0", [], "3 0 0 0 5 10 4 0 19 yes no", """\
 lectures alg 1 2
 lectures geo 1 2
 lectures top 0 1
@@ -100,7 +153,7 @@ days top 0 1 5
 compactness q1 alg 0 2 2
 compactness q1 geo 1 0 2
 """),
-    ("a teacher twice in a slot", "alg A 0 0 top B 0 0", None, "3 1 0 0 15 10 2 0 27 no no", """\
+    ("a teacher twice in a slot", "alg A 0 0 top B 0 0", [], "3 1 0 0 15 10 2 0 27 no no", """\
 lectures alg 1 2
 lectures geo 0 2
 conflict alg top 0 0 teacher t1
@@ -110,7 +163,7 @@ days alg 1 2 5
 days geo 0 1 5
 compactness q1 alg 0 0 2
 """),
-    ("a curriculum twice in a slot", "alg A 0 1 geo B 0 1", None, "3 1 0 0 5 10 4 0 19 no no", """\
+    ("a curriculum twice in a slot", "alg A 0 1 geo B 0 1", [], "3 1 0 0 5 10 4 0 19 no no", """\
 lectures alg 1 2
 lectures geo 1 2
 lectures top 0 1
@@ -121,7 +174,7 @@ days top 0 1 5
 compactness q1 alg 0 1 2
 compactness q1 geo 0 1 2
 """),
-    ("an unavailable slot, and a room taken", "geo B 0 0 top B 0 0", None, "3 0 1 1 10 10 2 0 22 no no", """\
+    ("an unavailable slot, and a room taken", "geo B 0 0 top B 0 0", [], "3 0 1 1 10 10 2 0 22 no no", """\
 lectures alg 0 2
 lectures geo 1 2
 availability geo 0 0
@@ -130,7 +183,7 @@ capacity top B 0 0 10
 days alg 0 2 10
 compactness q1 geo 0 0 2
 """),
-    ("three lectures in a room", "alg B 0 1 geo B 0 1 top B 0 1", None, "2 2 0 2 10 5 4 0 19 no no", """\
+    ("three lectures in a room", "alg B 0 1 geo B 0 1 top B 0 1", [], "2 2 0 2 10 5 4 0 19 no no", """\
 lectures alg 1 2
 lectures geo 1 2
 conflict alg geo 0 1 curriculum q1
@@ -142,7 +195,7 @@ days alg 1 2 5
 compactness q1 alg 0 1 2
 compactness q1 geo 0 1 2
 """),
-    ("a lecture too many", "top B 0 0 top B 0 1", None, "5 0 0 0 20 15 0 0 35 no no", """\
+    ("a lecture too many", "top B 0 0 top B 0 1", [], "5 0 0 0 20 15 0 0 35 no no", """\
 lectures alg 0 2
 lectures geo 0 2
 lectures top 2 1
@@ -165,9 +218,11 @@ SMALL_JSON = (
 def check_worked(folder):
     """Compares reports with texts that stand here."""
     small = os.path.join(EXAMPLES, "small.ctt")
-    for name, text, pairs, counts, findings in WORKED:
-        files = [small, *write_files(folder, b"", text.encode(), (pairs or "Barred: 0 END.").encode())[1:]]
-        keys = [key for key in KINDS if key != "barred" or pairs] + ["total", "lawful", "complete"]
+    for name, text, given, counts, findings in WORKED:
+        sides = {side.split(":")[0].lower(): side for side in ("Barred: 0 END.", "Blocked: 0 END.", *given)}
+        files = [small, *write_files(folder, b"", text.encode(), *(side.encode() for side in sides.values()))[1:]]
+        untold = {"barred": sides["barred"] == "Barred: 0 END.", "blocked": " room " not in sides["blocked"]}
+        keys = [key for key in KINDS if not untold.get(key)] + ["total", "lawful", "complete"]
         report = "instance Small\n" + "".join(f"{key} {count}\n" for key, count in zip(keys, counts.split()))
         check_run(name, "check", *words_of(files), "--explain", wanted=report + findings)
         check_files(f"{name}, counted", files)

@@ -10,7 +10,7 @@ import sys
 import tempfile
 
 sys.dont_write_bytecode = True
-from drawn import PIECES, draw_instance, draw_solution  # noqa: E402
+from drawn import PIECES, draw_blocked, draw_instance, draw_solution  # noqa: E402
 from program import EXAMPLES, NAMES, call, check, check_full, end, pair_of, read_files, words_of, write_files  # noqa: E402
 from rules import KINDS, Instance, line  # noqa: E402
 
@@ -25,17 +25,19 @@ TITLES = {
     "availability": "▼ unavailable",
     "occupancy": "◆ room taken",
     "barred": "■ barred",
+    "blocked": "▬ blocked",
     "capacity": "● too small",
     "days": "△ too few days",
     "compactness": "○ alone",
     "stability": "◇ several rooms",
 }
-NOUNS = {"lectures": "lecture", "conflict": "time", "availability": "time", "occupancy": "time", "barred": "time"}
+NOUNS = {"lectures": "lecture", "conflict": "time", "availability": "time", "occupancy": "time", "barred": "time",
+         "blocked": "time"}
 # the kinds that have a sign at the lecture
-SIGNED = ("conflict", "availability", "occupancy", "barred", "capacity", "compactness")
+SIGNED = ("conflict", "availability", "occupancy", "barred", "blocked", "capacity", "compactness")
 # the lines of the report that count what is found of a kind
 COUNTS = {"conflicts" if kind == "conflict" else kind: kind for kind in TITLES}
-BREAKS = ("lectures", "conflict", "availability", "occupancy", "barred")
+BREAKS = ("lectures", "conflict", "availability", "occupancy", "barred", "blocked")
 # the parts of the page that a click leads to from everywhere
 LINKS = [("report", "Report"), ("findings", "Findings"), ("index", "Index"), *((part, title) for part, title, _, _ in PARTS)]
 FIRST = 5
@@ -44,6 +46,11 @@ FIRST = 5
 def amount(number, noun):
     """A number of things."""
     return f"{number} {noun}{'' if number == 1 else 's'}"
+
+
+def titles_of(instance):
+    """The kinds of findings that the page of an instance tells, each with its title: blocked rooms only if there are any."""
+    return {kind: title for kind, title in TITLES.items() if kind != "blocked" or instance.blocked}
 
 
 class Page:
@@ -79,7 +86,7 @@ class Page:
         kind = finding["kind"]
         if kind == "conflict":
             grid = self.ids[finding["cause"]][finding["name"]]
-        elif kind in ("occupancy", "barred", "capacity"):
+        elif kind in ("occupancy", "barred", "blocked", "capacity"):
             grid = self.ids["room"][finding["room"]]
         elif kind == "compactness":
             grid = self.ids["curriculum"][finding["curriculum"]]
@@ -101,6 +108,7 @@ class Page:
             "availability": "{course} is on {when}, when it is unavailable",
             "occupancy": "{course} is in room {room} on {when}, when the room is taken",
             "barred": "{course} is in room {room}, which is barred for it, on {when}",
+            "blocked": "{course} is in room {room} on {when}, when the room is blocked",
             "capacity": "{course} with {students} is in room {room} with {seats} on {when}",
             "days": "{course} is on {count} in place of at least {minimum}",
             "compactness": "{course} on {when} is alone in curriculum {curriculum}",
@@ -124,6 +132,8 @@ class Page:
         for key, kind in KINDS.items():
             if kind == "capacity":
                 text += f"<h3 id='costs'>Costs: {amount(sum(finding.get('points', 0) for finding in self.found), 'point')}</h3>\n"
+            if kind not in titles_of(self.instance):
+                continue
             total = amount(counts[key], NOUNS.get(kind, "point"))
             text += f"<details open><summary><h4 id='{kind}'>{numbered(TITLES[kind])}: {total}</h4></summary><ul>\n"
             text += "".join(self.item(finding) for finding in self.ranked if finding["kind"] == kind) + "</ul></details>\n"
@@ -143,12 +153,21 @@ class Page:
             "availability": (c, day, period) in self.instance.unavailable,
             "occupancy": any(other[3] == r for other in others),
             "barred": (c, r) in self.instance.barred,
+            "blocked": (r, day, period) in self.instance.blocked,
         }
         for sign in SIGNED:
             if sign in points:
                 yield f" <i>{numbered(TITLES[sign])}: {amount(points[sign], 'point')}</i>" if points[sign] else ""
             else:
                 yield f" <b>{numbered(TITLES[sign])}</b>" if holds[sign] else ""
+
+    def mark(self, kind, name, day, period):
+        """What a cell says of its slot: that closures block it, or else that its course is unavailable."""
+        if self.instance.blocks(kind, name, day, period):
+            return TITLES["blocked"]
+        if kind == "course" and (self.instance.names()[kind].index(name), day, period) in self.instance.unavailable:
+            return "closed"
+        return ""
 
     def note(self, kind, name):
         """What the head of a grid says after the name."""
@@ -169,8 +188,8 @@ class Page:
             text += f"<tr><th scope='row'>{period + 1}</th>"
             for day in range(self.instance.days):
                 text += f"<td id='{letter}-{day * self.instance.periods + period}'>"
-                if kind == "course" and (self.instance.names()[kind].index(name), day, period) in self.instance.unavailable:
-                    text += "<em>closed</em>"
+                mark = self.mark(kind, name, day, period)
+                text += f"<em>{numbered(mark)}</em>" if mark else ""
                 for lecture in own:
                     if lecture[1:3] == (day, period):
                         course, room = self.instance.courses[lecture[0]][0], self.instance.rooms[lecture[3]][0]
@@ -217,7 +236,7 @@ class Reader(html.parser.HTMLParser):
     def __init__(self):
         super().__init__()
         self.open, self.ids, self.links, self.tags, self.names, self.faults = [], [], [], set(), set(), []
-        # the texts by the id of the cell and the element that they stand in; heads, lists and closed cells, and the lines of the report
+        # the texts by the id of the cell and the element that they stand in; heads and lists, closed cells with what they say, and the lines of the report
         self.cells, self.heads, self.items, self.rows, self.closed = {}, {}, {}, [], []
         # the texts that stand in an element with a direction of its own
         self.apart = set()
@@ -237,7 +256,7 @@ class Reader(html.parser.HTMLParser):
         if tag == "a" and "li" in self.open:
             self.items[self.ids[-1]][-1][0] = given["href"]
         if tag == "em":
-            self.closed.append(self.ids[-1])
+            self.closed.append([self.ids[-1], ""])
         if tag == "th" and given.get("scope") == "row" and self.ids[-1] == "report":
             self.rows.append(["", ""])
         if tag == "p" and "td" in self.open:
@@ -262,6 +281,8 @@ class Reader(html.parser.HTMLParser):
                 told[where][-1] += text
             else:
                 told[where] += text
+        elif where == "em":
+            self.closed[-1][1] += text
         elif where in ("h3", "h4"):
             self.heads[self.ids[-1]] = self.heads.get(self.ids[-1], "") + text
         elif "li" in self.open:
@@ -293,7 +314,7 @@ def check_read(name, text, page):
     instance, t = page.instance, page.t
     grids = {page.ids[kind][of]: f"{kind.capitalize()} {of}{plain(page.note(kind, of))}" for kind in page.ids for of in instance.names()[kind]}
     counts, _, _ = instance.count(t)
-    kinds = {kind: f"{TITLES[kind]}: {amount(counts[key], NOUNS.get(kind, 'point'))}" for key, kind in COUNTS.items()}
+    kinds = {kind: f"{TITLES[kind]}: {amount(counts[key], NOUNS.get(kind, 'point'))}" for key, kind in COUNTS.items() if kind in titles_of(instance)}
     total = sum(counts[kind] for kind in COUNTS if kind not in NOUNS and kind != "conflicts")
     groups = {"first": "To mend first", "hard": "Hard rules", "costs": f"Costs: {amount(total, 'point')}"}
     check(f"{name}: the heads", reader.heads, {**groups, **kinds, **grids})
@@ -330,8 +351,19 @@ def check_findings(name, reader, page):
     check(f"{name}: what to mend first", worst, [finding_text(page, finding) for finding in page.ranked[:FIRST]])
     entries = [[f"#{page.ids[kind][of]}", f"{kind.capitalize()} {of}"] for kind in page.ids for of in page.instance.names()[kind]]
     check(f"{name}: the index", reader.items.get("entries", []), entries)
-    closed = {f"k{c}-{day * page.instance.periods + period}" for c, day, period in page.instance.unavailable}
-    check(f"{name}: closed cells", (sorted(reader.closed), len(reader.closed)), (sorted(closed), len(closed)))
+    check(f"{name}: closed cells", sorted(reader.closed), sorted(closed_cells(page)))
+
+
+def closed_cells(page):
+    """The cells that say something of their slots, and what: closures by themselves, and what else a course has unavailable."""
+    instance, slots = page.instance, set()
+    for c, day, period in instance.unavailable:
+        slots.add(("k", c, day, period, "▬ blocked" if (c, day, period) in instance.closed else "closed"))
+    slots |= {("r", *blocked, "▬ blocked") for blocked in instance.blocked}
+    for n, teacher in enumerate(instance.teachers):
+        own = [{closed[1:] for closed in instance.closed if closed[0] == c} for c, course in enumerate(instance.courses) if course[1] == teacher]
+        slots |= {("t", n, *slot, "▬ blocked") for slot in set.intersection(*own)}
+    return [[f"{letter}{n}-{day * instance.periods + period}", said] for letter, n, day, period, said in slots]
 
 
 def finding_text(page, finding):
@@ -351,7 +383,7 @@ def check_apart(name, reader, page):
 def check_rows(name, reader, page):
     """In the report a link leads to each kind of which something is found, and to no other; its sign, and that of `no`, is there."""
     kinds = {finding["kind"] for finding in page.found}
-    counts = [kind for kind in COUNTS.values() if kind != "barred" or page.instance.barred]
+    counts = [kind for kind in titles_of(page.instance) if kind != "barred" or page.instance.barred]
     check(f"{name}: links to kinds", [link for link in reader.links if link[1:] in TITLES], [f"#{kind}" for kind in counts if kind in kinds])
     for row in page.instance.report(page.t)[0].split("\n")[1:-1]:
         key, value = row.split(" ")
@@ -366,7 +398,8 @@ def part_of(text, tag):
 
 
 def check_page(name, files, days=None):
-    """Compares a page with a plain writing of it, and reads it: files of an instance, a solution, and perhaps barred rooms."""
+    """Compares a page with a plain writing of it, and reads it: files of an instance, a solution, and perhaps barred rooms and
+    closures. Gives the style and the script, and what the cells say of their slots."""
     texts = read_files(files)
     instance = Instance(texts[0], *texts[2:])
     status, text, said = call("page", *words_of(files), *([] if days is None else ["--days", days]))
@@ -377,7 +410,7 @@ def check_page(name, files, days=None):
     check(name, text, wanted)
     if text == wanted:
         check_read(name, text, page)
-    return style, script
+    return (style, script), {(cell[0], said) for cell, said in closed_cells(page)}
 
 
 def check_style(style, script):
@@ -392,19 +425,24 @@ def check_style(style, script):
 
 def main():
     for name, folder in ("wide", NAMES), ("markup", NAMES), ("comp07", EXAMPLES):
-        looks = check_page(f"the page of {name}", pair_of(folder, name))
+        looks, _ = check_page(f"the page of {name}", pair_of(folder, name))
     check_style(*looks)
     check_page("the page of comp07 with days", pair_of(EXAMPLES, "comp07"), "mon,tue,wed,thu,fri")
     check_page("the page of markup with days", pair_of(NAMES, "markup"), "<mon>,,'wed' & \"wed\"")
     check_full("a page that cannot be written", "page", *pair_of(NAMES, "wide"))
     draw = random.Random(38)
+    marks = set()
     with tempfile.TemporaryDirectory() as folder:
         for n in range(DRAWN):
             text, barred = draw_instance(draw)
-            solution = draw_solution(draw, Instance(text, barred))
+            instance = Instance(text, barred)
+            solution, blocked = draw_solution(draw, instance), draw_blocked(draw, instance)
             days = draw.choice([None, "", "mon,tue", "a,,c,d,e,f,g,h"])
-            files = write_files(folder, text, solution, barred)
-            check(f"the style of drawn page {n}", check_page(f"drawn page {n}", files, days), looks)
+            files = write_files(folder, text, solution, barred, blocked)
+            drawn_looks, said = check_page(f"drawn page {n}", files, days)
+            check(f"the style of drawn page {n}", drawn_looks, looks)
+            marks |= said
+    check("each mark in a drawn page", marks, {(letter, "▬ blocked") for letter in "rtk"} | {("k", "closed")})
     end()
 
 

@@ -60,6 +60,14 @@ class Instance:
                 who = {"course": 0, "teacher": 1}[kind]
                 self.closed |= {(c, *slot) for c, course in enumerate(self.courses) if course[who] == name for slot in slots}
 
+    def blocks(self, kind, name, day, period):
+        """Whether closures block the room, the course, or all courses of the teacher of this name in a slot."""
+        if kind == "room":
+            return (self.names()["room"].index(name), day, period) in self.blocked
+        who = {"course": 0, "teacher": 1}.get(kind)
+        own = [c for c, course in enumerate(self.courses) if who is not None and course[who] == name]
+        return bool(own) and all((c, day, period) in self.closed for c in own)
+
     def names(self):
         """The names of what has a week of its own, by kind."""
         return {"curriculum": [name for name, _ in self.curricula], "teacher": self.teachers,

@@ -10,7 +10,7 @@ import tempfile
 import unicodedata
 
 sys.dont_write_bytecode = True
-from drawn import PIECES, draw_instance, draw_solution  # noqa: E402
+from drawn import PIECES, draw_blocked, draw_instance, draw_solution  # noqa: E402
 from program import EXAMPLES, NAMES, check_full, check_run, end, pair_of, read_files, words_of, write_files  # noqa: E402
 from rules import Instance  # noqa: E402
 
@@ -34,10 +34,12 @@ def width(text):
 
 
 def cell(instance, t, kind, name, day, period):
-    """The lectures of a slot with their rooms. A slot in which the course is unavailable is marked."""
+    """The lectures of a slot with their rooms. A slot is marked in which the course is unavailable, or closures block the room or the
+    teacher."""
     told = [f"{instance.courses[c][0]} {instance.rooms[r][0]}" for c, d, p, r in t if (d, p) == (day, period)]
     text = ", ".join(told)
-    if kind != "course" or (instance.names()[kind].index(name), day, period) not in instance.unavailable:
+    listed = kind == "course" and (instance.names()[kind].index(name), day, period) in instance.listed
+    if not listed and not instance.blocks(kind, name, day, period):
         return text
     return text + " !" if text else "-"
 
@@ -57,9 +59,9 @@ def table(instance, t, kind, name):
 
 def check_weeks(name, files, every=1):
     """Compares the week of all rooms, and that of every so many of the others: files of an instance, a solution, and perhaps barred
-    rooms, which change nothing."""
+    rooms, which change nothing, and closures."""
     texts = read_files(files)
-    instance = Instance(*texts[:1])
+    instance = Instance(texts[0], *texts[2:])
     t = instance.read_solution(texts[1])
     words = ["week", *words_of(files)]
     rooms = "\n".join(table(instance, t, "room", room) for room in instance.names()["room"])
@@ -75,8 +77,9 @@ def check_drawn(folder):
     draw = random.Random(37)
     for n in range(DRAWN):
         text, barred = draw_instance(draw, {**PIECES, "joined": list(JOINED)})
-        solution = draw_solution(draw, Instance(text, barred))
-        check_weeks(f"drawn solution {n}", write_files(folder, text, solution, barred))
+        instance = Instance(text, barred)
+        solution, blocked = draw_solution(draw, instance), draw_blocked(draw, instance)
+        check_weeks(f"drawn solution {n}", write_files(folder, text, solution, barred, blocked))
 
 
 SMALL = """\
@@ -121,6 +124,38 @@ curriculum q1
 | 1      | geo A |       |
 | 2      |       | geo A |
 """
+# a room that is blocked in two slots of one day, where a lecture stands and where none does, and in one of the other
+BLOCKED = "Blocked: 4 room A 0 1 room A 0 2 room A 1 0 room A 0 1 END."
+BLOCKED_ROOM = """\
+room A
+| period | day 0   | day 1 |
+| 0      | alg A   | -     |
+| 1      | geo A ! |       |
+| 2      | -       | geo A |
+"""
+# a teacher who is away for a day, and at the other day a course of his, and then both
+AWAY = "Blocked: 4 teacher t1 1 * course alg 0 0 course alg 0 2 course top 0 2 END."
+AWAY_TEACHER = """\
+teacher t1
+| period | day 0   | day 1   |
+| 0      | alg A   | alg B ! |
+| 1      |         | -       |
+| 2      | top B ! | -       |
+"""
+AWAY_COURSE = """\
+course alg
+| period | day 0   | day 1   |
+| 0      | alg A ! | alg B ! |
+| 1      |         | -       |
+| 2      | -       | -       |
+"""
+AWAY_OTHER = """\
+course top
+| period | day 0   | day 1 |
+| 0      |         | -     |
+| 1      |         | -     |
+| 2      | top B ! | -     |
+"""
 # names of several alphabets, each as wide as it stands in a terminal
 WIDE = """\
 teacher Šimůnek
@@ -140,6 +175,15 @@ def check_worked(folder):
     check_run("the week of a teacher in two places", "week", small, clash, "--teacher", "t1", wanted=T1)
     _, closed = write_files(folder, b"", b"geo B 0 0")
     check_run("a lecture in a slot that is not available", "week", small, closed, "--course", "geo", wanted=CLOSED)
+    *_, blocked = write_files(folder, b"", b"", blocked=BLOCKED.encode())
+    check_run("a room that is blocked", "week", small, solution, "--blocked", blocked, "--room", "A", wanted=BLOCKED_ROOM)
+    check_run("a room and its teacher", "week", small, solution, "--blocked", blocked, "--course", "geo", wanted=GEO)
+    *_, away = write_files(folder, b"", b"", blocked=AWAY.encode())
+    check_run("the rooms of a teacher who is away", "week", small, solution, "--blocked", away, wanted=SMALL)
+    check_run("a teacher who is away", "week", small, solution, "--blocked", away, "--teacher", "t1", wanted=AWAY_TEACHER)
+    check_run("a course of his", "week", small, solution, "--blocked", away, "--course", "alg", wanted=AWAY_COURSE)
+    check_run("the other one", "week", small, solution, "--blocked", away, "--course", "top", wanted=AWAY_OTHER)
+    check_run("a curriculum of his", "week", small, solution, "--blocked", away, "--curriculum", "q1", wanted=Q1)
     check_run("the week of wide names", "week", *pair_of(NAMES, "wide"), "--teacher", "Šimůnek", wanted=WIDE)
 
 
