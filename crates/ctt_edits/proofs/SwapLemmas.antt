@@ -50,13 +50,13 @@ in_free_room : (i : Problem) (t : List Placed) (c s r : ℕ) → length (course_
 in_free_room i t c s r fewer free = by_parts (is_some (room_at c s t)) (leb (course_of i c).lectures (length (course_row c t))) (fault_alone i c s r) (clash_at i c s t) (holder_at s r t) (lt-leb (course_of i c).lectures (length (course_row c t)) fewer) free
 
 -- the same if the room is not blocked in the slot
-in_open_room : (i : Problem) (t : List Placed) (c s r : ℕ) → length (course_row c t) < (course_of i c).lectures → holder_at s r t ≡ None → is_blocked i r s ≡ false →
+in_unblocked_room : (i : Problem) (t : List Placed) (c s r : ℕ) → length (course_row c t) < (course_of i c).lectures → holder_at s r t ≡ None → is_blocked i r s ≡ false →
     try_fault i t c s r ≡ in_place (is_some (room_at c s t)) (is_unavailable i c s) (is_barred i c r) (clash_at i c s t)
-in_open_room i t c s r fewer free open = in_free_room i t c s r fewer free ∙ rw open (not_blocked (is_some (room_at c s t)) (is_unavailable i c s) (is_barred i c r) (option_map Clash (clash_at i c s t)))
+in_unblocked_room i t c s r fewer free unblocked = in_free_room i t c s r fewer free ∙ rw unblocked (not_blocked (is_some (room_at c s t)) (is_unavailable i c s) (is_barred i c r) (option_map Clash (clash_at i c s t)))
 
 -- if there is no other fault, the room may be barred
 only_barred : (i : Problem) (t : List Placed) (c s r : ℕ) → length (course_row c t) < (course_of i c).lectures → holder_at s r t ≡ None → is_blocked i r s ≡ false → room_at c s t ≡ None → is_unavailable i c s ≡ false → clash_at i c s t ≡ None → try_fault i t c s r ≡ fault_if (is_barred i c r) Barred
-only_barred i t c s r fewer free open empty available clear = in_open_room i t c s r fewer free open ∙ rw (empty, available, clear) (or_none (fault_if (is_barred i c r) Barred))
+only_barred i t c s r fewer free unblocked empty available clear = in_unblocked_room i t c s r fewer free unblocked ∙ rw (empty, available, clear) (or_none (fault_if (is_barred i c r) Barred))
 
 -- two lectures of two courses, each with its room, and the timetable without them
 module _ (i : Problem) (t : List Placed) (c s r d e q : ℕ) (lawful : Lawful i t) (there : room_at c s t ≡ Some r) (other_there : room_at d e t ≡ Some q) (apart : (c == d) ≡ false) where
@@ -112,7 +112,7 @@ module _ (i : Problem) (t : List Placed) (c s r d e q : ℕ) (lawful : Lawful i 
     own_room = room_after d e None c e left (ap is_some stays) ∙ rw turned (room_after c s None c e t (ap is_some there) ∙ rw (eq-eqb c c refl, differ) refl)
 
     first_is : fault_in_place_of i t c (record { course = d; slot = e; room = q }) ≡ try_fault i gone c e q
-    first_is = ap₂ (λ o x. in_place (is_some o) (is_unavailable i c e) (is_barred i c q) x) (sym own_room) (ap (λ ls. course_named (find (λ l. clash i c l.course) ls)) (sym here)) ∙ sym (in_open_room i gone c e q own_fewer nobody other_free.allowed.2)
+    first_is = ap₂ (λ o x. in_place (is_some o) (is_unavailable i c e) (is_barred i c q) x) (sym own_room) (ap (λ ls. course_named (find (λ l. clash i c l.course) ls)) (sym here)) ∙ sym (in_unblocked_room i gone c e q own_fewer nobody other_free.allowed.2)
 
     there_row : slot_row s first ≡ slot_row s left
     there_row = untouched_slot_at (λ x. x == s) c e (Some q) gone back ∙ untouched_slot_at (λ x. x == s) d e None left back
@@ -122,7 +122,7 @@ module _ (i : Problem) (t : List Placed) (c s r d e q : ℕ) (lawful : Lawful i 
 
     second_is : fault_in_place_of i t d (record { course = c; slot = s; room = r }) ≡ try_fault i first d s r
     second_is = ap₂ (λ o x. in_place (is_some o) (is_unavailable i d s) (is_barred i d r) x) (sym other_room) (ap (λ ls. course_named (find (λ l. clash i d l.course) ls)) (sym there_row))
-        ∙ sym (in_open_room i first d s r other_fewer (ap (λ ls. course_named (find (λ l. l.room == r) ls)) there_row ∙ nobody_left) free.allowed.2)
+        ∙ sym (in_unblocked_room i first d s r other_fewer (ap (λ ls. course_named (find (λ l. l.room == r) ls)) there_row ∙ nobody_left) free.allowed.2)
 
     pub by_slots : edit_fault i t (Swap c s d e) ≡ or_else (fault_in_place_of i t c (record { course = d; slot = e; room = q })) (fault_in_place_of i t d (record { course = c; slot = s; room = r }))
     by_slots = rw (there, other_there, apart) (ap₂ or_else (sym first_is) (sym second_is))
