@@ -8,8 +8,9 @@ from typing import Dict, List, Optional, Tuple
 
 from office.costs import Costs
 from office.folder import Day
-from office.instance import Instance, read_instance
-from office.minutes import read_minutes
+from office.instance import Instance
+from office.minutes import Entry
+from office.parts import FIRST, Part, last_part, read_parts
 from office.play import play_all
 from office.refused import CONTENT, Refused
 from office.text import counted
@@ -22,6 +23,8 @@ class At:
     """A day after its first drafts, as the program answers."""
 
     day: Day
+    # the part of the day in which that is
+    part: Part
     # after how many of how many accepted drafts
     number: int
     accepted: int
@@ -41,29 +44,44 @@ class At:
 
     def title(self) -> str:
         """Which timetable this is, in words."""
-        if self.number == 0:
+        if self.number == 0 and self.part.number == FIRST:
             return f"{self.day.name}, at its start"
-        if self.number == self.accepted:
+        if self.number == self.accepted and self.part.is_last():
             return f"{self.day.name}, after {counted(self.number, 'draft')}"
         return f"{self.day.name}, after draft {self.number} of {self.accepted}"
 
 
 def instance_of(day: Day) -> Instance:
-    """The instance of a day, with its barred rooms."""
-    return read_instance(day.instance, day.barred if day.barred_words() else None)
+    """The instance of a day, with the rules that it has now."""
+    return last_part(day).instance()
+
+
+def part_at(
+    parts: List[Tuple[Part, List[Entry]]], number: Optional[int]
+) -> Tuple[Part, List[Entry]]:
+    """The part of a day that has a draft, and what was accepted in it up to that one; without a
+    number the last part. The start of the day is in its first part."""
+    part, entries = parts[-1]
+    if number is None:
+        return part, entries
+    for part, entries in parts:
+        if number == 0 or (entries and number <= entries[-1].number):
+            break
+    return part, [entry for entry in entries if entry.number <= number]
 
 
 def read_at(day: Day, number: Optional[int] = None) -> At:
     """The timetable of a day after a draft; without a number the newest one."""
     day.facts()
-    entries = read_minutes(day.minutes)
-    if number is not None and not 0 <= number <= len(entries):
-        has = counted(len(entries), "accepted draft") if entries else "no accepted draft"
+    parts = read_parts(day)
+    accepted = sum(len(entries) for _, entries in parts)
+    if number is not None and not 0 <= number <= accepted:
+        has = counted(accepted, "accepted draft") if accepted else "no accepted draft"
         raise Refused(f"{day.name} has {has}, and no draft {number}", CONTENT)
-    count = len(entries) if number is None else number
-    instance = instance_of(day)
-    played = play_all(day, instance, [entry.edits() for entry in entries[:count]])
-    return At(day, count, len(entries), instance, *played)
+    part, entries = part_at(parts, number)
+    instance = part.instance()
+    played = play_all(part, instance, [entry.edits() for entry in entries])
+    return At(day, part, accepted if number is None else number, accepted, instance, *played)
 
 
 def parse_at(words: str) -> Tuple[Day, Optional[int]]:

@@ -1,9 +1,11 @@
 """The screen without a terminal: keys go in, rows of text come out."""
 from __future__ import annotations
 
-from typing import Callable, Dict, List, Optional, Tuple
+from typing import Callable, Dict, List, Optional
 
+from office.board_rules import BoardRules
 from office.carry import SWAP, Offer
+from office.drawn import Drawn
 from office.grid import Grid, Row
 from office.header import Header, key_rows
 from office.help import help_lines
@@ -25,15 +27,6 @@ ABOVE, BELOW = 3, 7
 STEPS = {"left": (-1, 0), "right": (1, 0), "up": (0, -1), "down": (0, 1)}
 
 
-class Drawn:
-    """What was drawn last: a planner acts on what he has seen."""
-
-    def __init__(self) -> None:
-        self.view: Optional[View] = None
-        self.lectures: Dict[Slot, Optional[Lecture]] = {}
-        self.offer: Optional[Tuple[Slot, Optional[Offer]]] = None
-
-
 class Board:
     """What is seen, and what each key does."""
 
@@ -45,6 +38,7 @@ class Board:
         self.cursor: Slot = (0, 0)
         self.overlay: Optional[Overlay] = None
         self.drawn = Drawn()
+        self.rules = BoardRules(self)
         # the desk has ended: nothing more can be done
         self.is_dead = False
         # the window is too small to see what a key does
@@ -59,6 +53,7 @@ class Board:
             "weeks": lambda: self.work.show_next_week(self.seen()),
             "history": lambda: self.work.drafts_of(self.seen()),
             "pin": self.pin,
+            "block": self.rules.block,
             "who": self.work.knowing.who_is_where,
             "undo": lambda: self.free(drafting.undo),
             "edits": drafting.edits,
@@ -126,19 +121,10 @@ class Board:
         rows += [[("", "")]] * (height - BELOW - len(rows))
         rows += header.detail_rows(self.cursor, grid.cells[self.cursor])
         rows += self.message_rows(width, grid.cells[self.cursor])
-        self.keep_drawn(grid)
+        self.drawn.keep(self.work, grid)
         if isinstance(self.overlay, Typed):
             return rows + key_rows(self.work.carry, width)[:1] + self.overlay.rows(1, width)
         return rows + key_rows(self.work.carry, width)
-
-    def keep_drawn(self, grid: Grid) -> None:
-        """Keeps what a planner sees now."""
-        drawn, carry = self.drawn, self.work.carry
-        drawn.view = self.work.view
-        drawn.lectures = {
-            slot: next(iter(cell.lectures), None) for slot, cell in grid.cells.items()
-        }
-        drawn.offer = (self.cursor, carry.chosen(self.cursor)) if carry else None
 
     def seen(self) -> Optional[Lecture]:
         """The lecture that was seen at the cursor; of a week that was not drawn yet, the one that
@@ -181,7 +167,7 @@ class Board:
         if self.overlay is not None:
             front = self.overlay
             if front.press(key) and self.overlay is front:
-                self.overlay = None
+                self.overlay = self.rules.take_kept()
             return
         if key in STEPS:
             self.go(*STEPS[key])
@@ -287,7 +273,7 @@ class Board:
     def list_missing(self) -> None:
         courses = self.planning.instance.courses
         choices = [
-            (self.wording.missing(courses[name], count), name)
+            (self.wording.missing(courses[name], count, self.work.stood(name)), name)
             for name, count in self.work.missing().items()
         ]
         if choices:
@@ -312,6 +298,10 @@ class Board:
 
     def show_box(self) -> None:
         """Shows what a commit would publish, if there is anything to commit."""
+        self.overlay = self.commit_box() or self.overlay
+
+    def commit_box(self, why: str = "") -> Optional[CommitBox]:
+        """What a commit would publish, with a reason that was begun; None if it is nothing."""
         drafting = self.work.drafting
 
         def commit(edits: List[str], why: str) -> None:
@@ -319,9 +309,20 @@ class Board:
             self.ask(drafting.commit(edits, why))
 
         box = drafting.box()
-        if box is not None:
-            names = self.planning.instance.names()
-            self.overlay = CommitBox(box, drafting.renewed, self.wording, commit, names)
+        if box is None:
+            return None
+        names = self.planning.instance.names()
+        found = CommitBox(box, drafting.renewed, self.wording, commit, names)
+        found.why = why
+        return found
+
+    def step_over(self) -> None:
+        """Goes on in the next part of the day."""
+        self.rules.step_over()
+
+    def forget_drawn(self) -> None:
+        """What was seen is no more."""
+        self.drawn = Drawn()
 
     def put_aside(self) -> None:
         self.work.carry = None

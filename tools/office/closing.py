@@ -4,12 +4,14 @@ from __future__ import annotations
 
 import contextlib
 import os
+import shutil
 import signal
 import time
 
 from office.at_work import end_work
 from office.costs import costs_in_words
 from office.folder import Day, write_whole
+from office.parts import Part, half_made, parts_of
 from office.pipes import remove_pipes
 from office.program import Left
 from office.refused import CONTENT, Refused
@@ -29,6 +31,9 @@ def close_day(day: Day, seconds: float) -> int:
         end_work(day, planner)
     with contextlib.suppress(FileNotFoundError):
         os.remove(day.closing)
+    for folder in half_made(day):
+        # a change of rules was broken off: those before hold to the end
+        shutil.rmtree(folder, ignore_errors=True)
     return write_end(day)
 
 
@@ -63,25 +68,77 @@ def send(number: int, sign: int) -> None:
         raise Refused("only who opened the office can close it") from None
 
 
-def write_end(day: Day) -> int:
-    """Writes journal, audit and last timetable of a day, and says what it costs."""
-    left = Left(day)
-    new = day.journal + ".new"
+def write_journal(part: Part) -> str:
+    """Writes the journal of a part, and answers what its audit under the rules of the part says."""
+    left, new = Left(part), part.journal + ".new"
     left.write_journal(new)
     status, verdict = left.audit(new)
-    os.replace(new, day.journal)
-    write_whole(day.audit, f"{verdict}\n".encode())
+    os.replace(new, part.journal)
     if status != 0:
-        raise Refused(f"the audit of {day.journal} does not agree: {verdict}", CONTENT)
-    left.write_list(day.journal, day.end + ".new")
-    os.replace(day.end + ".new", day.end)
-    before = left.report(day.start if os.path.exists(day.start) else None)
-    after = left.report(day.end)
-    with open(day.journal, "rb") as file:
-        count = int(file.readline().split()[1])
-    print(f"{day.name}: {counted(count, 'draft')} accepted, the audit {verdict}")
+        raise Disagrees(part, f"the audit of {part.journal} does not agree: {verdict}", verdict)
+    return verdict
+
+
+class Disagrees(Refused):
+    """A part of which the audit does not agree, or which does not begin where the one before has
+    ended."""
+
+    def __init__(self, part: Part, reason: str, verdict: str) -> None:
+        super().__init__(reason, CONTENT)
+        self.part, self.verdict = part, verdict
+
+
+def check_start(part: Part, end: bytes) -> None:
+    """Checks that a part begins with what the one before has left, as far as it can stand under the
+    rules of the part."""
+    with open(part.start, "rb") as file:
+        start = file.read()
+    if Left(part, quiet=True).mended(end) != start:
+        told = f"part {part.number} does not begin where part {part.number - 1} ended"
+        raise Disagrees(part, f"{part.day.path}: {told}", told)
+
+
+def audit_parts(day: Day) -> bytes:
+    """Audits each part of a day under its own rules, and that each begins where the one before it
+    has ended; answers the timetable that is left."""
+    parts, end = parts_of(day), b""
+    for part in parts:
+        if part.number > 1:
+            check_start(part, end)
+        write_journal(part)
+        end = Left(part).list(part.journal)
+    return end
+
+
+def count_of(part: Part) -> int:
+    """How many drafts the journal of a part has."""
+    with open(part.journal, "rb") as file:
+        return int(file.readline().split()[1])
+
+
+def write_audit(day: Day) -> bytes:
+    """Writes the journals and the audit of a day, and answers the timetable that is left."""
+    try:
+        end = audit_parts(day)
+    except Disagrees as fault:
+        write_whole(day.audit, f"{fault.verdict}\n".encode())
+        raise
+    write_whole(day.audit, b"agrees\n")
+    return end
+
+
+def write_end(day: Day) -> int:
+    """Writes journals, audit and last timetable of a day, and says what it costs."""
+    write_whole(day.end, write_audit(day))
+    parts = parts_of(day)
+    first, last = parts[0], parts[-1]
+    before = Left(first).report(first.start if first.has_start() else None)
+    after = Left(last).report(day.end)
+    count, journals = sum(map(count_of, parts)), ", ".join(part.journal for part in parts)
+    under = f" in {counted(len(parts), 'part')}" if len(parts) > 1 else ""
+    print(f"{day.name}: {counted(count, 'draft')} accepted{under}, the audit agrees")
     print(f"cost before {costs_in_words(before)}")
     print(f"cost after  {costs_in_words(after)}")
     print(f"missing lectures {after['lectures']}")
-    print(f"written: {day.journal}, {day.audit}, {day.end}")
+    print(f"written: {journals}, {day.audit}, {day.end}")
     return 0

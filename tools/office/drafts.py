@@ -3,13 +3,12 @@ did to each lecture."""
 from __future__ import annotations
 
 from dataclasses import dataclass
-from typing import Dict, Iterable, List
+from typing import Dict, Iterable, List, Tuple
 
-from office.at import instance_of
 from office.folder import Day
-from office.history import NOT_TOLD, read_told
-from office.instance import read_solution
-from office.minutes import read_minutes
+from office.history import NOT_TOLD, Told, read_told
+from office.minutes import Entry
+from office.parts import Part, read_parts
 from office.seat import read_sitter
 from office.shifts import Shift, shifts_of
 from office.timetable import Lecture, Slot, Timetable
@@ -88,21 +87,25 @@ def make_draft(timetable: Timetable, edits: Iterable[str]) -> List[Shift]:
     return net(found)
 
 
-def start_of(day: Day) -> Timetable:
-    """The timetable with which a day began."""
-    has_start = "--start" in day.start_words()
-    return Timetable(instance_of(day), read_solution(day.start) if has_start else ())
-
-
-def read_drafts(day: Day) -> List[Draft]:
-    """The accepted drafts of a day in their order. Of a seat of which no log can be read the name
+def drafts_of(part: Part, entries: Iterable[Entry], told: Dict[int, Told]) -> List[Draft]:
+    """The accepted drafts of a part in their order. Of a seat of which no log can be read the name
     of who sits there is known."""
-    day.facts()
-    told, timetable = read_told(day), start_of(day)
-    found = []
-    for entry in read_minutes(day.minutes):
+    timetable, found = Timetable(part.instance(), part.lectures()), []
+    for entry in entries:
         name, time, why = told.get(entry.number, NOT_TOLD)
-        name = name or read_sitter(day, entry.planner)[0]
+        name = name or read_sitter(part.day, entry.planner)[0]
         shifts = make_draft(timetable, entry.edits())
         found.append(Draft(entry.number, entry.planner, name, time, why, entry.edits(), shifts))
     return found
+
+
+def read_part_drafts(day: Day) -> List[Tuple[Part, List[Draft]]]:
+    """The accepted drafts of a day, part by part."""
+    day.facts()
+    told = read_told(day)
+    return [(part, drafts_of(part, entries, told)) for part, entries in read_parts(day)]
+
+
+def read_drafts(day: Day) -> List[Draft]:
+    """The accepted drafts of a day in their order."""
+    return [draft for _, drafts in read_part_drafts(day) for draft in drafts]

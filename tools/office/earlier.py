@@ -4,8 +4,8 @@ from __future__ import annotations
 from typing import Iterator, List, Optional, Tuple
 
 from office.folder import Day
-from office.minutes import read_minutes
 from office.notice import Notice
+from office.parts import read_entries
 from office.planning import Planning
 from office.refused import Refused
 from office.seatlog import read_past
@@ -34,7 +34,7 @@ def unfinished_before(day: Day, planner: int) -> Tuple[str, List[str]]:
             past = read_past(before.log(planner))
         except PermissionError:
             break
-        past.settle(read_minutes(before.minutes), planner)
+        past.settle(read_entries(before), planner)
         if past.unfinished():
             return before.name, past.unfinished()
         if past.offer or past.story.accepted:

@@ -151,6 +151,11 @@ class Story:
     accepted: list[int] = field(default_factory=list)
     has_left: bool = False
     is_full: bool = False
+    # how many drafts of the day were accepted before this part of it
+    offset: int = 0
+    # the edits of a draft that was open when a part of the day ended, until all of them were made
+    # again or refused
+    again: list[str] = field(default_factory=list)
 
     def hear(self, line: str, answer: str) -> None:
         """Takes up a line with its answer."""
@@ -170,11 +175,27 @@ class Story:
 
     def unfinished(self) -> list[str]:
         """The edits that were made and neither accepted nor given up."""
-        return self.edits if self.is_open else self.ended
+        found = self.edits if self.is_open else self.ended
+        return [*found, *(edit for edit in self.again if edit not in found)]
 
     def forget(self) -> None:
         """The edits of the last draft are given up. The desk would still make them again."""
-        self.ended = []
+        self.ended, self.again = [], []
+
+    def accept(self, number: int) -> None:
+        """A draft was accepted, by its number on the day."""
+        self._end(keeps=False)
+        self.accepted.append(number)
+
+    def begin_part(self, offset: int, waiting: list[str]) -> None:
+        """Another part of the day begins, after so many accepted drafts. A draft that is open is
+        kept, with the edits that were sent and not answered."""
+        kept = self.unfinished() + [line for line in waiting if is_edit(line)]
+        is_cut = self.is_open or bool(self.again) or kept != self.ended
+        self._end(keeps=True)
+        self.offset, self.has_left = offset, False
+        if is_cut:
+            self.ended = self.ended_made = self.again = kept
 
     def _make(self, edit: str) -> None:
         if not self.is_open:
@@ -196,6 +217,7 @@ class Story:
             self.ended_made = self.made if keeps else []
         elif not keeps:
             self.ended, self.ended_made = [], []
+        self.again = self.again if keeps else []
         self.is_open, self.made, self.edits, self.left_out = False, [], [], []
         self.undone = []
 
@@ -231,8 +253,7 @@ class Story:
 
     def _commit(self, answer: str) -> None:
         if answer.startswith("committed "):
-            self._end(keeps=False)
-            self.accepted.append(int(answer.split(" ")[1]))
+            self.accept(self.offset + int(answer.split(" ")[1]))
         elif answer.startswith("stale "):
             self._end(keeps=True)
         elif answer == "not written":

@@ -67,7 +67,7 @@ class Export:
                 yield (*self.coded("curriculum", curriculum), "")
 
     def unavailable(self) -> Rows:
-        for course, slots in self.instance.closed.items():
+        for course, slots in self.instance.unavailable.items():
             for slot in sorted(slots):
                 yield (self.named("course", course), "", *self.slot(slot))
 

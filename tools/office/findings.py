@@ -21,6 +21,7 @@ GROUPS = (
     "availability",
     "occupancy",
     "barred",
+    "blocked",
     "capacity",
     "days",
     "compactness",
@@ -52,7 +53,7 @@ def solution_of(timetable: Timetable) -> bytes:
 def place_of(finding: Dict[str, Any], timetable: Timetable) -> Place:
     """Where one looks at a finding: the week of a room, a curriculum or a course."""
     slot = (finding["day"], finding["period"]) if "period" in finding else None
-    if finding["kind"] == "occupancy":
+    if finding["kind"] in ("occupancy", "blocked"):
         return Place(View("room", finding["room"]), slot)
     if finding["kind"] == "compactness":
         return Place(View("curriculum", finding["curriculum"]), slot)
@@ -107,11 +108,12 @@ class Findings:
 
     def read(self) -> List[Dict[str, Any]]:
         """All findings, by the program."""
-        day = self.planning.seat.day
-        words = ["check", day.instance, "-", "--explain", "--json", *day.barred_words()]
+        left = Left(self.planning.minutes.part, quiet=True)
+        sides = left.part.side_words()
+        words = ["check", left.instance, "-", "--explain", "--json", *sides]
         text = solution_of(self.planning.known.present())
         try:
-            status, printed = Left(day, quiet=True).run(*words, text=text)
+            status, printed = left.run(*words, text=text)
             if status == 0:
                 return list(json.loads(printed.decode("utf-8", "surrogateescape"))["findings"])
         except (OSError, ValueError, KeyError):

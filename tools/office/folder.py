@@ -11,6 +11,11 @@ from typing import Any, Optional
 
 from office.refused import Refused
 
+# how far an office is
+CHECKING, STARTING, OPEN, CHANGING, REOPENING, CLOSED = (
+    "checking starting open changing reopening closed".split()
+)
+
 
 def lock(path: str, mode: int = 0o660, shared: bool = False) -> Optional[int]:
     """Takes the lock of a file, which is made if it is not there; None if somebody has it."""
@@ -137,9 +142,17 @@ class Day:
         """Whether an office holds the day, or a desk that it left."""
         return is_locked(self.office)
 
+    def stage(self) -> str:
+        """How far the office is, by what it has noted last."""
+        return " ".join(read_text(self.office).split()[2:])
+
     def is_ready(self) -> bool:
         """Whether planners can sit down."""
-        return self.is_open() and read_text(self.office).split()[2:] == ["open"]
+        return self.is_open() and self.stage() == OPEN
+
+    def is_changing(self) -> bool:
+        """Whether the office changes the rules just now: those who sit go on in the next part."""
+        return self.is_open() and self.stage() in (CHANGING, REOPENING)
 
     def numbers(self) -> list[int]:
         """The numbers of the office's and the desk's processes, as far as they are known."""

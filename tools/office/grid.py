@@ -28,9 +28,11 @@ def name_in_cell(wording: Wording, view: View, cell: Cell) -> str:
 
 
 def marks_in_cell(cell: Cell) -> List[str]:
-    """`@` and the name of who has a draft open here, and whether something is pinned."""
+    """`@` and the name of who has a draft open here, whether something is pinned, and whether it is
+    blocked."""
     names = dict.fromkeys(f"@{shown(work.name)}" for work in cell.at_work)
-    return [*names, *(["pin"] if cell.pins else [])]
+    pin, blocked = ["pin"] if cell.pins else [], ["blocked"] if cell.blocked else []
+    return [*blocked, *names, *pin]
 
 
 def signs_in_cell(cell: Cell) -> str:

@@ -8,7 +8,7 @@ from office.costs import COSTS
 from office.drafts import Draft, exchanged, net
 from office.notice import NOTHING, Notice, Question, say
 from office.planning import Planning
-from office.play import play_costs
+from office.past_costs import costs_around
 from office.refused import Refused
 from office.shifts import Shift
 from office.taking_back import take_back
@@ -86,10 +86,8 @@ class History:
 
     def cost(self, draft: Draft) -> Notice:
         """What the timetable cost before and after a draft."""
-        planning, number = self.planning, draft.number
-        edits = [entry.edits() for entry in planning.minutes.entries[:number]]
         try:
-            before, after = play_costs(planning.seat.day, edits, number - 1)
+            before, after = costs_around(self.planning.seat.day, draft.number)
         except Refused:
             return say("cost not known")
         parts = [

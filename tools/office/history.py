@@ -6,6 +6,7 @@ from typing import NamedTuple, Optional
 
 from office.commit_notes import read_commit_notes
 from office.folder import Day
+from office.parts import last_part, read_parts
 from office.seatlog import SeatPast, read_past
 
 
@@ -21,14 +22,28 @@ NOT_TOLD = Told("", "", "")
 
 
 def read_pasts(day: Day) -> list[Optional[SeatPast]]:
-    """What the log of each seat says; None for those that are closed to the reader."""
+    """What the log of each seat says; None for those that are closed to the reader. What was open
+    at a part of the day that has ended is kept, and not open any more."""
     pasts: list[Optional[SeatPast]] = []
     for planner in range(day.facts()["planners"]):
         try:
-            pasts.append(read_past(day.log(planner)))
+            past = read_past(day.log(planner))
         except PermissionError:
             pasts.append(None)
+            continue
+        bring_up(past, day, planner)
+        pasts.append(past)
     return pasts
+
+
+def bring_up(past: SeatPast, day: Day, planner: int) -> None:
+    """Brings what a log says up to the last part of the day, if the seat was not used in it."""
+    number = last_part(day).number
+    if past.part == number:
+        return
+    before = [one for part, entries in read_parts(day) if part.number < number for one in entries]
+    past.settle(before, planner)
+    past.begin_part(number, len(before))
 
 
 def commits_of(pasts: list[Optional[SeatPast]]) -> dict[int, tuple[str, str]]:

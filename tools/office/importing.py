@@ -23,7 +23,7 @@ from office.words import encoded
 def instance_text(instance: Instance) -> bytes:
     """An instance as the desk reads it."""
     courses = instance.courses.values()
-    closed = [(one.name, *slot) for one in courses for slot in sorted(instance.closed[one.name])]
+    closed = [(one.name, *slot) for one in courses for slot in sorted(instance.unavailable[one.name])]
     lines: List[Tuple[object, ...]] = [
         ("Name:", instance.name),
         ("Courses:", len(courses)),

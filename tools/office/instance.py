@@ -2,8 +2,9 @@
 from __future__ import annotations
 
 from dataclasses import dataclass, field
-from typing import Iterator, Optional
+from typing import Iterable, Iterator, Optional
 
+from office.scope import Closure, closed_by
 from office.words import decoded
 
 
@@ -26,10 +27,16 @@ class Instance:
     courses: dict[str, Course]
     rooms: dict[str, int]
     curricula: dict[str, list[str]]
-    closed: dict[str, set[tuple[int, int]]]
+    # as the file lists them
+    unavailable: dict[str, set[tuple[int, int]]]
     barred: set[tuple[str, str]] = field(default_factory=set)
 
     def __post_init__(self) -> None:
+        # in which slots a course cannot be, by the file or by a closure, and in which a room cannot
+        # be used by a closure
+        self.closed: dict[str, set[tuple[int, int]]] = self.unavailable
+        self.blocked: dict[str, set[tuple[int, int]]] = {}
+        self.closures: list[Closure] = []
         self.teachers: dict[str, list[str]] = {}
         for course in self.courses.values():
             self.teachers.setdefault(course.teacher, []).append(course.name)
@@ -39,6 +46,20 @@ class Instance:
                 self.curricula_of[member].append(curriculum)
         self.numbers = {name: number for number, name in enumerate(self.courses)}
         self.mates: dict[str, set[str]] = {name: self._mates_of(name) for name in self.courses}
+
+    def block(self, closures: Iterable[Closure]) -> None:
+        """Takes up closures in place of those before."""
+        found = list(closures)
+        closed, blocked = closed_by(self, [closure.scope for closure in found])
+        self.closures, self.closed, self.blocked = found, closed, blocked
+
+    def closures_at(self, kind: str, name: str, slot: tuple[int, int]) -> list[Closure]:
+        """What blocks a room, a teacher or a course in a slot."""
+        return [
+            closure
+            for closure in self.closures
+            if closure.scope[:2] == (kind, name) and closure.scope.has_slot(slot)
+        ]
 
     def names(self) -> set[str]:
         """The names of courses, rooms, teachers and curricula."""
@@ -100,11 +121,11 @@ def read_instance(path: str, barred: Optional[str] = None) -> Instance:
         curriculum = reader.word()
         members[curriculum] = list(dict.fromkeys(reader.word() for _ in range(reader.number())))
     reader.word()
-    closed: dict[str, set[tuple[int, int]]] = {course.name: set() for course in listed}
+    away: dict[str, set[tuple[int, int]]] = {course.name: set() for course in listed}
     for _ in range(constraints):
-        closed[reader.word()].add((reader.number(), reader.number()))
+        away[reader.word()].add((reader.number(), reader.number()))
     pairs = read_barred(barred) if barred else set()
-    return Instance(name, days, periods, {c.name: c for c in listed}, seats, members, closed, pairs)
+    return Instance(name, days, periods, {c.name: c for c in listed}, seats, members, away, pairs)
 
 
 def read_barred(path: str) -> set[tuple[str, str]]:

@@ -75,6 +75,13 @@ ACTIONS = (
         "pins the lecture at the cursor, with a reason: others are asked before they pick it up; "
         "or takes the pin off. The desk refuses nothing for it.",
     ),
+    Action(
+        "block",
+        "B",
+        "",
+        "blocks the room, the teacher or the course at the cursor, in the slot, on its day or on all "
+        "days, with a reason; or lifts what is blocked there. The rules change for all.",
+    ),
     Action("who", "i", "who", "lists who sits where, on what he works, and since when."),
     Action("undo", "u", "undo", "takes the last edit of the draft back."),
     Action(
@@ -155,6 +162,7 @@ ANSWERS = (
     Action("throw away", "x", "throws it away", ""),
     Action("unpin", "y", "takes it off", ""),
     Action("take back", "t", "takes it back in your draft", ""),
+    Action("seen", "enter", "goes on", ""),
     Action("take over", "y", "goes on with them", ""),
     Action("leave to them", "q", "leaves them", ""),
 )

@@ -4,6 +4,7 @@ from __future__ import annotations
 from typing import Callable, List, Optional
 
 from office.at_work import AtWork
+from office.blocked import reason_told
 from office.courtesies import Sitter, who_sits
 from office.notice import NOTHING, Notice, Question, say
 from office.pins import Pin
@@ -70,7 +71,8 @@ class Knowing:
 
     def told_of(self, cell: Cell) -> List[Notice]:
         """What is to be known of a cell."""
-        return [*map(pin_told, cell.pins), *map(work_told, cell.at_work)]
+        blocked = map(reason_told, cell.blocked)
+        return [*blocked, *map(pin_told, cell.pins), *map(work_told, cell.at_work)]
 
     # pins
 

@@ -33,6 +33,12 @@ class Known:
         """The timetable beside which changes of others are new."""
         return self.base or self.met
 
+    def begin_part(self, lectures: Iterable[Tuple[str, str, int, int]]) -> None:
+        """Another part of the day has begun, with these lectures, at a desk without drafts. What
+        is new is so beside the timetable that the planner has met before."""
+        self.newest = Timetable(self.newest.instance, lectures)
+        self._end(keeps=False)
+
     def meet(self) -> None:
         """Nothing that others have changed is new from now on."""
         self.met = self.newest.copy()

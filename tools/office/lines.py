@@ -8,12 +8,12 @@ import stat
 from typing import List, Sequence
 
 from office.folder import read_text
-from office.words import encoded
+from office.words import encoded, words_of
 
 
 def one_line(text: str) -> str:
-    """A text without line ends and tabs."""
-    return " ".join(text.split())
+    """A text without line ends and tabs. Other blanks stay, as a name may have them."""
+    return " ".join(words_of(text))
 
 
 def add_line(path: str, fields: Sequence[str]) -> str:
@@ -44,10 +44,14 @@ def add_line(path: str, fields: Sequence[str]) -> str:
     return ""
 
 
-def read_lines(path: str, count: int) -> List[List[str]]:
-    """The lines of so many fields. A line that is torn is left out, and so is a file that is closed
-    to the reader."""
-    found: List[List[str]] = []
-    with contextlib.suppress(OSError):
-        found = [line.split("\t") for line in read_text(path).split("\n")[:-1]]
+def fields_of(text: str, count: int) -> List[List[str]]:
+    """The lines of so many fields. A line that is torn is left out."""
+    found = [line.split("\t") for line in text.split("\n")[:-1]]
     return [fields for fields in found if len(fields) == count]
+
+
+def read_lines(path: str, count: int) -> List[List[str]]:
+    """The lines of so many fields of a file; none of one that is closed to the reader."""
+    with contextlib.suppress(OSError):
+        return fields_of(read_text(path), count)
+    return []

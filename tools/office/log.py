@@ -6,15 +6,19 @@ import json
 from typing import Any, Dict, List, Optional, Tuple
 
 from office.at import instance_of
+from office.blocked import change_told, shifts_of_change
 from office.costs import COSTS, Costs
-from office.drafts import Draft, exchanged, read_drafts
+from office.drafts import Draft, exchanged, read_part_drafts
 from office.folder import Day
+from office.instance import Instance
 from office.label_files import read_labels
+from office.parts import FIRST, Change, changes_of
 from office.play import play_costs
+from office.scope import Closure
 from office.shifts import Shift
 from office.text import counted, shown, signed
 from office.timetable import Lecture
-from office.what import find_what
+from office.what import What, find_what
 from office.wording import Wording
 
 
@@ -84,21 +88,91 @@ def draft_object(
     }
 
 
+def change_lines(
+    change: Change, touched: List[Shift], costs: Tuple[Costs, Costs], wording: Wording
+) -> List[str]:
+    """How the rules have changed, with what was set aside by it, and what it cost."""
+    when = change.time[:19].replace("T", " ")
+    lines = [f"    {wording.shifts([shift])}" for shift in touched]
+    others = len(change.asides) - len(touched)
+    if others:
+        lines.append(f"    and {counted(others, 'other lecture')}")
+    told = wording.notice(change_told(change))
+    return [f"rules, {when}: {told}", *lines, f"    {difference_words(*costs)}"]
+
+
+def closure_object(closure: Closure) -> Dict[str, Any]:
+    """A closure for other programs. A day or a period that is missing stands for all of them."""
+    kind, name, day, period = closure.scope
+    told = {"name": closure.who, "seat": closure.seat, "time": closure.time}
+    where = {"kind": kind, "code": name, "day": day, "period": period}
+    return {**where, "blocked": not closure.is_lifted, "reason": closure.why or None, **told}
+
+
+def change_object(
+    change: Change, touched: List[Shift], costs: Tuple[Costs, Costs]
+) -> Dict[str, Any]:
+    """A change of the rules for other programs."""
+    return {
+        "part": change.number,
+        "time": change.time,
+        "rules": [closure_object(closure) for closure in change.closures],
+        "lectures": [
+            {"course": shift.course, "from": place_object(shift.was), "to": None}
+            for shift in touched
+        ],
+        "cost": {"before": cost_object(costs[0]), "after": cost_object(costs[1])},
+    }
+
+
+def is_about(what: What, change: Change, touched: List[Shift]) -> bool:
+    """Whether a change of the rules concerns something."""
+    about = [(closure.scope.kind, closure.scope.name) for closure in change.closures]
+    who = [closure.who for closure in change.closures]
+    return bool(touched) or tuple(what) in about or (what.kind == "planner" and what.name in who)
+
+
+class Logged:
+    """What is printed, draft by draft, of all or of what concerns something."""
+
+    def __init__(self, instance: Instance, what: Optional[What], wording: Wording) -> None:
+        self.instance, self.what, self.wording = instance, what, wording
+        self.objects: List[Dict[str, Any]] = []
+        self.lines: List[str] = []
+
+    def take_draft(self, draft: Draft, costs: Tuple[Costs, Costs]) -> None:
+        touched = self.what.touched(self.instance, draft) if self.what else draft.shifts
+        if touched is not None:
+            self.objects.append(draft_object(draft, touched, costs))
+            self.lines += draft_lines(draft, touched, costs, self.wording)
+
+    def take_change(self, change: Change, costs: Tuple[Costs, Costs]) -> None:
+        what, touched = self.what, shifts_of_change(change)
+        if what is not None:
+            is_row = what.kind not in ("planner", "draft")
+            touched = [one for one in touched if is_row and what.is_touched(self.instance, one)]
+        if what is None or is_about(what, change, touched):
+            self.objects.append(change_object(change, touched, costs))
+            self.lines += change_lines(change, touched, costs, self.wording)
+
+
 def print_log(day: Day, words: List[str], is_json: bool) -> int:
-    """Prints the accepted drafts of a day, or those that concern something."""
-    drafts, instance = read_drafts(day), instance_of(day)
-    labels = read_labels(day.path)
-    what = find_what(words, instance, drafts, labels) if words else None
-    costs = play_costs(day, [draft.edits for draft in drafts])
-    wording, objects = Wording({}, labels), []
-    for draft, both in zip(drafts, zip(costs, costs[1:])):
-        touched = what.touched(instance, draft) if what else draft.shifts
-        if touched is None:
-            continue
-        if is_json:
-            objects.append(draft_object(draft, touched, both))
-        else:
-            print("\n".join(draft_lines(draft, touched, both, wording)))
+    """Prints the accepted drafts of a day with the changes of its rules, or those that concern
+    something."""
+    drafts = read_part_drafts(day)
+    instance, labels = instance_of(day), read_labels(day.path)
+    all_drafts = [draft for _, of_part in drafts for draft in of_part]
+    what = find_what(words, instance, all_drafts, labels) if words else None
+    logged, changes, last = Logged(instance, what, Wording({}, labels)), changes_of(day), None
+    for part, of_part in drafts:
+        costs = play_costs(part, [draft.edits for draft in of_part])
+        if last is not None:
+            logged.take_change(changes[part.number - FIRST - 1], (last, costs[0]))
+        for draft, both in zip(of_part, zip(costs, costs[1:])):
+            logged.take_draft(draft, both)
+        last = costs[-1]
     if is_json:
-        print(json.dumps(objects, indent=1))
+        print(json.dumps(logged.objects, indent=1))
+    elif logged.lines:
+        print("\n".join(logged.lines))
     return 0

@@ -7,6 +7,7 @@ import sys
 from typing import Optional
 
 from office.arguments import Commands, add_command, planner
+from office.block_words import add_blocks
 from office.data import add_data
 from office.folder import Day
 from office.past import add_past
@@ -43,6 +44,8 @@ def add_open(commands: Commands) -> None:
     start = "the timetable to begin with; else it is empty"
     one.add_argument("--start", metavar="SOLUTION", help=start)
     one.add_argument("--barred", metavar="FILE", help="rooms that courses must not have")
+    blocked = "when rooms, teachers and courses cannot be used; `office block` changes it later"
+    one.add_argument("--blocked", metavar="FILE", help=blocked)
     labels = "a folder with names, times and the term; with --after: other ones"
     one.add_argument("--labels", metavar="FOLDER", help=labels)
     after = "begin with what this day has left, and as many planners"
@@ -92,6 +95,7 @@ def parser() -> argparse.ArgumentParser:
     commands = top.add_subparsers(dest="command", metavar="COMMAND", required=True)
     add_open(commands)
     add_others(commands)
+    add_blocks(commands)
     add_past(commands)
     add_data(commands)
     return top
@@ -110,6 +114,7 @@ def open_by(words: argparse.Namespace, top: argparse.ArgumentParser) -> int:
                 "no INSTANCE, no PLANNERS, no --start"
             )
         plan = plan_after(day, Day(words.after), words.seats, words.changed, words.barred)
+        plan.blocked, plan.mends = words.blocked, plan.mends or words.blocked is not None
         plan.labels, plan.web = words.labels or plan.labels, web_of(day, words)
         return open_day(plan, words.unproved)
     if (
@@ -120,7 +125,7 @@ def open_by(words: argparse.Namespace, top: argparse.ArgumentParser) -> int:
     ):
         top.error("open: DAY INSTANCE PLANNERS, or DAY --after DAY")
     plan = Plan(day, words.planners, words.instance, words.start, words.barred)
-    plan.labels, plan.web = words.labels, web_of(day, words)
+    plan.blocked, plan.labels, plan.web = words.blocked, words.labels, web_of(day, words)
     return open_day(plan, words.unproved)
 
 

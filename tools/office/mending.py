@@ -12,6 +12,7 @@ from office.folder import Day, write_whole
 from office.instance import Instance, read_barred, read_instance, read_solution
 from office.label_files import read_labels
 from office.notice import say
+from office.parts import Part
 from office.processes import Signals
 from office.reasons import reason
 from office.refused import Silent
@@ -64,33 +65,43 @@ def told(line: str, instance: Instance, wording: Wording) -> str:
     return f"office: set aside {where}: {wording.notice(notice)}"
 
 
-def mend(signals: Signals, program: list[str], day: Day, solution: str) -> None:
-    """Makes the start of a day of a solution under its instance, and lists what is set aside: in
-    words on standard error, as the program does in the day's folder."""
-    instance, left, lines = read_instance(day.instance), [], []
+def mend(
+    signals: Signals, program: list[str], part: Part, instance: Instance, solution: str
+) -> None:
+    """Makes the start of a part of a solution, under the instance with the rules of the part, and
+    lists what is set aside: in words on standard error, as the program does beside the start."""
+    left, lines = [], []
     for lecture in read_solution(solution):
         why = missing_part(instance, lecture)
         if why is None:
             left.append(lecture)
         else:
             lines.append(f"office: set aside {' '.join(map(str, lecture))}: {why}\n")
-    before = day.file("before.sol")
-    write_solution(before, left)
-    words = [*program, "mend", day.instance, before, *day.barred_words()]
-    with open(day.start, "wb") as start, open(day.aside, "w+b") as aside:
+    known = part.file("known.sol")
+    write_solution(known, left)
+    words = [*program, "mend", part.day.instance, known, *part.side_words()]
+    with open(part.start, "wb") as start, open(part.aside, "w+b") as aside:
         aside.write(encoded("".join(lines)))
         aside.flush()
         status = processes.run(signals, words, stdout=start, stderr=aside)
+        for file in (start, aside):
+            os.fsync(file.fileno())
         aside.seek(0)
-        said = aside.read()
-    os.remove(before)
-    count = said.count(b"set aside ")
-    wording = Wording({}, read_labels(day.path))
-    with contextlib.suppress(OSError):
-        for line in decoded(said).split("\n")[:-1]:
-            print(told(line, instance, wording), file=sys.stderr)
-        if status == 0:
-            print(f"office: {counted(count, 'lecture')} set aside, in {day.aside}", file=sys.stderr)
-        sys.stderr.flush()
+        said = decoded(aside.read())
+    os.remove(known)
+    tell_aside(part, said, instance, is_whole=status == 0)
     if status != 0:
         raise Silent(status)
+
+
+def tell_aside(part: Part, said: str, instance: Instance, is_whole: bool) -> None:
+    """Says what was set aside, and how much that is, once all of it is."""
+    wording = Wording({}, read_labels(part.day.path))
+    count = said.count("set aside ")
+    with contextlib.suppress(OSError):
+        for line in said.split("\n")[:-1]:
+            print(told(line, instance, wording), file=sys.stderr)
+        if is_whole:
+            place = Part(part.day, part.number).aside
+            print(f"office: {counted(count, 'lecture')} set aside, in {place}", file=sys.stderr)
+        sys.stderr.flush()

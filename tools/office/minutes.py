@@ -1,4 +1,5 @@
-"""The minutes of a desk: the accepted drafts in the order of their commits."""
+"""The minutes of a desk: the accepted drafts in the order of their commits. A day has those of each
+of its parts."""
 from __future__ import annotations
 
 import os
@@ -28,8 +29,10 @@ class Entry:
 class Minutes:
     """A reader of minutes that grow: each whole entry is read once."""
 
-    def __init__(self, path: str) -> None:
+    def __init__(self, path: str, before: int = 0) -> None:
         self.path = path
+        # how many drafts of the day were accepted before these
+        self.before = before
         self.entries: list[Entry] = []
         self._at = 0
 
@@ -65,13 +68,9 @@ class Minutes:
             if behind > len(lines):
                 break
             calls = [(decoded(lines[k]), decoded(lines[k + 1])) for k in range(at + 1, behind, 2)]
-            new.append(Entry(len(self.entries) + len(new) + 1, int(head[1]), calls))
+            number = self.before + len(self.entries) + len(new) + 1
+            new.append(Entry(number, int(head[1]), calls))
             self._at += sum(len(line) + 1 for line in lines[at:behind])
             at = behind
         self.entries += new
         return new
-
-
-def read_minutes(path: str) -> list[Entry]:
-    """The whole entries of minutes."""
-    return Minutes(path).read_on()

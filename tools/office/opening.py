@@ -5,24 +5,34 @@ from __future__ import annotations
 import contextlib
 import os
 import subprocess
-import sys
-import time
 from typing import List, Optional
 
 from office import mending, processes
-from office.folder import Day, lock, write_whole
-from office.instance import names_of, read_instance
+from office.closures import (
+    add_closure,
+    blocked_now,
+    blocked_text,
+    closures_path,
+    closures_size,
+    read_blocked,
+    read_closures,
+    standing,
+)
+from office.folder import CHECKING, Day, lock, write_whole
+from office.instance import Instance, names_of, read_instance
 from office.label_files import FILES, has_labels, read_labels
+from office.parts import FIRST, Part, last_part
 from office.pins import pins_path
-from office.pipes import HeldSeats
 from office.processes import Signals, Stopped
 from office.program import build_words, program_words
 from office.refused import Refused, Silent
+from office.running import Running
+from office.saying import say
+from office.scope import Closure
+from office.seat import user_name
 from office.words import encoded
 
 SEATS = 64
-# how many seconds those who sit have when the office is closed by a signal
-GRACE = 10.0
 
 
 class Plan:
@@ -36,21 +46,18 @@ class Plan:
         self.instance = instance
         self.start = start
         self.barred = barred
+        # a side file of what is blocked, or in its place what another day has left blocked
+        self.blocked: Optional[str] = None
+        self.closures: List[Closure] = []
         self.after: Optional[Day] = None
         # the folder of the labels that the day takes along
         self.labels: Optional[str] = None
         # the command that serves the seats to browsers, if they are to be
         self.web: List[str] = []
-        # the start is the end of another day under another instance, or with other rooms barred:
-        # what cannot stand any more is set aside
+        # the start is the end of another day under another instance, or under other rules: what
+        # cannot stand any more is set aside
         self.mends = False
         self.program = ["timedesk"]
-
-
-def say(*words: str) -> None:
-    """Says a line of the office; the terminal may be closed by now."""
-    with contextlib.suppress(OSError):
-        print("office:", *words, file=sys.stderr, flush=True)
 
 
 def plan_after(
@@ -68,7 +75,10 @@ def plan_after(
     )
     plan.after, plan.program = before, facts["program"]
     plan.labels = before.path if has_labels(before.path) else None
-    plan.mends = instance is not None or barred is not None
+    plan.closures = standing(read_closures(before))
+    # what was blocked when the day ended may not have come to its rules any more
+    is_behind = plan.closures != standing(read_closures(before, 0, last_part(before).taken()))
+    plan.mends = instance is not None or barred is not None or is_behind
     return plan
 
 
@@ -88,7 +98,8 @@ def claim(day: Day) -> tuple[int, bool]:
         raise Refused(f"cannot write into {day.path}: {fault.strerror}") from None
     if held is None:
         raise Refused(f"an office is open in {day.path}")
-    if day.is_there() or (os.path.exists(day.minutes) and os.path.getsize(day.minutes)):
+    minutes = Part(day, FIRST).minutes
+    if day.is_there() or (os.path.exists(minutes) and os.path.getsize(minutes)):
         os.close(held)
         raise Refused(f"{day.path} has a day already: give each day a folder of its own")
     return held, made
@@ -101,31 +112,23 @@ class Opening:
         self.plan = plan
         self.day = plan.day
         self.signals = signals
-        self.seats = HeldSeats()
+        self.part = Part(plan.day, FIRST)
         self.lock, self.made = claim(self.day)
+        self.running = Running(self.part, plan.planners, self.lock, signals)
 
     def open(self) -> int:
         """Opens the office, and keeps it until it is closed. Until it is open, a refusal or a
         signal leaves nothing of it."""
-        desk = None
         try:
-            self.note("", "checking")
+            self.running.note(CHECKING)
             self.prepare()
-            desk = self.start_desk()
-            self.wait_for_seats(desk)
+            self.running.program = self.plan.program
+            self.running.start()
         except BaseException:
-            if desk is not None:
-                processes.end(desk)
-            self.seats.remove()
+            self.running.end_desk()
             self.forget()
             raise
-        return self.keep(desk)
-
-    def note(self, desk: str, stage: str) -> None:
-        """Notes in the lock's file how far the office is."""
-        text = f"{os.getpid()} {desk or '-'} {stage}\n".encode()
-        os.pwrite(self.lock, text, 0)
-        os.ftruncate(self.lock, len(text))
+        return keep(self.running, self.plan.web)
 
     def prepare(self) -> None:
         """Builds the program if need be, copies the files, and has them checked as they were
@@ -144,15 +147,22 @@ class Opening:
             mending.keep_barred(day, plan.barred)
         elif plan.barred:
             self.copy(plan.barred, day.barred)
+        self.block()
         if plan.start and plan.mends:
-            mending.mend(self.signals, plan.program, day, plan.start)
+            instance = read_instance(day.instance)
+            instance.block(standing(read_closures(day)))
+            mending.mend(self.signals, plan.program, self.part, instance, plan.start)
         elif plan.start:
-            self.copy(plan.start, day.start)
+            self.copy(plan.start, self.part.start)
         self.check()
         names = "\n".join(names_of(read_instance(day.instance)))
         write_whole(day.names, encoded(names + "\n"))
-        os.close(os.open(day.minutes, os.O_WRONLY | os.O_CREAT, 0o640))
-        day.write_facts(
+        os.close(os.open(self.part.minutes, os.O_WRONLY | os.O_CREAT, 0o640))
+        self.write_facts()
+
+    def write_facts(self) -> None:
+        plan = self.plan
+        self.day.write_facts(
             {
                 "planners": plan.planners,
                 "program": plan.program,
@@ -160,8 +170,37 @@ class Opening:
                 "instance": os.path.abspath(plan.instance),
                 "start": os.path.abspath(plan.start) if plan.start else None,
                 "after": os.path.abspath(plan.after.path) if plan.after else None,
+                "closures": closures_size(self.day),
             }
         )
+
+    def block(self) -> None:
+        """Takes up what is blocked: by a side file, which the program reads first, or since another
+        day. Of that what the instance does not have any more is left out, and said."""
+        plan, day = self.plan, self.day
+        if plan.blocked:
+            self.copy(plan.blocked, self.part.blocked)
+            self.check()
+            scopes = read_blocked(self.part.blocked)
+            closures = [blocked_now(scope, user_name(), None, "") for scope in scopes]
+        else:
+            closures = self.fitting(plan.closures)
+        for closure in closures:
+            fault = add_closure(day, closure)
+            if fault:
+                raise Refused(f"cannot write {closures_path(day)}: {fault}")
+        if closures:
+            write_whole(self.part.blocked, blocked_text(closures))
+
+    def fitting(self, closures: List[Closure]) -> List[Closure]:
+        """Closures without those of which the instance has the name or the slot no more."""
+        if not closures:
+            return []
+        instance: Instance = read_instance(self.day.instance)
+        for closure in closures:
+            if not closure.scope.is_of(instance):
+                say(f"not blocked any more: {closure.scope.words()}: there is no such thing")
+        return [closure for closure in closures if closure.scope.is_of(instance)]
 
     def copy_labels(self, folder: str) -> None:
         if not has_labels(folder):
@@ -173,7 +212,7 @@ class Opening:
 
     def check(self) -> None:
         """Has the program read what was copied so far."""
-        words = ["run", self.day.instance, os.devnull, *self.day.start_words()]
+        words = ["run", self.day.instance, os.devnull, *self.part.start_words()]
         status = self.run(*self.plan.program, *words)
         if status != 0:
             raise Silent(status)
@@ -193,51 +232,22 @@ class Opening:
         self.signals.check()
         write_whole(target, text)
 
-    def start_desk(self) -> subprocess.Popen[bytes]:
-        plan, day = self.plan, self.day
-        paths = [day.seat(planner) for planner in range(plan.planners)]
-        self.seats.make(paths)
-        words = [
-            *plan.program,
-            "desk",
-            day.instance,
-            *paths,
-            *day.start_words(),
-            "--minutes",
-            day.minutes,
-        ]
-        # the desk has the lock too: as long as it goes on, no other office opens here
-        desk = processes.start(words, None, keep=[self.lock])
-        self.note(str(desk.pid), "starting")
-        return desk
-
-    def wait_for_seats(self, desk: subprocess.Popen[bytes]) -> None:
-        """Waits until each seat has answered what the timetable costs."""
-        self.seats.ask(b"show cost")
-        answers = self.seats.hear(self.signals, lambda: desk.poll() is None)
-        self.signals.check()
-        if desk.poll() is not None:
-            raise Silent(desk.returncode if desk.returncode > 0 else 3)
-        if not all(answer.startswith(b"costs ") for answer in answers):
-            raise Refused(
-                f"the desk does not answer as it should: {answers[0].decode(errors='replace')}"
-            )
-        self.note(str(desk.pid), "open")
-
     def forget(self) -> None:
         """Removes what was made, before the office is open."""
-        day = self.day
+        day, part = self.day, self.part
         made = [
             day.instance,
-            day.start,
             day.barred,
-            day.minutes,
             day.facts_file,
             day.names,
-            day.aside,
-            day.file("before.sol"),
-            *map(day.file, FILES),
+            part.start,
+            part.blocked,
+            part.minutes,
+            part.aside,
+            part.file("known.sol"),
+            closures_path(day),
             pins_path(day),
+            *map(day.file, FILES),
         ]
         for path in [*made, day.office]:
             for ending in ("", ".new"):
@@ -248,55 +258,36 @@ class Opening:
             with contextlib.suppress(OSError):
                 os.rmdir(day.path)
 
-    def keep(self, desk: subprocess.Popen[bytes]) -> int:
-        """Keeps the office until the desk has ended, and answers with its status."""
-        day = self.day
-        last = self.plan.planners - 1
-        say(
-            f"open, seats 0 to {last}: office sit {day.path} PLANNER; "
-            f"Ctrl-C, or office close {day.path}, closes it"
-        )
-        web = processes.start(self.plan.web, None) if self.plan.web else None
-        try:
-            while desk.poll() is None and not self.signals.count:
-                self.signals.wait(60.0)
-            if desk.poll() is None:
-                self.close(desk)
-        finally:
-            processes.end(desk)
-            self.seats.remove()
-            with contextlib.suppress(FileNotFoundError):
-                os.remove(day.closing)
-            self.note("", "closed")
-            os.close(self.lock)
-            if web is not None:
-                # it sees that the day is closed, and says so in its windows
-                with contextlib.suppress(subprocess.TimeoutExpired):
-                    web.wait(processes.GRACE)
-                processes.end(web)
-        if desk.returncode < 0 and not self.signals.count:
-            say(
-                f"the desk has ended {processes.how_ended(desk.returncode)}; "
-                f"what was committed is in {day.minutes}"
-            )
-        say(
-            f"closed; office close {day.path} writes the journal of the day "
-            "and the timetable that it leaves"
-        )
-        return max(0, desk.returncode)
 
-    def close(self, desk: subprocess.Popen[bytes]) -> None:
-        """Lets the desk end, and those who sit for some time; then, or when a second signal comes,
-        the desk is ended."""
-        day, signals = self.day, self.signals
-        until = day.closes_at()
-        if until is None:
-            until = time.time() + GRACE
-            write_whole(day.closing, f"{until}\n".encode())
-        self.seats.let_go()
-        seen = signals.count
-        while desk.poll() is None and time.time() < until + 1 and signals.count == seen:
-            signals.wait(0.2)
+def keep(running: Running, web_words: List[str]) -> int:
+    """Keeps an office that is open until its desk has ended, and answers with its status."""
+    day, signals = running.day, running.signals
+    say(
+        f"open, seats 0 to {running.planners - 1}: office sit {day.path} PLANNER; "
+        f"Ctrl-C, or office close {day.path}, closes it"
+    )
+    web = processes.start(web_words, None) if web_words else None
+    status = 0
+    try:
+        with contextlib.suppress(Stopped):
+            status = running.keep()
+    finally:
+        running.forget()
+        if web is not None:
+            # it sees that the day is closed, and says so in its windows
+            with contextlib.suppress(subprocess.TimeoutExpired):
+                web.wait(processes.GRACE)
+            processes.end(web)
+    if status < 0 and not signals.count:
+        say(
+            f"the desk has ended {processes.how_ended(status)}; "
+            f"what was committed is in {running.part.minutes}"
+        )
+    say(
+        f"closed; office close {day.path} writes the journal of the day "
+        "and the timetable that it leaves"
+    )
+    return max(0, status)
 
 
 def open_day(plan: Plan, unproved: bool) -> int:

@@ -115,7 +115,7 @@ class Planning(Reading):
             self.seat.log.noted(f"why {why}")
         answer = self.turn("commit")
         if answer.startswith("committed "):
-            number = int(words_of(answer)[1])
+            number = self.minutes.offset + int(words_of(answer)[1])
             if self.has_entry(number):
                 kept = self._keep_note(number, now(), self.seat.name, why)
                 self.notice = say("committed", number=number, count=count, kept=kept)

@@ -1,12 +1,12 @@
-"""The accepted drafts of a day, played again on a desk of the program: what each of them cost, and
-the timetable after any of them, as the program answers."""
+"""The accepted drafts of a part of a day, played again on a desk of the program: what each of them
+cost, and the timetable after any of them, as the program answers."""
 from __future__ import annotations
 
 from typing import Dict, Iterable, List, NamedTuple, Sequence
 
 from office.costs import Costs, read_costs
-from office.folder import Day
 from office.instance import Instance
+from office.parts import Part
 from office.program import Left
 from office.refused import CONTENT, Refused
 from office.timetable import Lecture, read_lectures
@@ -36,34 +36,35 @@ def draft_lines(edits: Edits) -> List[str]:
     return ["0 open", *(f"0 {edit}" for edit in edits), "0 commit"]
 
 
-def answers(day: Day, lines: List[str]) -> List[str]:
-    """What a desk that begins as the day did answers to the lines of a script."""
-    text = encoded("".join(f"{line}\n" for line in lines))
-    status, printed = Left(day, quiet=True).run("run", day.instance, "-", *day.start_words(), text=text)
+def answers(part: Part, lines: List[str]) -> List[str]:
+    """What a desk that begins as the part did answers to the lines of a script."""
+    text, left = encoded("".join(f"{line}\n" for line in lines)), Left(part, quiet=True)
+    status, printed = left.run("run", left.instance, "-", *part.start_words(), text=text)
     found = decoded(printed).split("\n")[:-1]
     if status != 0 or len(found) != len(lines):
-        raise Refused(f"the program does not play the minutes of {day.path}", CONTENT)
+        raise Refused(f"the program does not play the minutes of {part.day.path}", CONTENT)
     for line, answer in zip(lines, found):
         if line == "0 commit" and not answer.startswith("committed "):
-            raise Refused(f"the minutes of {day.path} do not fit its start: {answer}", CONTENT)
+            told = f"the minutes of {part.day.path} do not fit its start: {answer}"
+            raise Refused(told, CONTENT)
     return found
 
 
-def play_costs(day: Day, drafts: Sequence[Edits], first: int = 0) -> List[Costs]:
-    """What the timetable cost after so many of the first drafts of a day, 0 for the start, and
+def play_costs(part: Part, drafts: Sequence[Edits], first: int = 0) -> List[Costs]:
+    """What the timetable cost after so many of the first drafts of a part, 0 for the start, and
     after each of those that follow."""
     lines = [line for edits in drafts[:first] for line in draft_lines(edits)] + ["show cost"]
     for edits in drafts[first:]:
         lines += [*draft_lines(edits), "show cost"]
-    found = answers(day, lines)
+    found = answers(part, lines)
     return [read_costs(answer) for line, answer in zip(lines, found) if line == "show cost"]
 
 
-def play_all(day: Day, instance: Instance, drafts: Iterable[Edits]) -> Played:
-    """The timetable after the first drafts of a day."""
+def play_all(part: Part, instance: Instance, drafts: Iterable[Edits]) -> Played:
+    """The timetable after the first drafts of a part."""
     made = [line for edits in drafts for line in draft_lines(edits)]
     shows = [f"show course {course}" for course in instance.courses]
-    *_, costs, missing = found = answers(day, [*made, *shows, "show cost", "show missing"])
+    *_, costs, missing = found = answers(part, [*made, *shows, "show cost", "show missing"])
     shown = found[len(made) : len(made) + len(shows)]
     lectures = [lecture for answer in shown for lecture in read_lectures(answer) or []]
     return Played(lectures, read_costs(costs), read_missing(missing))

@@ -22,6 +22,7 @@ def seen(planning: Planning) -> At:
     count, present = len(planning.minutes.entries), planning.known.present()
     return At(
         planning.seat.day,
+        planning.minutes.part,
         count,
         count,
         planning.instance,

@@ -6,7 +6,8 @@ import shutil
 import subprocess
 from typing import Optional
 
-from office.folder import Day, write_whole
+from office.folder import write_whole
+from office.parts import Part
 from office.refused import MACHINE, Refused, Silent
 
 HERE = os.path.dirname(os.path.dirname(os.path.dirname(os.path.abspath(__file__))))
@@ -48,39 +49,46 @@ def output(words: list[str], quiet: bool = False, text: bytes = b"") -> tuple[in
 
 
 class Left:
-    """What the minutes of a day leave: its journal, and the timetable after it."""
+    """What the minutes of a part of a day leave: its journal, and the timetable after it."""
 
-    def __init__(self, day: Day, quiet: bool = False) -> None:
-        self.day = day
-        self.program: list[str] = day.facts()["program"]
+    def __init__(self, part: Part, quiet: bool = False) -> None:
+        self.part, self.instance = part, part.day.instance
+        self.program: list[str] = part.day.facts()["program"]
         self.quiet = quiet
 
     def run(self, *words: str, text: bytes = b"") -> tuple[int, bytes]:
         return output([*self.program, *words], self.quiet, text)
 
     def write_journal(self, path: str) -> None:
-        status, text = self.run(
-            "journal", self.day.instance, self.day.minutes, *self.day.barred_words()
-        )
+        minutes, sides = self.part.minutes, self.part.side_words()
+        status, text = self.run("journal", self.instance, minutes, *sides)
         if status != 0:
             raise Silent(status)
         write_whole(path, text)
 
     def audit(self, journal: str) -> tuple[int, str]:
         """The status of the audit of a journal, and its line."""
-        status, text = self.run("audit", self.day.instance, journal, *self.day.start_words())
+        status, text = self.run("audit", self.instance, journal, *self.part.start_words())
         return status, text.decode().strip()
 
-    def write_list(self, journal: str, path: str) -> None:
-        status, text = self.run("list", self.day.instance, journal, *self.day.start_words())
+    def list(self, journal: str) -> bytes:
+        """The timetable after a journal."""
+        status, text = self.run("list", self.instance, journal, *self.part.start_words())
         if status != 0:
             raise Silent(status)
-        write_whole(path, text)
+        return text
+
+    def mended(self, solution: bytes) -> bytes:
+        """What of a solution can stand under the rules of the part."""
+        status, text = self.run("mend", self.instance, "-", *self.part.side_words(), text=solution)
+        if status != 0:
+            raise Silent(status)
+        return text
 
     def report(self, solution: Optional[str]) -> dict[str, str]:
         """The report on a solution by the words in front of its lines; of an empty one if there is
         none."""
-        words = ["check", self.day.instance, solution or os.devnull, *self.day.barred_words()]
+        words = ["check", self.instance, solution or os.devnull, *self.part.side_words()]
         status, text = self.run(*words)
         if status != 0:
             raise Silent(status or MACHINE)

@@ -2,21 +2,24 @@
 from __future__ import annotations
 
 import contextlib
+import copy
 import os
 import time
-from typing import Dict, List, Optional, Tuple
+from typing import Dict, List, Optional
 
-from office.at import instance_of, read_at
+from office.at import instance_of
 from office.costs import read_costs
 from office.courtesies import Courtesies
 from office.edits import WANTS
-from office.instance import Instance, read_solution
+from office.entering import read_parts
+from office.instance import Instance
 from office.known import Known
-from office.minutes import Entry, Minutes
+from office.minutes import Entry
 from office.news import Accepted, News
 from office.notice import NOTHING, Notice, say
+from office.parts import Change, DayMinutes
+from office.on_disk import look_on_disk
 from office.processes import now
-from office.refused import Refused
 from office.seat import Seat
 from office.shifts import Shift, all_shifts, shifts_of, take_back
 from office.timetable import Lecture, Timetable, read_lectures
@@ -35,9 +38,12 @@ class Reading:
 
     def __init__(self, seat: Seat, instance: Optional[Instance] = None) -> None:
         self.seat = seat
-        self.instance = instance or instance_of(seat.day)
-        self.known = Known(self.instance, self._start())
-        self.minutes = Minutes(seat.day.minutes)
+        # with the rules of the part of the day that is read
+        self.instance = copy.copy(instance or instance_of(seat.day))
+        self.minutes = DayMinutes(seat.day)
+        self.known = Known(self.instance, self.minutes.part.lectures())
+        # how the parts of the day but the first one have come about, as far as they are read
+        self.changes: List[Change] = []
         self.news = News(seat.day)
         self.courtesies = Courtesies(seat)
         self.notice: Notice = NOTHING
@@ -61,10 +67,6 @@ class Reading:
         # stale
         self.stale_row = ""
         self.foretold = ""
-
-    def _start(self) -> List[Tuple[str, str, int, int]]:
-        day = self.seat.day
-        return read_solution(day.start) if "--start" in day.start_words() else []
 
     @property
     def is_open(self) -> bool:
@@ -101,24 +103,10 @@ class Reading:
             answer = "" if self.is_failing and not self.is_open else self.ask(line)
             # an answer may be by what it is known that the minutes fail
             is_of_disk = self.is_failing and not self.is_open
-            self._cache[line] = self._look_on_disk(words) if is_of_disk else answer
+            if is_of_disk:
+                answer = look_on_disk(self.seat.day, self.known.newest, words)
+            self._cache[line] = answer
         return self._cache[line]
-
-    def _look_on_disk(self, words: str) -> str:
-        """What a look would be told of the timetable on the disk; the desk has another one when the
-        minutes fail. Prices are not known then."""
-        if words == "cost":
-            with contextlib.suppress(Refused):
-                return " ".join(["costs", *map(str, read_at(self.seat.day).costs.values())])
-        newest = self.known.newest
-        if words == "missing":
-            short = [(name, newest.missing(name)) for name in newest.by_course]
-            found = [f"{name} {count}" for name, count in short if count > 0]
-            return " ".join(["missing", str(len(found)), *found])
-        lectures = newest.look(words)
-        if lectures is None:
-            return "not known"
-        return " ".join(["lectures", str(len(lectures)), *(one.words() for one in lectures)])
 
     def lectures(self, words: str) -> List[Lecture]:
         """The lectures that a look is told."""
@@ -137,7 +125,7 @@ class Reading:
         self.seat.catch_up()
         answer = self.ask_again("status")
         self.is_failing = os.path.exists(self.seat.day.failing)
-        self.read_minutes()
+        read_parts(self)
         self.read_newest()
         self.has_begun = True
         self._meet()
@@ -147,6 +135,14 @@ class Reading:
         else:
             self.known.ended = list(self.seat.story.ended_made)
         self.courtesies.keep_own(self.is_open, self.shifts())
+
+    def begin_part(self) -> None:
+        """Hears the desk of another part, at which no draft is open."""
+        self._cache.clear()
+        self.is_sound, self.is_failing = True, os.path.exists(self.seat.day.failing)
+        self.stale_row = self.foretold = ""
+        self.base_total, self.base_costs = None, {}
+        self.seat.catch_up()
 
     def _meet(self) -> None:
         """What others have done until now is not new any more."""
@@ -175,7 +171,7 @@ class Reading:
         may not have been in the minutes when the desk counted them."""
         self.read_minutes()
         last = min(len(self.minutes.entries), self.opened_at + FEW)
-        for count in range(max(0, self.opened_at), last + 1):
+        for count in range(max(self.minutes.offset, self.opened_at), last + 1):
             self.known.base = self._after(count)
             is_made = self.known.make_all(made)
             if is_made and self.known.draft is not None and self.known.draft.same_as(draft):

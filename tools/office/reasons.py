@@ -3,8 +3,9 @@ from __future__ import annotations
 
 from typing import List, Optional
 
+from office.blocked import by_told
 from office.instance import Instance
-from office.notice import Notice, say
+from office.notice import NOTHING, Notice, say
 from office.timetable import Slot, Timetable
 from office.words import words_of
 
@@ -24,10 +25,13 @@ def reason(instance: Instance, edit: str, fault: str) -> Notice:
         if at is None:
             return say("its room barred", course=course)
         return say("barred", room=words[at], course=course)
+    if kind == "blocked" and at is not None:
+        return room_reason(instance, words[at], slot_of(words))
     if kind == "unavailable" and words[0] == "swap":
         return say("one unavailable")
+    if kind == "unavailable":
+        return away_reason(instance, course, slot_of(words))
     code = {
-        "unavailable": "unavailable",
         "already": "already",
         "full": "full",
         "notplaced": "not placed",
@@ -35,6 +39,29 @@ def reason(instance: Instance, edit: str, fault: str) -> Notice:
         "samecourse": "same course",
     }.get(kind)
     return say(code, course=course) if code else say("fault", fault=fault)
+
+
+def slot_of(words: List[str]) -> Slot:
+    """The slot to which an edit leads."""
+    return int(words[-2]), int(words[-1])
+
+
+def room_reason(instance: Instance, room: str, slot: Slot) -> Notice:
+    """Why a room cannot be used in a slot, and who has said so."""
+    for closure in instance.closures_at("room", room, slot):
+        why = say("reason told", why=closure.why) if closure.why else NOTHING
+        return say("room blocked", room=room, because=why, by=by_told(closure))
+    return say("room blocked now", room=room)
+
+
+def away_reason(instance: Instance, course: str, slot: Slot) -> Notice:
+    """Why a course cannot be in a slot: by a closure of its own or of its teacher, or always."""
+    teacher = instance.courses[course].teacher
+    for kind, name in (("course", course), ("teacher", teacher)):
+        for closure in instance.closures_at(kind, name, slot):
+            why = say("reason told", why=closure.why) if closure.why else NOTHING
+            return say("away", scope=closure.scope, because=why, by=by_told(closure))
+    return say("unavailable", course=course)
 
 
 def clashing(instance: Instance, words: List[str], other: str) -> str:
@@ -65,7 +92,7 @@ def move_reason(
         fault = timetable.fault(edit)
         if fault is None:
             return None
-        if not fault.startswith(("roomtaken", "barred")):
+        if not fault.startswith(("roomtaken", "barred", "blocked")):
             return reason(instance, edit, fault)
         faults.append(reason(instance, edit, fault))
     return say("rooms", reasons=faults) if 0 < len(faults) < 3 else say("no room")
@@ -83,6 +110,8 @@ def short_reason(timetable: Timetable, course: str, old: Optional[Slot], slot: S
     kind, *other = words_of(fault) or [""]
     if kind == "clash":
         return say("cell clash", other=other[0])
+    if kind == "unavailable" and away_reason(timetable.instance, course, slot).code == "away":
+        return say("cell blocked")
     codes = {"unavailable": "cell closed", "already": "cell has one", "full": "cell full"}
     return say(codes.get(kind, "cell no room"))
 

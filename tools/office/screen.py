@@ -14,11 +14,12 @@ from office.board import Board
 from office.folder import Day
 from office.grid import Row
 from office.keys import BY_NAME
-from office.notice import say
+from office.notice import Notice, say
 from office.planning import Planning
 from office.processes import Alarm
 from office.refused import MACHINE
 from office.seat import DEAD, DEAD_DESK, DeskEnded, Gone, NoAnswer, Seat
+from office.stepping import waiting_told
 from office.text import counted, fit, width
 
 # how many milliseconds a key is waited for, before news are looked for
@@ -141,15 +142,24 @@ class Screen:
 
     def wait(self, seconds: float) -> None:
         """Says how long the desk has not answered; who wants to leave can leave."""
-        height, columns = self.window.getmaxyx()
-        told = self.board.wording.notice(say("no answer yet", seconds=round(seconds)))
-        self.paint_row(height - 1, [(fit(f" {told}", columns - 1), "bad")], columns)
-        self.window.refresh()
+        self.paint_last(waiting_told(self.board.planning.seat, seconds))
         self.window.timeout(0)
         key = self.key()
         self.window.timeout(TICK)
         if key == BY_NAME["leave"].key:
             raise Gone
+
+    def paint_last(self, notice: Notice) -> None:
+        """Says something in the last row."""
+        height, columns = self.window.getmaxyx()
+        told = self.board.wording.notice(notice)
+        self.paint_row(height - 1, [(fit(f" {told}", columns - 1), "bad")], columns)
+        self.window.refresh()
+
+    def step_over(self) -> None:
+        """Goes on in the next part of the day, as soon as its desk is there."""
+        self.paint_last(say("rules change now"))
+        self.board.step_over()
 
     def step(self) -> None:
         """Takes a key, or looks for news."""
@@ -162,6 +172,8 @@ class Screen:
         else:
             if not sys.stdin.isatty():
                 raise Gone
+            if not board.is_dead and seat.is_over():
+                self.step_over()
             if not board.is_dead and seat.has_more():
                 # nothing was asked: the desk has ended
                 seat.read(0)
@@ -176,10 +188,18 @@ class Screen:
             try:
                 self.paint()
                 self.step()
-            except DeskEnded:
-                self.board.desk_ended("The desk has ended")
-            except NoAnswer:
-                self.board.desk_ended("The desk does not answer")
+            except (DeskEnded, NoAnswer) as fault:
+                self.desk_ended(fault)
+
+    def desk_ended(self, fault: Exception) -> None:
+        """Goes on, if the desk has ended because the rules change; else says that it has ended."""
+        is_over = not self.board.is_dead and self.board.planning.seat.is_over()
+        with contextlib.suppress(DeskEnded, NoAnswer):
+            if is_over:
+                self.step_over()
+                return
+        is_silent = isinstance(fault, NoAnswer)
+        self.board.desk_ended("The desk does not answer" if is_silent else "The desk has ended")
 
 
 def show_board(window: Any, board: Board) -> None:

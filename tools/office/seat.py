@@ -12,9 +12,10 @@ from typing import Callable, Optional
 
 from office.at_work import end_work
 from office.folder import Day, lock, read_text
+from office.parts import last_part, read_parts
 from office.processes import now
 from office.refused import Refused
-from office.seatlog import SeatLog, read_past
+from office.seatlog import SeatLog, read_past, settle
 from office.words import decoded, encoded, has_words
 
 
@@ -36,6 +37,11 @@ DEAD = f"{DEAD_DESK}, and open edits are offered again after the next opening"
 # how long it has been
 PATIENCE = 30.0
 SAID_AFTER = 1.0
+# how many seconds the last answers of a desk that ends are waited for, and how long it takes to
+# look again whether the next one is there
+LAST, AGAIN = 10.0, 0.05
+# no pipe
+CLOSED = -1
 
 
 def read_sitter(day: Day, planner: int) -> tuple[str, str]:
@@ -49,6 +55,16 @@ def user_name() -> str:
         return getpass.getuser()
     except (KeyError, OSError):
         return "somebody"
+
+
+def wait_for_desk(day: Day, waits: Callable[[float], None]) -> None:
+    """Waits as long as the office changes the rules, and tells `waits` how long it has been."""
+    begun = time.monotonic()
+    while day.is_changing():
+        time.sleep(AGAIN)
+        waited = time.monotonic() - begun
+        if waited >= SAID_AFTER:
+            waits(waited)
 
 
 def is_ready(end: int, sign: int, seconds: float) -> bool:
@@ -68,10 +84,15 @@ class Seat:
         self.facts = day.facts()
         if not 0 <= planner < self.facts["planners"]:
             raise Refused(f"no seat {planner} in {day.path}")
+        # is told how many seconds an answer has been waited for, and may raise `Gone`
+        self.waits: Callable[[float], None] = lambda seconds: None
+        wait_for_desk(day, self.waits)
         if not day.is_ready():
             why = "the office is not open yet in" if day.is_open() else "no office is open in"
             raise Refused(f"{why} {day.path}")
         self._lock = self._take_lock()
+        # the part of the day of which the desk answers here
+        self.part = last_part(day)
         self._lines, self.answers = self._open_pipes()
         self.log = SeatLog(day.log(planner))
         # what the log said when this client had heard what was under way
@@ -80,8 +101,12 @@ class Seat:
         # whose draft is here, if it is somebody else's
         self.owner = past.owner() if past.owner() != self.name else ""
         self._heard = b""
-        # is told how many seconds an answer has been waited for, and may raise `Gone`
-        self.waits: Callable[[float], None] = lambda seconds: None
+        # the drafts that were accepted, and the lines that were sent, of which no answer was heard
+        # before the last part ended
+        self.settled: list[int] = []
+        self.unanswered: list[str] = []
+        if past.part != self.part.number:
+            self._begin_part()
         self.log.noted(f"sits {self.name}")
 
     def _take_lock(self) -> int:
@@ -116,8 +141,69 @@ class Seat:
         if not self.story.is_open:
             end_work(self.day, self.planner)
         for end in (self._lines, self.answers, self._lock):
-            os.close(end)
+            if end != CLOSED:
+                os.close(end)
         self.log.close()
+
+    # from one part of the day to the next
+
+    def is_over(self) -> bool:
+        """Whether the part of the day has ended, or is ending, whose desk answers here."""
+        return self.day.is_changing() or not self.part.is_last()
+
+    def leave_desk(self) -> list[str]:
+        """Leaves a desk that ends with its part of the day. What it has answered is heard, and
+        answered here."""
+        heard: list[str] = []
+        if self._lines != CLOSED:
+            os.close(self._lines)
+            self._lines = CLOSED
+        with contextlib.suppress(DeskEnded):
+            while self.answers != CLOSED:
+                answer = self.read(LAST)
+                if answer is None:
+                    break
+                heard.append(answer)
+                self.take(answer)
+        if self.answers != CLOSED:
+            os.close(self.answers)
+            self.answers = CLOSED
+        return heard
+
+    def enter(self) -> None:
+        """Sits down at the desk of the next part, when it is there. What was open at the last one
+        is kept."""
+        while True:
+            wait_for_desk(self.day, self.waits)
+            if not self.day.is_ready():
+                raise DeskEnded
+            self.part, self._heard = last_part(self.day), b""
+            try:
+                self._lines, self.answers = self._open_pipes()
+                break
+            except Refused:
+                if not self.day.is_changing():
+                    raise DeskEnded from None
+        self._begin_part()
+
+    def _begin_part(self) -> None:
+        """Notes that another part of the day has begun. A commit of which the answer was not heard
+        was accepted if the minutes have it."""
+        number, parts = self.part.number, read_parts(self.day)
+        before = [entry for part, entries in parts if part.number < number for entry in entries]
+        self.settled = settle(self.story, self.waiting, before, self.planner)
+        for accepted in self.settled:
+            self.log.noted(f"accepted {accepted}")
+        self.log.noted(f"part {number} {len(before)}", is_kept=True)
+        self.story.begin_part(len(before), self.waiting)
+        self.unanswered = list(self.waiting)
+        self.waiting.clear()
+        self.past = read_past(self.day.log(self.planner))
+
+    def made_again(self) -> None:
+        """Notes that all edits that the last part has left were made again or refused."""
+        self.log.noted("again", is_kept=True)
+        self.story.again = []
 
     def take_over(self) -> None:
         """Notes that who sits here now goes on with somebody else's draft."""

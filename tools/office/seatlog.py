@@ -106,6 +106,8 @@ class SeatPast:
     # the reason that was given for the commit that is under way, and those of accepted drafts
     why: str = ""
     whys: dict[int, str] = field(default_factory=dict)
+    # the part of the day at which this seat was used last
+    part: int = 1
 
     def take(self, line: str) -> None:
         """Takes up a line of the log."""
@@ -120,7 +122,7 @@ class SeatPast:
         elif sign == HEARD and self.waiting:
             self._take_answer(time, self.waiting.pop(0), text)
         elif sign == NOTED:
-            self._take_note(text)
+            self._take_note(time, text)
 
     def _take_answer(self, time: str, asked: str, answer: str) -> None:
         was_open = self.story.is_open
@@ -128,15 +130,25 @@ class SeatPast:
         if self.story.is_open and not was_open:
             self.drafters = [self.name]
         if asked.strip() == "commit" and answer.startswith("committed "):
-            number = int(answer.split(" ")[1])
-            self.commits[number] = (time, self.name)
-            self.whys[number] = self.why
+            self._note_commit(time, self.story.offset + int(answer.split(" ")[1]))
         if asked.strip() == "commit":
             self.why = ""
 
-    def _take_note(self, text: str) -> None:
+    def _note_commit(self, time: str, number: int) -> None:
+        self.commits[number] = (time, self.name)
+        self.whys[number] = self.why
+
+    def _take_note(self, time: str, text: str) -> None:
         word, _, rest = text.partition(" ")
-        if word == "sits":
+        if word == "part":
+            number, offset = map(int, rest.split(" "))
+            self.begin_part(number, offset)
+        elif word == "accepted":
+            self._note_commit(time, int(rest))
+            accept(self.story, self.waiting, int(rest))
+        elif word == "again":
+            self.story.again = []
+        elif word == "sits":
             self.name = rest
         elif word == "takes":
             self.drafters.append(self.name)
@@ -163,10 +175,17 @@ class SeatPast:
             else:
                 self.variants.pop(found, None)
 
-    def settle(self, entries: list[Entry], planner: int) -> None:
+    def begin_part(self, number: int, offset: int) -> None:
+        """Another part of the day has begun, after so many accepted drafts of the day: the desk of
+        the one before answers no more."""
+        self.part = number
+        self.story.begin_part(offset, self.waiting)
+        self.waiting.clear()
+
+    def settle(self, entries: list[Entry], planner: int) -> list[int]:
         """A commit that was sent, and of which the answer was not heard when the desk died, was
         accepted if the minutes have it."""
-        settle(self.story, self.waiting, entries, planner)
+        return settle(self.story, self.waiting, entries, planner)
 
     def owner(self) -> str:
         """Whose draft it is that is open, or that has ended and was neither accepted nor given
@@ -179,15 +198,23 @@ class SeatPast:
         return self.story.unfinished() + [line for line in self.waiting if is_edit(line)]
 
 
-def settle(story: Story, waiting: list[str], entries: list[Entry], planner: int) -> None:
-    """Takes up a commit that waits for its answer, if the minutes have the draft, with the edits
-    that were sent before it."""
+def accept(story: Story, waiting: list[str], number: int) -> bool:
+    """Takes up that the commit was accepted that waits for its answer, with the edits that were
+    sent before it; answers whether one waits."""
+    lines = [line.strip() for line in waiting]
+    if "commit" not in lines:
+        return False
+    story.accept(number)
+    del waiting[: lines.index("commit") + 1]
+    return True
+
+
+def settle(story: Story, waiting: list[str], entries: list[Entry], planner: int) -> list[int]:
+    """Takes up a commit that waits for its answer, if the minutes have the draft; answers the
+    numbers of those that were accepted so."""
     numbers = [entry.number for entry in entries if entry.planner == planner]
-    for number in [number for number in numbers if number not in story.accepted]:
-        lines = [line.strip() for line in waiting]
-        if "commit" in lines:
-            story.hear("commit", f"committed {number}")
-            del waiting[: lines.index("commit") + 1]
+    fresh = [number for number in numbers if number not in story.accepted]
+    return [number for number in fresh if accept(story, waiting, number)]
 
 
 def read_past(path: str) -> SeatPast:

@@ -4,6 +4,7 @@ from __future__ import annotations
 from typing import Dict
 
 from office.sentences_past import KNOWING, PAST
+from office.sentences_rules import RULES
 
 # why an edit is refused
 REASONS = {
@@ -28,12 +29,13 @@ REASONS = {
     "changed by": "draft {number} of {who} has changed it since",
     "fault": "{fault}",
     "rooms": "{reasons}",
-    "no room": "each room is taken or barred then",
+    "no room": "each room is taken, barred or blocked then",
     "partner": "with {other}: {reason}",
     "no partner": "nothing stands there to swap with",
     # where a cell has room for two words
     "cell clash": "clash {other}",
     "cell closed": "closed",
+    "cell blocked": "blocked",
     "cell has one": "has one",
     "cell full": "full",
     "cell gone": "gone",
@@ -151,6 +153,7 @@ FINDINGS = {
     "found availability": "unavailable: {course}, {slot}",
     "found occupancy": "room taken: {course} in {room}, {slot}",
     "found barred": "barred: {course} in {room}, {slot}",
+    "found blocked": "blocked: {course} in {room}, {slot}",
     "found capacity": "{points} too small: {course} in {room}, {slot}",
     "found days": "{points} days: {course} on {days} of {minimum}",
     "found compactness": "{points} alone: {course} in curriculum {curriculum}, {slot}",
@@ -199,4 +202,5 @@ SENTENCES: Dict[str, str] = {
     **LINES,
     **PAST,
     **KNOWING,
+    **RULES,
 }

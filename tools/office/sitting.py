@@ -16,6 +16,7 @@ from office.folder import Day
 from office.processes import Alarm
 from office.program import HERE
 from office.refused import MACHINE
+from office.plain_steps import step_over
 from office.seat import DEAD, DeskEnded, Gone, NoAnswer, Seat
 from office.words import decoded, encoded
 
@@ -109,7 +110,6 @@ class PlainSitting:
 
     def go_on(self) -> int:
         """Sends lines and shows answers until the planner goes, or the seat ends."""
-        self.begin()
         until = float("inf")
         while self.is_typing or (self.seat.waiting and time.monotonic() < until):
             ends = [self.seat.answers] + ([sys.stdin.fileno()] if self.is_typing else [])
@@ -122,7 +122,14 @@ class PlainSitting:
                     until = time.monotonic() + LAST
             self.watch_log()
             self.watch_closing()
+            self.watch_rules()
         return 0
+
+    def watch_rules(self) -> None:
+        """Goes on in the next part of the day when the rules change, and makes the draft again that
+        was open."""
+        if self.seat.is_over() and self.seat.day.closes_at() is None:
+            step_over(self.seat, self.show, say)
 
     def hear(self) -> None:
         """Shows all answers that are there."""
@@ -166,6 +173,18 @@ class PlainSitting:
             raise Gone
 
 
+def go_on(sitting: PlainSitting) -> int:
+    """Goes on until the planner goes, and over to each next part of the day."""
+    sitting.begin()
+    while True:
+        try:
+            return sitting.go_on()
+        except DeskEnded:
+            if sitting.seat.story.has_left or not sitting.seat.is_over():
+                raise
+            sitting.watch_rules()
+
+
 def sit_plain(day: Day, planner: int, name: Optional[str]) -> int:
     """Sits down by lines, and answers the status."""
 
@@ -173,7 +192,7 @@ def sit_plain(day: Day, planner: int, name: Optional[str]) -> int:
     alarm = Alarm(Gone, signal.SIGINT, signal.SIGTERM, signal.SIGHUP)
     sitting = PlainSitting(seat)
     try:
-        return sitting.go_on()
+        return go_on(sitting)
     except (Gone, BrokenPipeError):
         return 0
     except DeskEnded:

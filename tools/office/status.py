@@ -5,12 +5,14 @@ from __future__ import annotations
 import os
 from typing import Optional
 
-from office.at import read_at
+from office.at import instance_of, read_at
+from office.blocked import closure_told
 from office.costs import costs_in_words
+from office.closures import standing_of
 from office.folder import Day, is_locked
 from office.history import read_pasts
 from office.label_files import read_labels
-from office.minutes import read_minutes
+from office.parts import FIRST, Part, last_part, read_entries
 from office.pins import read_pins
 from office.play import play_costs
 from office.refused import Refused
@@ -23,6 +25,8 @@ from office.wording import Wording
 def state_of(day: Day) -> str:
     if day.is_ready():
         return "closes" if day.closes_at() is not None else "open"
+    if day.is_changing():
+        return "the rules change just now"
     if day.is_open():
         return "not open yet"
     if os.path.exists(day.end):
@@ -70,7 +74,7 @@ def print_table(lines: list[list[str]]) -> None:
 def cost_lines(day: Day) -> list[str]:
     """What the timetable cost at the start and costs now, by the program."""
     try:
-        (before,), now = play_costs(day, []), read_at(day)
+        (before,), now = play_costs(Part(day, FIRST), []), read_at(day)
     except Refused:
         return ["cost not known: the program does not read the minutes"]
     return [
@@ -102,16 +106,28 @@ def pin_lines(day: Day) -> list[str]:
     return lines
 
 
+def blocked_lines(day: Day) -> list[str]:
+    """What is blocked, each with who has said so, when and why."""
+    wording, found = Wording({}, read_labels(day.path)), standing_of(day, instance_of(day))
+    return [f"blocked: {wording.notice(closure_told(closure))}" for closure in found]
+
+
+def parts_line(day: Day) -> str:
+    """In which part the day is, if it has several."""
+    number = last_part(day).number
+    return f"; part {number} of the day, since the rules were changed" if number > FIRST else ""
+
+
 def print_status(day: Day) -> int:
     """Prints the status of a day."""
     facts = day.facts()
     pasts = read_pasts(day)
-    entries = read_minutes(day.minutes)
+    entries = read_entries(day)
     counts = [
         sum(entry.planner == planner for entry in entries) for planner in range(facts["planners"])
     ]
     print(f"{day.name}: {state_of(day)}; opened {facts['opened'][:16].replace('T', ' ')}")
-    print(f"{counted(len(entries), 'draft')} accepted; {minutes_line(day, pasts)}")
+    print(f"{counted(len(entries), 'draft')} accepted{parts_line(day)}; {minutes_line(day, pasts)}")
     if not day.is_open():
         for planner, past in enumerate(pasts):
             if past is not None:
@@ -122,6 +138,6 @@ def print_status(day: Day) -> int:
     print_table(
         [heads] + [seat_line(day, p, pasts[p], counts[p]) for p in range(facts["planners"])]
     )
-    for line in pin_lines(day):
+    for line in [*pin_lines(day), *blocked_lines(day)]:
         print(line)
     return 0

@@ -99,7 +99,9 @@ class Timetable:
     def _alone(self, course: str, slot: Slot, room: str) -> Optional[str]:
         if slot in self.instance.closed[course]:
             return "unavailable"
-        return "barred" if (course, room) in self.instance.barred else None
+        if (course, room) in self.instance.barred:
+            return "barred"
+        return "blocked" if slot in self.instance.blocked.get(room, ()) else None
 
     def placing_fault(self, course: str, slot: Slot, room: str) -> Optional[str]:
         """Why a further lecture of a course cannot stand in a slot and a room."""

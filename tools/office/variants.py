@@ -119,14 +119,15 @@ class Variants:
         """All variants, with what each would bring now, by the program."""
         planning = self.planning
         names = list(self.kept)
-        lines = [line for entry in planning.minutes.entries for line in draft_lines(entry.edits())]
+        minutes = planning.minutes
+        lines = [line for entry in minutes.of_part() for line in draft_lines(entry.edits())]
         begun = len(lines)
         lines.append("show cost")
         for name in names:
             edits = [f"0 {edit}" for edit in self.kept[name]]
             lines += ["0 open", *edits, "0 peek cost", "0 peek missing", "0 abandon"]
         try:
-            told = answers(planning.seat.day, lines)[begun:]
+            told = answers(minutes.part, lines)[begun:]
         except (Refused, OSError):
             return [self._not_told(name) for name in names]
         now, at, found = sum(read_costs(told[0]).values()), 1, []

@@ -8,6 +8,7 @@ from office.at_work import AtWork
 from office.instance import Instance
 from office.pins import Pin
 from office.planning import Planning
+from office.scope import Closure
 from office.timetable import Lecture, Slot, Timetable
 
 KINDS = ("curriculum", "teacher", "room", "course")
@@ -45,6 +46,8 @@ class Cell:
     # who has a draft open that changes something here, and what is pinned
     at_work: List[AtWork] = field(default_factory=list)
     pins: List[Pin] = field(default_factory=list)
+    # what blocks whose week it is
+    blocked: List[Closure] = field(default_factory=list)
 
 
 def all_views(instance: Instance) -> List[View]:
@@ -124,13 +127,26 @@ def signs_of(planning: Planning, view: View, lecture: Lecture) -> Signs:
     return Signs(max(0, short), alone)
 
 
+def blocked_at(instance: Instance, view: View, slot: Slot) -> List[Closure]:
+    """What blocks in a slot whose week it is: a room, a teacher, or a course with its teacher."""
+    found = instance.closures_at(view.kind, view.name, slot)
+    if view.kind == "course":
+        found = found + instance.closures_at("teacher", instance.courses[view.name].teacher, slot)
+    return found
+
+
 def cells_of(planning: Planning, view: View) -> Dict[Slot, Cell]:
     """The cells of a week, with what the draft and others have changed in them."""
     known, instance = planning.known, planning.instance
     present = by_slot(told_of_view(planning, view))
     closed = instance.closed[view.name] if view.kind == "course" else set()
     cells = {
-        slot: Cell(present.get(slot, []), is_closed=slot in closed) for slot in instance.slots()
+        slot: Cell(
+            present.get(slot, []),
+            is_closed=slot in closed,
+            blocked=blocked_at(instance, view, slot),
+        )
+        for slot in instance.slots()
     }
     if known.base is not None:
         base = by_slot(of_view(known.base, view))

@@ -7,6 +7,7 @@ from typing import Any, Callable, Dict, List, Mapping, Optional, Sequence
 from office.instance import Course
 from office.labels import Labels
 from office.notice import Notice
+from office.scope import Scope
 from office.sentences import SENTENCES
 from office.shifts import Shift, shifts_of
 from office.text import counted, shown, signed
@@ -54,6 +55,8 @@ class Wording:
             "day": lambda day: self.day(day) if isinstance(day, int) else self.safe(day),
             "row": self.row,
             "place": self.place,
+            "scope": lambda scope: self.name(scope.kind, scope.name),
+            "when": self.when,
             "shifts": self.shifts,
             "price": signed,
             "count": Count,
@@ -92,6 +95,17 @@ class Wording:
 
     def period(self, period: int) -> str:
         return self.labels.period(period)
+
+    def when(self, scope: Scope) -> str:
+        """When something is blocked."""
+        if scope.day is not None and scope.period is not None:
+            return f"on {self.slot((scope.day, scope.period))}"
+        if scope.day is not None:
+            return f"on {self.day(scope.day)}"
+        if scope.period is None:
+            return "on all days"
+        label = self.period(scope.period)
+        return f"each day at {label}" if ":" in label else f"each day in period {label}"
 
     def row(self, row: str) -> str:
         """A row on which a draft depends, and which has changed."""
@@ -132,11 +146,14 @@ class Wording:
             return f"{course}: {self.slot(was.slot)}, {old}{self.room(now.room)}"
         return f"{course}: {self.place(was)} -> {self.place(now)}"
 
-    def missing(self, course: Course, count: int) -> str:
-        """A course of which lectures are missing, in a list of those."""
+    def missing(self, course: Course, count: int, stood: Sequence[Lecture] = ()) -> str:
+        """A course of which lectures are missing, in a list of those, and where some of them
+        stood."""
+        stood_on = "; ".join(f"stood on {self.place(lecture)}" for lecture in stood)
         return (
             f"{self.course(course.name)}: {count} of {course.lectures} missing, "
             f"{counted(course.students, 'student')}, {self.name('teacher', course.teacher)}"
+            f"{'; ' if stood_on else ''}{stood_on}"
         )
 
     def courses(self, counts: Mapping[str, int]) -> str:

@@ -14,8 +14,11 @@ from office.drafting import BLANK, Drafting, told_edits
 from office.findings import Findings
 from office.histories import History
 from office.knowing import Knowing
+from office.blocked import closure_told
+from office.blocking import Blocking
 from office.notice import NOTHING, Notice, Question, say
 from office.planning import Planning
+from office.stepping import Stepped, make_again, question_of, step_over, told_of
 from office.timetable import Lecture, Slot
 from office.variants import Variants
 from office.week import Cell, View, all_views, cells_of, told_of_view, weeks_of
@@ -33,6 +36,7 @@ class Work:
         self.drafting = Drafting(planning)
         self.history = History(planning)
         self.knowing = Knowing(planning)
+        self.blocking = Blocking(planning)
         self.variants = Variants(planning)
         self.findings = Findings(planning, self.go_to)
         # where to look next, if something was chosen that stands at a slot
@@ -57,7 +61,7 @@ class Work:
         seat, planning = self.planning.seat, self.planning
         edits = planning.edits() or planning.ended()
         if not seat.owner or not edits:
-            return self.drafting.offer_earlier()
+            return self.resume()
         code = "draft of another" if planning.is_open else "stale of another"
         lines = [say("edit line", shifts=shifts) for shifts in planning.shifts()]
         return Question(
@@ -69,7 +73,28 @@ class Work:
 
     def _take_over(self) -> Optional[Question]:
         self.planning.seat.take_over()
-        return self.drafting.offer_earlier()
+        return self.resume()
+
+    def resume(self) -> Optional[Question]:
+        """Makes a draft again that was open when a part of the day ended; else offers what an
+        earlier day has left."""
+        planning = self.planning
+        remade = make_again(planning)
+        if not remade.told:
+            return self.drafting.offer_earlier()
+        stepped = Stepped(planning.changes[-1:], remade)
+        planning.notice = told_of(stepped)
+        return question_of(stepped)
+
+    def step_over(self) -> Optional[Question]:
+        """Goes on in the next part of the day, and makes an open draft again. What was picked up is
+        put back."""
+        self.carry = None
+        return question_of(step_over(self.planning))
+
+    def is_over(self) -> bool:
+        """Whether the rules change: this part of the day is over."""
+        return self.planning.seat.is_over()
 
     def leave(self) -> None:
         self.is_done = True
@@ -130,6 +155,16 @@ class Work:
                     time=told.time,
                     because=because,
                 )
+        return self._set_aside_here(slot)
+
+    def _set_aside_here(self, slot: Slot) -> Optional[Notice]:
+        """What the last change of the rules has taken away from a slot of the week."""
+        for change in self.planning.changes[-1:]:
+            for one in change.asides:
+                if one.lecture.slot == slot and self._is_of_week(one.lecture, None, slot):
+                    reasons = [closure_told(closure) for closure in change.closures]
+                    course, time = one.lecture.course, change.time
+                    return say("set aside here", course=course, time=time, reasons=reasons)
         return None
 
     def _is_of_week(self, was: Optional[Lecture], now: Optional[Lecture], slot: Slot) -> bool:
@@ -241,6 +276,14 @@ class Work:
 
     def _drop(self, lecture: Lecture) -> None:
         self.planning.edit(f"drop {lecture.course} {lecture.day} {lecture.period}")
+
+    def stood(self, course: str) -> List[Lecture]:
+        """Where lectures of a course stood that were set aside and are missing still: at most as
+        many as are missing, the last ones first."""
+        planning = self.planning
+        asides = [one.lecture for change in planning.changes for one in change.asides]
+        count = planning.known.present().missing(course)
+        return [one for one in reversed(asides) if one.course == course][: max(0, count)]
 
     def missing(self) -> Dict[str, int]:
         """The courses of which lectures are missing, and how many; says so if none is."""

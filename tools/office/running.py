@@ -1,0 +1,151 @@
+"""An office that is open: the desk of the last part of its day, until the office is closed. When
+the rules change, the desk ends, and another one opens with the next part."""
+from __future__ import annotations
+
+import contextlib
+import os
+import subprocess
+import time
+from typing import List, Optional
+
+from office import processes
+from office.at_work import end_work
+from office.closures import closures_end, closures_size
+from office.folder import CHANGING, CLOSED, OPEN, REOPENING, STARTING, Day, write_whole
+from office.new_part import NewPart, rules_after
+from office.parts import Part
+from office.pipes import HeldSeats
+from office.processes import Signals, Stopped
+from office.refused import Refused, Silent
+from office.saying import say
+
+# how many seconds those who sit have when the office is closed by a signal, and for the way to the
+# next part of the day
+GRACE, STEP = 10.0, 5.0
+# how many seconds pass between two looks for what is blocked
+PACE = 0.25
+
+
+class Running:
+    """An office, and the desk that it keeps."""
+
+    def __init__(self, part: Part, planners: int, lock: int, signals: Signals) -> None:
+        self.part, self.day = part, part.day
+        self.planners, self.lock, self.signals = planners, lock, signals
+        self.program: List[str] = []
+        self.seats = HeldSeats()
+        self.desk: Optional[subprocess.Popen[bytes]] = None
+        # how long the closures were when it was looked whether they change the rules
+        self.looked = -1
+
+    def note(self, stage: str) -> None:
+        """Notes in the lock's file how far the office is."""
+        desk = self.desk.pid if self.desk is not None else "-"
+        text = f"{os.getpid()} {desk} {stage}\n".encode()
+        os.pwrite(self.lock, text, 0)
+        os.ftruncate(self.lock, len(text))
+
+    # a desk
+
+    def start(self, stage: str = STARTING) -> None:
+        """Starts the desk of the part, and waits until each seat answers."""
+        part, paths = self.part, [self.day.seat(planner) for planner in range(self.planners)]
+        self.seats.make(paths)
+        words = [*self.program, "desk", self.day.instance, *paths, *part.start_words()]
+        # the desk has the lock too: as long as it goes on, no other office opens here
+        self.desk = desk = processes.start(
+            [*words, "--minutes", part.minutes], None, keep=[self.lock]
+        )
+        self.note(stage)
+        self.wait_for_seats(desk)
+        self.note(OPEN)
+
+    def wait_for_seats(self, desk: subprocess.Popen[bytes]) -> None:
+        """Waits until each seat has answered what the timetable costs."""
+        self.seats.ask(b"show cost")
+        answers = self.seats.hear(self.signals, lambda: desk.poll() is None)
+        self.signals.check()
+        if desk.poll() is not None:
+            raise Silent(desk.returncode if desk.returncode > 0 else 3)
+        if not all(answer.startswith(b"costs ") for answer in answers):
+            raise Refused(
+                f"the desk does not answer as it should: {answers[0].decode(errors='replace')}"
+            )
+
+    def end_desk(self) -> None:
+        """Ends the desk, however far it is, and removes the pipes."""
+        if self.desk is not None:
+            processes.end(self.desk)
+        self.seats.remove()
+
+    def keep(self) -> int:
+        """Keeps the office until the desk has ended, and answers with its status."""
+        assert self.desk is not None
+        while self.desk.poll() is None and not self.signals.count:
+            self.signals.wait(PACE)
+            if closures_size(self.day) != self.looked:
+                self.look()
+        if self.desk.poll() is None:
+            self.close(self.desk)
+            processes.end(self.desk)
+        return self.desk.returncode
+
+    def close(self, desk: subprocess.Popen[bytes]) -> None:
+        """Lets the desk end, and those who sit for some time; then, or when a second signal comes,
+        the desk is ended."""
+        until = self.day.closes_at()
+        if until is None:
+            until = time.time() + GRACE
+            write_whole(self.day.closing, f"{until}\n".encode())
+        self.let_end(desk, until - time.time() + 1)
+
+    def let_end(self, desk: subprocess.Popen[bytes], seconds: float) -> None:
+        """Lets the desk end for so many seconds, or until another signal comes."""
+        until, seen = time.monotonic() + seconds, self.signals.count
+        self.seats.let_go()
+        while desk.poll() is None and time.monotonic() < until and self.signals.count == seen:
+            self.signals.wait(0.2)
+
+    def forget(self) -> None:
+        """Ends the desk, and lets the lock go."""
+        self.end_desk()
+        with contextlib.suppress(FileNotFoundError):
+            os.remove(self.day.closing)
+        self.desk = None
+        self.note(CLOSED)
+        os.close(self.lock)
+
+    # the rules change
+
+    def look(self) -> None:
+        """Changes the rules, if something is blocked or lifted since they were made."""
+        self.looked = closures_size(self.day)
+        taken = rules_after(self.part, self.part.instance())
+        if taken is not None:
+            self.change(taken)
+
+    def change(self, taken: int) -> None:
+        """The desk ends, and another one begins with what it has left, less what cannot stand any
+        more."""
+        assert self.desk is not None
+        new = NewPart(self.signals, self.part)
+        try:
+            new.begin(taken)
+        except (Refused, OSError) as fault:
+            say(f"the rules stay as they are: {fault or 'the program does not read the new ones'}")
+            return
+        say("the rules change: the desk ends, and another one opens")
+        self.note(CHANGING)
+        self.let_end(self.desk, STEP)
+        self.signals.check()
+        self.end_desk()
+        self.desk = None
+        self.part = new.make()
+        for planner in range(self.planners):
+            # who was at work says so again
+            end_work(self.day, planner)
+        with contextlib.suppress(FileNotFoundError):
+            os.remove(self.day.failing)
+        self.seats = HeldSeats()
+        self.start(REOPENING)
+        say(f"open again, with part {self.part.number} of the day")

@@ -1,0 +1,97 @@
+"""A planner goes from one part of the day to the next: the screen goes on by itself, says what has
+happened, and makes the draft again that was open."""
+from __future__ import annotations
+
+from typing import List, NamedTuple, Optional
+
+from office.blocked import aside_lines, change_told
+from office.entering import enter
+from office.notice import NOTHING, Notice, Question, say
+from office.parts import Aside, Change
+from office.planning import Planning
+from office.scope import Closure
+from office.seat import Seat
+
+
+class Remade(NamedTuple):
+    """A draft that was made again: what is said of it, and those of its edits that were refused,
+    each with the reason."""
+
+    told: Notice = NOTHING
+    refused: List[Notice] = []
+
+
+class Stepped(NamedTuple):
+    """How a planner has come to the part of the day in which he is: by what changes, and what has
+    become of his draft."""
+
+    changes: List[Change]
+    remade: Remade
+
+
+def step_over(planning: Planning) -> Stepped:
+    """Goes on in the next part of the day, as soon as its desk is there: what was open is made
+    again. Raises `DeskEnded` if the office has ended instead."""
+    changes = enter(planning)
+    stepped = Stepped(changes, make_again(planning))
+    planning.notice = told_of(stepped)
+    return stepped
+
+
+def make_again(planning: Planning) -> Remade:
+    """Makes the draft again that was open when the part before has ended, if there was one. Nothing
+    is committed by it. A draft of somebody else waits for who sits here to take it over."""
+    seat, kept = planning.seat, planning.seat.story.again
+    if not kept or seat.owner:
+        return Remade()
+    # who was broken off while he did it has some of them already
+    made = planning.edits()
+    refused = planning.make_again([edit for edit in kept if edit not in made])
+    if planning.is_open:
+        seat.made_again()
+    planning.notice = told = say("draft made again", made=len(planning.edits()), count=len(kept))
+    return Remade(told, refused)
+
+
+def whole_change(changes: List[Change]) -> Optional[Change]:
+    """Several changes as one; none of none."""
+    if not changes:
+        return None
+    closures: List[Closure] = [one for change in changes for one in change.closures]
+    asides: List[Aside] = [one for change in changes for one in change.asides]
+    return changes[-1]._replace(closures=closures, asides=asides)
+
+
+def told_of(stepped: Stepped) -> Notice:
+    """What has happened, in one line."""
+    change = whole_change(stepped.changes)
+    if change is None:
+        return stepped.remade.told or say("new desk")
+    return say("rules now", reasons=[change_told(change), *told_of_draft(stepped.remade)])
+
+
+def told_of_draft(remade: Remade) -> List[Notice]:
+    return [remade.told] if remade.told else []
+
+
+def question_of(stepped: Stepped) -> Optional[Question]:
+    """The lectures that were set aside, and the edits that were refused, to be read; None if there
+    is nothing to be read."""
+    change, remade = whole_change(stepped.changes), stepped.remade
+    lines: List[Notice] = []
+    if change is not None and change.asides:
+        lines += [say("set aside now"), *aside_lines(change)]
+    if remade.refused:
+        lines += [say("blank")] if lines else []
+        lines += [remade.told, say("these refused"), *remade.refused]
+    if not lines:
+        return None
+    title = change_told(change) if change is not None else remade.told
+    return Question(title, lines, {"seen": lambda: None})
+
+
+def waiting_told(seat: Seat, seconds: float) -> Notice:
+    """What is said to who waits for the desk."""
+    if seat.is_over():
+        return say("rules change", seconds=round(seconds))
+    return say("no answer yet", seconds=round(seconds))
