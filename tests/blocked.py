@@ -13,7 +13,8 @@ import tempfile
 sys.dont_write_bytecode = True
 import blocked_drawn  # noqa: E402
 from blocked_faults import fault_of  # noqa: E402
-from plain_desk import Desk, Rules, audit, placed  # noqa: E402
+from plain_audit import audit  # noqa: E402
+from plain_desk import Desk, Rules, placed  # noqa: E402
 from program import EXAMPLES, HERE, call, check, check_run, end  # noqa: E402
 from rules import Instance  # noqa: E402
 

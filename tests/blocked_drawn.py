@@ -5,14 +5,16 @@ import subprocess
 
 from blocked_faults import fault_of
 from drawn import draw_blocked, draw_instance, draw_solution, set_out
-from plain_desk import Desk, Rules, as_list, audit, placed
+from plain_audit import audit
+from plain_desk import Desk, Rules, as_list, placed
 from program import EXAMPLES, PROGRAM, call, check, check_run, words_of, write_files
 from rules import Instance
 
-DRAWN = 120
+DRAWN = 200
 LINES = 40
-FAULTS = 300
+FAULTS = 400
 NOTHING = b"Blocked: 0 END."
+REFUSALS = ("refused blocked", "refused barred", "refused unavailable")
 
 
 def draw_edit(draw, rules, t):
@@ -86,12 +88,14 @@ def draw_day(draw, desk, planners):
 
 
 def broken(draw, text):
-    """A text of closures of which a word is another one, is left out, or stands twice; or a byte is."""
+    """A text of closures of which a word, rather a number, is another one, is left out, or stands twice; or a byte is."""
     words = text.split()
-    at = draw.randrange(len(words))
-    other = draw.choice([b"*", b"0", b"00", b"999999999", b"1000000000", b"2000001", b"2000000", b"-1", b"x", b"room", b"teacher",
-                         b"course", b"END.", b"Blocked:", b"nobody", b"4", *words])
-    way = draw.choice(("other", "other", "other", "less", "more", "cut", "byte"))
+    numbers = [*range(1, min(len(words), 2)), *range(4, len(words) - 1, 4), *range(5, len(words) - 1, 4)]
+    at = draw.choice(numbers or [0]) if draw.random() < 0.5 else draw.randrange(len(words))
+    other = draw.choice([b"*", b"0", b"00", b"999999999", b"1000000000", b"2000001", b"2000000", b"5", b"05", b"9"])
+    if draw.random() < 0.4:
+        other = draw.choice([b"-1", b"x", b"room", b"teacher", b"course", b"END.", b"Blocked:", b"nobody", *words])
+    way = draw.choice(("other", "other", "other", "other", "less", "more", "cut", "byte"))
     if way == "byte":
         at = draw.randrange(len(text) + 1)
         return text[:at] + draw.choice((b"\xff", b"\xc3", b"\x80", b"\xe2\x82", b"\xc3\xa4")) + text[at:]
@@ -112,8 +116,9 @@ class Drawn:
 
     def __init__(self, draw, folder):
         self.draw, self.folder = draw, folder
+        self.seen = set()
         self.text, self.barred = draw_instance(draw)
-        self.blocked = draw_blocked(draw, Instance(self.text, self.barred))
+        self.blocked = draw_blocked(draw, Instance(self.text, self.barred)) or draw_blocked(draw, Instance(self.text, self.barred))
         self.instance = Instance(self.text, self.barred, self.blocked)
         self.solution = draw_solution(draw, self.instance)
         self.lectures = self.instance.read_solution(self.solution)
@@ -144,6 +149,7 @@ class Drawn:
         start = ["--start", write(self.folder, "start", desk.solution()), *self.sides]
         opening = desk.t
         script, answers = draw_day(self.draw, desk, 3)
+        self.seen = {answer for answer in answers.split("\n") if answer in REFUSALS}
         journal = os.path.join(self.folder, "journal")
         check_run(f"{name}: run", "run", self.files[0], write(self.folder, "script", script), *start, "--journal", journal, wanted=answers)
         with open(journal, encoding="utf-8", newline="") as opened:
@@ -236,11 +242,9 @@ def check_nothing(drawn, name, solution):
     check(f"{name}: nothing is blocked", told[0], told[1])
 
 
-def seen_in(drawn, desk):
+def seen_in(drawn):
     """What of closures is in a drawn day."""
-    answers = {answer for _, asked in desk.entries for _, answer in asked}
-    seen = {answer for answer in answers if answer in ("refused blocked", "refused barred", "refused unavailable")}
-    seen |= {kind for kind in ("blocked", "closed", "barred") if getattr(drawn.instance, kind)}
+    seen = drawn.seen | {kind for kind in ("blocked", "closed", "barred") if getattr(drawn.instance, kind)}
     return seen | ({"barred and blocked"} if {"barred", "blocked"} <= seen else set())
 
 
@@ -260,8 +264,8 @@ def check_drawn(folder):
         drawn.check_alone(name, opening)
         drawn.check_listed(name)
         check_nothing(drawn, name, solution)
-        seen += seen_in(drawn, desk)
-    wanted = ("refused blocked", "refused barred", "refused unavailable", "blocked", "closed", "barred and blocked")
+        seen += seen_in(drawn)
+    wanted = (*REFUSALS, "blocked", "closed", "barred and blocked")
     check("each of these in 15 days or more", [what for what in wanted if seen.count(what) < 15], [])
     check_faults(draw, folder)
 
@@ -275,4 +279,4 @@ def check_faults(draw, folder):
             drawn = Drawn(draw, folder)
         fault = drawn.check_broken(f"drawn fault {n}")
         faults[fault] = faults.get(fault, 0) + 1
-    check("each fault 5 times or more", [fault for fault in ("", *(f"L{n}" for n in range(1, 9))) if faults.get(fault, 0) < 5], [])
+    check("each fault 3 times or more", [fault for fault in ("", *(f"L{n}" for n in range(1, 9))) if faults.get(fault, 0) < 3], [])
