@@ -10,9 +10,7 @@ ghost use Rattle.ctt_files.specs.Texts.{HasSides, IsBarredBy, IsBlockedBy, IsIns
 use crate::fault::Fault;
 use crate::files::{Files, read_file};
 use crate::sides::Sides;
-use ctt_text::{
-    Instance, Placed, let_go, read_barred, read_blocked, read_instance, read_solution,
-};
+use ctt_text::{Instance, Placed, let_go, read_barred, read_blocked, read_instance, read_solution};
 use std::alloc::Global;
 
 /// Loads an instance from a file. Nothing is barred or blocked in it.

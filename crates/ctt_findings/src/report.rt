@@ -55,11 +55,7 @@ fn answer(yes: bool) -> Word<'static>
 }
 
 /// Returns the report on an instance as text.
-fn text(
-    alloc: Global,
-    instance: &Instance,
-    assessment: Assessment,
-) -> Result<String, AllocError>
+fn text(alloc: Global, instance: &Instance, assessment: Assessment) -> Result<String, AllocError>
     requires { total assessment.cost < 2 ^ 64 }
     ensures { IfOk result (λ text. string_bytes text
         ≡ text_of instance.now assessment.hard assessment.cost assessment.lawful
