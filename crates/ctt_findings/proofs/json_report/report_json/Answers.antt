@@ -8,9 +8,10 @@ use Rattle.ctt_findings.proofs.json_report.report_json.Goals as goal
 pub returns : goal.returns
 unfolding data_of
 returns c =
+    let i = c.args.instance.now in
     let found = c.assess-assessment.result in
-    let written : c.in_ok-line.field-0.items ≡ json_of c.args.instance.now found.hard found.cost found.lawful found.complete =
-    c.in_ok-line.ensures (ap (λ ms. has_float (object ms)) c.in_ok-report.ensures ∙ no_float _ _ _ _ _)
+    let written : c.in_ok-line.field-0.items ≡ json_of i found.hard found.cost found.lawful found.complete =
+    c.in_ok-line.ensures (ap (λ ms. has_float (object ms)) c.in_ok-report.ensures ∙ no_float i found.hard found.cost found.lawful found.complete)
     ∙ ap (λ ms. compact_text (object ms) ++ codes "\n") c.in_ok-report.ensures in
     record {
       lawful = found.lawful;
