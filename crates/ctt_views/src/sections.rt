@@ -3,7 +3,6 @@
 
 ghost use Rattle.std.specs.Prelude.{◌≡◌, ◌<◌, ◌^◌, ◌++◌, [], OnOk, cond, filter, flat_map, string_bytes, take};
 ghost use Rattle.std.specs.List.{AllByRecursion as Each};
-ghost use Rattle.ctt_problem.specs.Problem.{has_blocked};
 ghost use Rattle.ctt_rules.specs.Penalty.{total};
 ghost use Rattle.ctt_findings.specs.Fitting.{FindingFits};
 ghost use Rattle.ctt_views.specs.Sections.{blocked_section, broken_rules, costs, costs_start, finding_item, first, is_of_kind, item_start, section, section_start, sections};
@@ -154,10 +153,11 @@ fn push_section(
     page.push_str("</ul></details>\n")
 }
 
-/// Adds the section of the lectures in blocked rooms, if any room is blocked in any slot.
+/// Adds the section of the lectures in blocked rooms, if any room of the instance is blocked.
 #[tactic(auto, unfolding(crate::specs::Sections::blocked_section))]
 fn push_blocked(
     page: &mut String,
+    blocked: bool,
     instance: &Instance,
     days: &str,
     found: &[Finding],
@@ -166,9 +166,9 @@ fn push_blocked(
     requires { Each (FindingFits instance.now) found.now }
     ensures { OnOk result (string_bytes page.new
         ≡ string_bytes page.old
-        ++ blocked_section (has_blocked instance.now) instance.now days.now found.now count) }
+        ++ blocked_section blocked instance.now days.now found.now count) }
 {
-    if instance.has_blocked() {
+    if blocked {
         let head = head_of("blocked", "&#9644; blocked", count, "time");
         push_section(page, instance, days, found, &head)
     } else {
@@ -206,7 +206,8 @@ fn push_broken_rules(
     push_section(page, instance, days, found, &availability)?;
     push_section(page, instance, days, found, &occupancy)?;
     push_section(page, instance, days, found, &barred)?;
-    push_blocked(page, instance, days, found, hard.blocked)
+    let blocked = instance.has_blocked();
+    push_blocked(page, blocked, instance, days, found, hard.blocked)
 }
 
 /// Begins what costs points: the head, with their total.

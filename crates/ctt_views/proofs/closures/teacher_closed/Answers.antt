@@ -7,9 +7,9 @@ use Rattle.ctt_views.proofs.closures.teacher_closed.Goals as goal
 pub returns-then-not-closed : goal.returns-then-not-closed
 returns-then-not-closed c =
     let closed : ℕ → Bool = λ d. is_closed c.args.instance.now d c.args.slot in
-    let open : closed c.course-item.result ≡ false = search rules in
+    let free : closed c.course-item.result ≡ false = search rules in
     sym (ap (list_all closed) (sym c.taught_by-course-items.ensures.exact)
-    ∙ list_all_at closed c.taught_by-course-items.result.now c.loop-course.course-index c.course-item.result c.loop-course-test.true (ap closed (sym c.course-item.is) ∙ open))
+    ∙ list_all_at closed c.taught_by-course-items.result.now c.loop-course.course-index c.course-item.result c.loop-course-test.true (ap closed (sym c.course-item.is) ∙ free))
 
 pub loop-course-preserved : goal.loop-course-preserved
 loop-course-preserved c =
