@@ -123,7 +123,7 @@ _office_folders() {
 
 # Completes a word of office.
 _office() {
-    local typed=${COMP_WORDS[COMP_CWORD]} word option='' given=' ' command='' day='' place=0 options=''
+    local typed=${COMP_WORDS[COMP_CWORD]} word option='' given=' ' command='' day='' kind='' place=0 options=''
     local places='--login-header --logins --port --socket --url'
     COMPREPLY=()
     for word in "${COMP_WORDS[@]:1:COMP_CWORD-1}"; do
@@ -138,16 +138,18 @@ _office() {
             command=$word
         else
             [[ $place != 0 ]] || day=$word
+            [[ $place != 1 ]] || kind=$word
             place=$((place + 1))
         fi
     done
     [[ $typed != = ]] || typed=
     case $command in
     '') options='--unproved' ;;
-    open) options="--after --barred --instance --labels --planners --start --web $places" ;;
+    open) options="--after --barred --blocked --instance --labels --planners --start --web $places" ;;
     web) options="--links --new-key $places" ;;
     sit) options='--name --plain' ;;
     close) options='--wait' ;;
+    block | unblock) options='--why' ;;
     show) options='--at --costs --course --csv --curriculum --html --ics --room --teacher' ;;
     log) options='--json' ;;
     diff) options='--course --curriculum --room --teacher' ;;
@@ -167,13 +169,15 @@ _office() {
     *:--labels | *:--output | *:-o | import:0) _office_folders "$typed" ;;
     *:--start) _timedesk_files "$typed" .sol ;;
     *:--instance | open:1) _timedesk_files "$typed" .ctt ;;
-    *:--barred | *:--logins | *:--socket) _timedesk_files "$typed" '' ;;
+    *:--barred | *:--blocked | *:--logins | *:--socket) _timedesk_files "$typed" '' ;;
     diff:--course | diff:--curriculum | diff:--room | diff:--teacher | show:--course | \
         show:--curriculum | show:--room | show:--teacher)
         _timedesk_names "$typed" "$option" "${day%:*}/instance.ctt"
         ;;
     *:--*) ;;
-    :0) _timedesk_words "$typed" close diff export import log open publish revert show sit status web ;;
+    :0) _timedesk_words "$typed" block blocks close diff export import log open publish revert show sit status unblock web ;;
+    block:1 | unblock:1) _timedesk_words "$typed" course room teacher ;;
+    block:2 | unblock:2) _timedesk_names "$typed" "--$kind" "$day/instance.ctt" ;;
     *:0 | diff:1) _office_days "$typed" ;;
     publish:1) _office_folders "$typed" ;;
     log:1)

@@ -128,7 +128,7 @@ offers '' timedesk week cut.ctt monday.sol --curriculum ''
 mkdir monday tuesday
 touch monday/day.json
 cp small.ctt monday/instance.ctt
-offers $'close\ndiff\nexport\nimport\nlog\nopen\npublish\nrevert\nshow\nsit\nstatus\nweb' office ''
+offers $'block\nblocks\nclose\ndiff\nexport\nimport\nlog\nopen\npublish\nrevert\nshow\nsit\nstatus\nunblock\nweb' office ''
 offers $'show\nsit\nstatus' ./office s
 offers $'open' office --unproved o
 offers $'--help\n--unproved' office -
@@ -139,11 +139,18 @@ offers $'$(touch,hit)\nA\nalg\ngeo\nq1\nq2\nt1\nt2\ntop' office log monday ''
 offers $'monday' office diff monday mon
 offers $'t1\nt2' office diff monday:1 monday --teacher ''
 offers $'monday' office revert ''
+offers $'monday' office block ''
+offers $'course\nroom\nteacher' office block monday ''
+offers $'t1\nt2' office unblock monday teacher t
+offers '' office block monday teacher t1 ''
+offers $'--help\n--why' office block monday room A --
+offers $'monday' office blocks m
+offers $'monday\nmonday.ctt\nmonday.sol' office open wednesday small.ctt 2 --blocked m
 offers $'small.ctt' office open wednesday s
 offers $'monday' office open wednesday --after ''
 offers $'small.ctt' office open wednesday --after monday --instance s
 offers $'monday\nmonday.sol' office open wednesday small.ctt 2 --start m
-offers $'--after\n--barred\n--help\n--instance\n--labels\n--login-header\n--logins\n--planners\n--port\n--socket\n--start\n--url\n--web' office open wednesday -
+offers $'--after\n--barred\n--blocked\n--help\n--instance\n--labels\n--login-header\n--logins\n--planners\n--port\n--socket\n--start\n--url\n--web' office open wednesday -
 offers $'monday' office web ''
 offers $'--links\n--login-header\n--logins' office web monday --l
 offers $'monday' office open wednesday small.ctt 2 --labels m
