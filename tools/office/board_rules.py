@@ -17,7 +17,7 @@ class BoardRules:
 
     def __init__(self, board: Board) -> None:
         self.board = board
-        # what was being typed when the rules changed, to go on with
+        # what was being read or typed when the rules changed, to go on with
         self._kept: Optional[Callable[[], Optional[Overlay]]] = None
 
     def block(self) -> None:
@@ -42,7 +42,7 @@ class BoardRules:
 
     def step_over(self) -> None:
         """Goes on in the next part of the day, says what has happened, and shows what is to be read
-        of it. A line or a reason that is being typed is there again behind it."""
+        of it. What is being read or typed, as a reason, is there again behind it."""
         board, front = self.board, self.board.overlay
         board.overlay = None
         question = board.work.step_over()
@@ -53,11 +53,11 @@ class BoardRules:
             board.overlay = self.take_kept()
 
     def keep(self, front: Optional[Overlay]) -> None:
-        """Keeps what was being typed."""
+        """Keeps what was being read or typed."""
         if isinstance(front, CommitBox):
             why = front.why
             self._kept = lambda: self.board.commit_box(why)
-        elif isinstance(front, Typed):
+        elif front is not None:
             self._kept = lambda: front
 
     def take_kept(self) -> Optional[Overlay]:

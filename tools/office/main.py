@@ -36,7 +36,8 @@ and docs/OFFICE.md has a whole day."""
 
 
 def add_open(commands: Commands) -> None:
-    one = add_command(commands, "open", "open a day, and keep it until it is closed")
+    told = "open a day, and keep it until it is closed; DAY alone goes on with one that was killed"
+    one = add_command(commands, "open", told)
     instance = "the instance, or what an import has made; not if the day follows another one"
     one.add_argument("instance", metavar="INSTANCE", nargs="?", help=instance)
     count = "how many planners, 1 to 64"
@@ -101,6 +102,12 @@ def parser() -> argparse.ArgumentParser:
     return top
 
 
+def names_day_alone(words: argparse.Namespace) -> bool:
+    """Whether nothing is said with which a day would be opened."""
+    given = [words.instance, words.planners, words.changed, words.seats, words.start]
+    return all(word is None for word in [*given, words.barred, words.blocked, words.labels])
+
+
 def open_by(words: argparse.Namespace, top: argparse.ArgumentParser) -> int:
     from office.imported import take_imported
     from office.opening import Plan, open_day, plan_after
@@ -117,13 +124,17 @@ def open_by(words: argparse.Namespace, top: argparse.ArgumentParser) -> int:
         plan.blocked, plan.mends = words.blocked, plan.mends or words.blocked is not None
         plan.labels, plan.web = words.labels or plan.labels, web_of(day, words)
         return open_day(plan, words.unproved)
+    if day.is_there() and names_day_alone(words):
+        from office.reopening import reopen_day
+
+        return reopen_day(day, web_of(day, words))
     if (
         words.instance is None
         or words.planners is None
         or words.changed is not None
         or words.seats is not None
     ):
-        top.error("open: DAY INSTANCE PLANNERS, or DAY --after DAY")
+        top.error("open: DAY INSTANCE PLANNERS, or DAY --after DAY, or DAY alone to go on with it")
     plan = Plan(day, words.planners, words.instance, words.start, words.barred)
     plan.blocked, plan.labels, plan.web = words.blocked, words.labels, web_of(day, words)
     return open_day(plan, words.unproved)

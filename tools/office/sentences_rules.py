@@ -11,7 +11,7 @@ RULES: Dict[str, str] = {
     "room blocked now": "{room} is blocked then",
     "away": "{scope} is blocked then{because} ({by})",
     "rules now": "{reasons}.",
-    "new desk": "The desk has begun anew.",
+    "new desk": "the desk has begun anew",
     "draft made again": "your draft is made again: {made} of {count} edits, none committed",
     "set aside now": "These lectures are missing now:",
     "rules change": "The rules of the day change: going on in a moment, for {seconds} s; "

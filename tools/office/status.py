@@ -33,7 +33,7 @@ def state_of(day: Day) -> str:
         return "closed"
     return (
         f"no desk: it has ended, or was killed; office close {day.path} "
-        "writes what the day has left"
+        f"writes what the day has left, office open {day.path} goes on with it"
     )
 
 

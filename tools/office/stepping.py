@@ -6,7 +6,7 @@ from typing import List, NamedTuple, Optional
 
 from office.blocked import aside_lines, change_told
 from office.entering import enter
-from office.notice import NOTHING, Notice, Question, say
+from office.notice import Notice, Question, say
 from office.parts import Aside, Change
 from office.planning import Planning
 from office.scope import Closure
@@ -14,11 +14,18 @@ from office.seat import Seat
 
 
 class Remade(NamedTuple):
-    """A draft that was made again: what is said of it, and those of its edits that were refused,
-    each with the reason."""
+    """A draft that was made again: how many edits it had, how many it has, and those that were
+    refused, each with the reason."""
 
-    told: Notice = NOTHING
+    of: int = 0
+    made: int = 0
     refused: List[Notice] = []
+
+    def told(self) -> List[Notice]:
+        """What is said of it, if there was one."""
+        if not self.of:
+            return []
+        return [say("draft made again", made=self.made, count=self.of)]
 
 
 class Stepped(NamedTuple):
@@ -49,8 +56,7 @@ def make_again(planning: Planning) -> Remade:
     refused = planning.make_again([edit for edit in kept if edit not in made])
     if planning.is_open:
         seat.made_again()
-    planning.notice = told = say("draft made again", made=len(planning.edits()), count=len(kept))
-    return Remade(told, refused)
+    return Remade(len(kept), len(kept) - len(refused), refused)
 
 
 def whole_change(changes: List[Change]) -> Optional[Change]:
@@ -65,13 +71,8 @@ def whole_change(changes: List[Change]) -> Optional[Change]:
 def told_of(stepped: Stepped) -> Notice:
     """What has happened, in one line."""
     change = whole_change(stepped.changes)
-    if change is None:
-        return stepped.remade.told or say("new desk")
-    return say("rules now", reasons=[change_told(change), *told_of_draft(stepped.remade)])
-
-
-def told_of_draft(remade: Remade) -> List[Notice]:
-    return [remade.told] if remade.told else []
+    first = say("new desk") if change is None else change_told(change)
+    return say("rules now", reasons=[first, *stepped.remade.told()])
 
 
 def question_of(stepped: Stepped) -> Optional[Question]:
@@ -83,10 +84,11 @@ def question_of(stepped: Stepped) -> Optional[Question]:
         lines += [say("set aside now"), *aside_lines(change)]
     if remade.refused:
         lines += [say("blank")] if lines else []
-        lines += [remade.told, say("these refused"), *remade.refused]
+        lines.append(say("made again", made=remade.made, count=remade.of))
+        lines += [say("these refused"), *remade.refused]
     if not lines:
         return None
-    title = change_told(change) if change is not None else remade.told
+    title = change_told(change) if change is not None else say("new desk")
     return Question(title, lines, {"seen": lambda: None})
 
 

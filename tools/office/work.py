@@ -80,7 +80,7 @@ class Work:
         earlier day has left."""
         planning = self.planning
         remade = make_again(planning)
-        if not remade.told:
+        if not remade.of:
             return self.drafting.offer_earlier()
         stepped = Stepped(planning.changes[-1:], remade)
         planning.notice = told_of(stepped)
