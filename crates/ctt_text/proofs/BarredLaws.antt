@@ -8,37 +8,20 @@ use Rattle.std.proofs.lemmas.Nat.{mul-add-lt}
 use Rattle.ctt_text.specs.declared.fault.BarredFault.{BarredFault}
 use Rattle.ctt_text.specs.declared.fault.BarredFault.TheVariants.{Expected, BadNumber, TooLarge, UnknownCourse, UnknownRoom}
 use Rattle.ctt_text.specs.Numbers.{value}
-use Rattle.ctt_text.specs.Forms.{done, ◌>>=◌, times, Fills}
-use Rattle.ctt_text.specs.Places.{one, known, known_name, number_if, fixed}
+use Rattle.ctt_text.specs.Forms.{◌>>=◌, Fills}
+use Rattle.ctt_text.specs.Places.{one, known, known_name}
 use Rattle.ctt_problem.specs.Problem.{Problem, IsProblem, course_count, room_count, place_of, is_barred}
 use Rattle.ctt_text.specs.InstanceText.{IsUpTo}
-use Rattle.ctt_text.specs.BarredPlaces.{pair_count, barred_pair, none_barred, barred_rooms, ends_early}
+use Rattle.ctt_text.specs.BarredPlaces.{barred_pair, none_barred, barred_rooms, ends_early}
 use Rattle.ctt_text.specs.BarredText.{BarredWords, spelled_barred, spelled_pairs, IsBarredPair, bars, BarSpells, BarBreaksAt}
 use Rattle.ctt_text.specs.BarredLaws.{barred_answer, ReadsBarred, SpellsOneBarred, BarredFailsWhereBroken, BarredBreaksOnce, BarredSpellsOrBreaks}
-use Rattle.ctt_text.proofs.FormLaws.{fills_both, bind_case, answer_fills, fills_answer, answer_breaks, breaks_answer, breaks_once, answered}
+use Rattle.ctt_text.proofs.FormLaws.{answer_fills, fills_answer, answer_breaks, breaks_answer, breaks_once, answered}
 use Rattle.ctt_problem.proofs.ResultLemmas.{ok_same, ok_is_err}
-use Rattle.ctt_text.proofs.SectionLaws.{Entry, entries_fill, entries_taken, each_apart, each_together}
+use Rattle.ctt_text.proofs.SectionLaws.{Entry}
+use Rattle.ctt_text.proofs.SideFileLaws.{Given, side_file_fills, side_file_taken}
 use Rattle.ctt_problem.proofs.MarkLaws.{marked, marks_made, marks_many, marks_same, place_in_rows, Row, row_of}
-use Rattle.ctt_text.proofs.PlaceLaws.{a_name, name_given, up_to_passes, passed_up_to, is_fixed, after_case}
+use Rattle.ctt_text.proofs.PlaceLaws.{a_name, name_given}
 use Rattle.ctt_problem.proofs.ListLaws.{place_below}
-
--- the number of pairs: what obeys that place is one number
-count_taken : (greatest : ℕ) (words : List (List ℕ)) (n : ℕ) → Fills (pair_count greatest) words n → (word : List ℕ) × (words ≡ word ∷ []) × IsUpTo greatest word × (value word ≡ n)
-unfolding pair_count number_if one
-count_taken greatest [] n h = absurd h
-count_taken greatest (word ∷ []) n h = (word, refl, passed_up_to BadNumber TooLarge word greatest h.0, h.1)
-count_taken greatest (word ∷ more ∷ words) n h = absurd h.1
-
--- what fills the end is its word
-end_taken : (x t : List Bool) (words : List (List ℕ)) → Fills (fixed Expected (codes "END.") >>= λ _. done x) words t → (words ≡ codes "END." ∷ []) × (x ≡ t)
-unfolding fixed known one ◌>>=◌
-end_taken x t [] h = absurd h
-end_taken x t (w ∷ []) h = (ap (λ q. q ∷ []) (is_fixed Expected w (codes "END.") h.0), h.1)
-end_taken x t (w ∷ more ∷ ws) h = absurd h.1
-
--- the parts of a text, one after another
-all_parts : (words us vs us2 vs2 ws : List (List ℕ)) (count : List ℕ) → words ≡ codes "Barred:" ∷ us ++ vs → us ≡ count ∷ [] → vs ≡ us2 ++ vs2 → us2 ≡ ws → vs2 ≡ codes "END." ∷ [] → words ≡ codes "Barred:" ∷ count ∷ ws ++ codes "END." ∷ []
-all_parts words us vs us2 vs2 ws count e0 e1 e2 e3 e4 = rw (e0, e1, e2, e3, e4) refl
 
 module _ (i : Problem) where
   -- the index of a pair in the table
@@ -48,16 +31,13 @@ module _ (i : Problem) where
   abbrev add_pair : List Bool → BarredWords → List Bool
   add_pair s w = slice_set s (mark_of w) true
 
-  abbrev FitsPair : List Bool → BarredWords → Type 0
-  FitsPair _ = IsBarredPair i
-
   -- a known course and a known room fill the form of a pair
-  pair_fills : (s : List Bool) (w : BarredWords) → FitsPair s w → Fills (barred_pair i s) (spelled_barred w) (add_pair s w)
+  pair_fills : (s : List Bool) (w : BarredWords) → IsBarredPair i w → Fills (barred_pair i s) (spelled_barred w) (add_pair s w)
   unfolding barred_pair known_name known one ◌>>=◌
   pair_fills s w fit = (rw fit.0 refl, (rw fit.1 refl, rw (fit.0, fit.1) refl))
 
   -- what fills it is such a pair
-  pair_taken : (s : List Bool) (words : List (List ℕ)) (t : List Bool) → Fills (barred_pair i s) words t → Entry spelled_barred add_pair FitsPair s words t
+  pair_taken : (s : List Bool) (words : List (List ℕ)) (t : List Bool) → Fills (barred_pair i s) words t → Entry spelled_barred add_pair (λ _. IsBarredPair i) s words t
   unfolding barred_pair known_name known one ◌>>=◌
   pair_taken s [] t h = absurd h
   pair_taken s (c ∷ []) t h = absurd h.1
@@ -73,34 +53,15 @@ module _ (i : Problem) where
   abbrev table_of : List BarredWords → List Bool
   table_of given = marked mark_of (none_barred i) given
 
-  -- n pairs, and the table that they make
-  record Pairs (n : ℕ) (words : List (List ℕ)) (t : List Bool) : Type 0 where
-    given : List BarredWords
-    count : length given ≡ n
-    all : words ≡ flat_map spelled_barred given
-    each : Each (IsBarredPair i) given
-    gives : table_of given ≡ t
-
-  pairs_taken : (n : ℕ) (words : List (List ℕ)) (t : List Bool) → Fills (times (barred_pair i) n (none_barred i)) words t → Pairs n words t
-  pairs_taken n words t h =
-      let r = entries_taken (barred_pair i) spelled_barred add_pair FitsPair pair_taken n (none_barred i) words t h in
-      record { given = r.given; count = r.count; all = r.all; each = each_apart add_pair (IsBarredPair i) r.given (none_barred i) r.fit; gives = r.gives }
-
-  pairs_fill : (given : List BarredWords) → Each (IsBarredPair i) given → Fills (times (barred_pair i) (length given) (none_barred i)) (flat_map spelled_barred given) (table_of given)
-  pairs_fill given each = entries_fill (barred_pair i) spelled_barred add_pair FitsPair pair_fills given (none_barred i) (each_together add_pair (IsBarredPair i) given (none_barred i) each)
-
   -- what is spelled fills the form
   spelled_fills : (count : List ℕ) (given : List BarredWords) → IsUpTo 2000000 count → value count ≡ length given → Each (IsBarredPair i) given → Fills (barred_rooms i) (spelled_pairs count given) (table_of given)
-  unfolding barred_rooms pair_count number_if fixed known one ◌>>=◌
-  spelled_fills count given few counted each = (
-    refl,
-    (
-      up_to_passes BadNumber TooLarge count 2000000 few,
-      fills_both (times (barred_pair i) (value count) (none_barred i)) _ (flat_map spelled_barred given) (codes "END." ∷ []) (table_of given) (table_of given)
-          (subst (λ n. Fills (times (barred_pair i) n (none_barred i)) (flat_map spelled_barred given) (table_of given)) (sym counted) (pairs_fill given each))
-          (refl, refl),
-    ),
-  )
+  unfolding barred_rooms
+  spelled_fills = side_file_fills Expected BadNumber TooLarge (codes "Barred:") (barred_pair i) (none_barred i) spelled_barred add_pair (IsBarredPair i) pair_fills
+
+  -- what fills the form is spelled
+  spelled_taken : (words : List (List ℕ)) (t : List Bool) → Fills (barred_rooms i) words t → Given (codes "Barred:") spelled_barred add_pair (IsBarredPair i) (none_barred i) words t
+  unfolding barred_rooms
+  spelled_taken = side_file_taken Expected BadNumber TooLarge (codes "Barred:") (barred_pair i) (none_barred i) spelled_barred add_pair (IsBarredPair i) pair_taken
 
   -- a room in range is looked up in the table
   looked_up : (table : List Bool) (c r : ℕ) → r < room_count i → is_barred (record i { barred = table }) c r ≡ get_or table (c * room_count i + r) false
@@ -138,24 +99,19 @@ module _ (i : Problem) where
 
     -- what fills the form is spelled, whatever follows it
     form_taken : (words rest : List (List ℕ)) (t : List Bool) → Fills (barred_rooms i) words t → BarSpells i (words ++ rest) t
-    unfolding barred_rooms ◌>>=◌
     form_taken words rest t h =
-        after_case (BarSpells i (words ++ rest) t) Expected (codes "Barred:") (pair_count 2000000) (λ count. times (barred_pair i) count (none_barred i) >>= λ table. fixed Expected (codes "END.") >>= λ _. done table) words t h (λ us vs n p q e.
-        let c = count_taken 2000000 us n p in
-        bind_case (BarSpells i (words ++ rest) t) (times (barred_pair i) n (none_barred i)) (λ table. fixed Expected (codes "END.") >>= λ _. done table) vs t q (λ us2 vs2 table p2 q2 e2.
-        let g = pairs_taken n us2 table p2 in
-        let end = end_taken table t vs2 q2 in
+        let g = spelled_taken words t h in
         record {
-          count = c.0;
+          count = g.count;
           given = g.given;
           rest = rest;
-          all = ap (λ ws. ws ++ rest) (all_parts words us vs us2 vs2 (flat_map spelled_barred g.given) c.0 e c.1 e2 g.all end.0);
-          few = c.2;
-          counted = c.3 ∙ sym g.count;
+          all = ap (λ ws. ws ++ rest) g.all;
+          few = g.few;
+          counted = g.counted;
           pairs = g.each;
-          marks = ap (λ x. length x) (sym (g.gives ∙ end.1)) ∙ marks_many mark_of (course_count i * room_count i) g.given;
-          barred = subst (λ x. (c r : ℕ) → c < course_count i → r < room_count i → is_barred (record i { barred = x }) c r ≡ list_any (bars i c r) g.given) (g.gives ∙ end.1) (table_says g.given g.each);
-        }))
+          marks = ap (λ x. length x) (sym g.gives) ∙ marks_many mark_of (course_count i * room_count i) g.given;
+          barred = subst (λ x. (c r : ℕ) → c < course_count i → r < room_count i → is_barred (record i { barred = x }) c r ≡ list_any (bars i c r) g.given) g.gives (table_says g.given g.each);
+        }
 
     -- what is parsed is spelled
     read_spelled : (words : List (List ℕ)) (t : List Bool) → barred_answer i words ≡ Ok t → BarSpells i words t

@@ -1,16 +1,17 @@
 -- The parsed table of barred rooms, and the cause of each fault.
 use Rattle.std.proofs.Common.{◌≡◌, ◌⊎◌, ℕ, List, Bool, Result, Ok, Err, inl, inr, ⊎_elim, refl, sym, ap, ◌∙◌}
+use Rattle.std.specs.Prelude.{codes}
 use Rattle.std.specs.Str.{IsUtf8}
 use Rattle.ctt_text.specs.declared.fault.BarredFault.{BarredFault}
 use Rattle.ctt_text.specs.declared.fault.BarredFault.TheVariants.{NotText, Missing, Expected, BadNumber, TooLarge, UnknownCourse, UnknownRoom, NoMemory}
 use Rattle.ctt_text.specs.Words.{words}
 use Rattle.ctt_problem.specs.Problem.{Problem, IsProblem}
 use Rattle.ctt_text.specs.Reading.{Fails}
-use Rattle.ctt_text.specs.BarredPlaces.{wants_memory, ends_early, pair_count, barred_pair, barred_rooms}
+use Rattle.ctt_text.specs.BarredPlaces.{wants_memory, ends_early, barred_pair, barred_rooms}
 use Rattle.ctt_text.specs.BarredText.{BarSpells, BarBreaksAt}
 use Rattle.ctt_text.specs.BarredLaws.{barred_answer, IsBarredCauseOf}
 use Rattle.ctt_problem.proofs.ResultLemmas.{ok_same, ok_is_err, err_same}
-use Rattle.ctt_text.proofs.FaultLaws.{FormFaults, bind_faults, times_faults, known_name_faults, number_if_faults, fixed_faults, answer_faults}
+use Rattle.ctt_text.proofs.FaultLaws.{FormFaults, bind_faults, known_name_faults, side_file_faults, answer_faults}
 use Rattle.ctt_text.proofs.BarredLaws.{reads_barred, barred_fails_where_broken}
 
 -- a fault of a place, which carries the number of a word
@@ -25,16 +26,9 @@ pair_faults i so_far =
     bind_faults IsOfWord _ _ (known_name_faults IsOfWord UnknownCourse i.course_names (λ k. tt)) (λ course.
     bind_faults IsOfWord _ _ (known_name_faults IsOfWord UnknownRoom i.room_names (λ k. tt)) (λ room. tt))
 
-count_faults : (greatest : ℕ) → FormFaults IsOfWord (pair_count greatest)
-unfolding pair_count
-count_faults greatest = number_if_faults IsOfWord BadNumber TooLarge _ (λ k. tt) (λ k. tt)
-
 all_faults : (i : Problem) → FormFaults IsOfWord (barred_rooms i)
 unfolding barred_rooms
-all_faults i =
-    bind_faults IsOfWord _ _ (bind_faults IsOfWord _ _ (fixed_faults IsOfWord Expected _ (λ k. tt)) (λ _. count_faults 2000000)) (λ count.
-    bind_faults IsOfWord _ _ (times_faults IsOfWord (barred_pair i) (pair_faults i) count _) (λ table.
-    bind_faults IsOfWord _ _ (fixed_faults IsOfWord Expected _ (λ k. tt)) (λ end. tt)))
+all_faults i = side_file_faults IsOfWord Expected BadNumber TooLarge (codes "Barred:") (barred_pair i) _ (λ k. tt) (λ k. tt) (λ k. tt) (pair_faults i)
 
 -- parsing gives only faults of places
 of_word : (i : Problem) (ws : List (List ℕ)) (e : BarredFault) → barred_answer i ws ≡ Err e → IsOfWord e

@@ -4,7 +4,8 @@ use Rattle.ctt_text.specs.Left.{Left}
 use Rattle.ctt_text.specs.Numbers.{is_number, value, number_of}
 use Rattle.ctt_problem.specs.Problem.{is_among, number_in}
 use Rattle.ctt_text.specs.Forms.{Rule, Form, done, place, ◌>>=◌, times, read, without_rest}
-use Rattle.ctt_text.specs.Places.{one, any, known, broken_unless, exactly, fixed, number, number_if, new_name, known_name}
+use Rattle.ctt_text.specs.Places.{one, any, known, broken_unless, exactly, fixed, number, number_if, number_at_most, is_all, choice_if, new_name, known_name}
+use Rattle.ctt_text.specs.SideFile.{side_file}
 use Rattle.ctt_text.proofs.FormLaws.{read_case}
 use Rattle.ctt_problem.proofs.ResultLemmas.{ok_is_err, err_same}
 
@@ -72,6 +73,18 @@ module _ {F : Type 0} (P : F → Type 0) where
   unfolding number_if one
   number_if_faults bad out test h l = (λ word broken e k. two_faults (is_number word) (test (value word)) bad out broken h l e k, λ word. tt)
 
+  pub at_most_faults : (bad large : ℕ → F) (greatest : ℕ) → ((k : ℕ) → P (bad k)) → ((k : ℕ) → P (large k)) → FormFaults (number_at_most bad greatest large)
+  unfolding number_at_most
+  at_most_faults bad large greatest h l = number_if_faults bad large _ h l
+
+  pub choice_if_faults : (bad out : ℕ → F) (test : ℕ → Bool) → ((k : ℕ) → P (bad k)) → ((k : ℕ) → P (out k)) → FormFaults (choice_if bad test out)
+  unfolding choice_if one
+  choice_if_faults bad out test h l = (λ word broken e k. by (is_number word) (test (value word)) (is_all word) broken e k, λ word. tt)
+    where
+      by : (a b c : Bool) (broken : ℕ → F) → cond {A = Option (ℕ → F)} a (cond b None (Some out)) (cond c None (Some bad)) ≡ Some broken → (k : ℕ) → P (broken k)
+      by true b c broken e k = test_faults b out broken l e k
+      by false b c broken e k = test_faults c bad broken h e k
+
   pub new_name_faults : (fault : ℕ → F) (names : List (List ℕ)) → ((k : ℕ) → P (fault k)) → FormFaults (new_name fault names)
   unfolding new_name one
   new_name_faults fault names h = (λ word broken e k. taken_faults (is_among names word) fault broken h e k, λ word. tt)
@@ -79,6 +92,14 @@ module _ {F : Type 0} (P : F → Type 0) where
   pub known_name_faults : (fault : ℕ → F) (names : List (List ℕ)) → ((k : ℕ) → P (fault k)) → FormFaults (known_name fault names)
   unfolding known_name
   known_name_faults fault names h = known_faults fault (number_in names) 0 h
+
+  pub side_file_faults : {S : Type 0} (other bad large : ℕ → F) (label : List ℕ) (entry : S → Form F S) (start : S) → ((k : ℕ) → P (other k)) → ((k : ℕ) → P (bad k)) → ((k : ℕ) → P (large k))
+      → ((s : S) → FormFaults (entry s)) → FormFaults (side_file other bad large label entry start)
+  unfolding side_file
+  side_file_faults other bad large label entry start o b l each =
+      bind_faults _ _ (bind_faults _ _ (fixed_faults other _ o) (λ _. at_most_faults bad large 2000000 b l)) (λ count.
+      bind_faults _ _ (times_faults entry each count start) (λ all.
+      bind_faults _ _ (fixed_faults other _ o) (λ end. tt)))
 
   -- each fault that parsing gives is of this kind
   pub read_faults : {A : Type 0} (missing : ℕ → F) (form : Form F A) (words : List (List ℕ)) (n : ℕ) (e : F) → ((k : ℕ) → P (missing k)) → FormFaults form → read missing form words n ≡ Err e → P e

@@ -12,6 +12,7 @@ use Rattle.ctt_problem.specs.Problem.{is_among, place_of, IsSmall, IsCourseFacts
 use Rattle.ctt_text.specs.InstanceText.{CourseWords, CurriculumWords, Given, teacher_names, IsNumber, IsCourse, IsRoom, IsCurriculum, facts_of, members_of, Obey, SaysInstance}
 use Rattle.ctt_text.specs.InstanceLaws.{SpelledIsProblem}
 use Rattle.ctt_problem.proofs.TimetableLemmas.{Each-map}
+use Rattle.ctt_text.proofs.InstanceWhole.{looked_up}
 use Rattle.ctt_text.proofs.NamedLaws.{teachers_distinct}
 use Rattle.ctt_text.proofs.SeenLemmas.{numbered_as_seen, pairs_few}
 use Rattle.ctt_problem.proofs.ListLaws.{Each-mapped, once_each, once_apart, once_found, once_few, place_below, bytes_sound, each_among}
@@ -76,7 +77,9 @@ spelled_is_problem words i s =
       periods_few = subst (λ n. n ≤ 2000) (sym says.periods) o.header.periods.1;
       slots_few = subst (λ n. n ≤ 2000) (ap (λ d. d * value g.head.periods) (sym says.days) ∙ ap (λ p. i.days * p) (sym says.periods)) o.header.slots;
       marked = says.marks;
+      closures_marked = ap (λ b. length b) says.closed ∙ length-replicate (length i.courses * (i.days * i.periods)) false;
       rooms_marked = ap (λ b. length b) says.barred ∙ length-replicate (length i.courses * length i.capacities) false;
+      rooms_blocked = ap (λ b. length b) says.blocked ∙ length-replicate (length i.capacities * (i.days * i.periods)) false;
       courses_named = names_many ∙ sym courses_many;
       rooms_named = ap (λ ns. length ns) says.room_names ∙ length-map g.rooms (λ r. r.name) ∙ sym rooms_many;
       curricula_named = ap (λ ns. length ns) says.curriculum_names ∙ length-map g.curricula (λ q. q.name) ∙ sym curricula_many;
@@ -88,5 +91,5 @@ spelled_is_problem words i s =
       teachers_seen = ap (λ cs. each_once ◌==◌ (map (λ f. f.teacher) cs)) says.courses ∙ numbered_as_seen g.courses i.teacher_names says.teacher_names
           (subst AreDistinct (sym says.teacher_names) (teachers_distinct (map (λ c. c.teacher) g.courses)))
           (subst (λ ts. Each (λ name. is_among ts name ≡ true) (map (λ (c : CourseWords). c.teacher) g.courses)) (sym says.teacher_names) (named_known g.courses));
-      pairs_few = omega (arith, pairs_few i i.course_names g.pairs says.marks says.unavailable, o.pairs_counted, o.header.constraints.1);
+      pairs_few = omega (arith, pairs_few i i.course_names g.pairs says.marks (λ c s known lt. sym (looked_up i c s says.closed lt) ∙ says.unavailable c s known lt), o.pairs_counted, o.header.constraints.1);
     }

@@ -1,5 +1,5 @@
 -- The whole text of an instance: what fills its form is exactly what is spelled.
-use Rattle.std.proofs.Common.{◌≡◌, ℕ, ◌+◌, ◌*◌, ◌<◌, List, [], ◌∷◌, ◌++◌, length, map, flat_map, Bool, false, refl, sym, ap, subst, ◌∙◌}
+use Rattle.std.proofs.Common.{◌≡◌, ℕ, ◌+◌, ◌*◌, ◌<◌, List, [], ◌∷◌, ◌++◌, length, map, flat_map, Bool, true, false, ◌||◌, refl, sym, ap, subst, ◌∙◌}
 use Rattle.std.specs.Prelude.{codes, get_or, replicate}
 use Rattle.std.proofs.lemmas.List.{length-map}
 use Rattle.std.proofs.lemmas.Bool.{lt-ltb}
@@ -12,6 +12,7 @@ use Rattle.ctt_text.specs.Forms.{Form, done, ◌>>=◌, times, Fills}
 use Rattle.ctt_text.specs.Places.{one, known, fixed, after}
 use Rattle.ctt_text.specs.InstancePlaces.{Header, Courses, Rooms, Curricula, header, course, room, curriculum, unavailability, no_courses, no_rooms, no_curricula, all_available, problem_of, instance}
 use Rattle.ctt_text.specs.InstanceText.{Given, spelled_header, spelled_course, spelled_room, spelled_curriculum, spelled_pair, spelled, course_names, facts_of, members_of, Obey, SaysInstance, Spells}
+use Rattle.ctt_problem.proofs.MarkLemmas.{all_alike}
 use Rattle.ctt_text.proofs.FormLaws.{fills_both, bind_case}
 use Rattle.ctt_text.proofs.InstanceSections.{header_of, header_fills, header_taken, rooms_of, rooms_fill, rooms_taken, courses_of, courses_fill, courses_taken, curricula_of, curricula_fill, curricula_taken, pairs_fill, pairs_taken, table_of, table_many, table_says, table_same}
 use Rattle.ctt_text.proofs.PlaceLaws.{is_fixed, after_case}
@@ -34,13 +35,23 @@ table g = table_of (course_names g.courses) (days_of g) (periods_of g) (value g.
 problem_same : (n n' : List ℕ) (cn cn' : List (List ℕ)) (c c' : List CourseFacts) (t t' rn rn' : List (List ℕ)) (r r' : List ℕ) (qn qn' q q' : List (List ℕ)) (d d' p p' : ℕ) (u : List Bool)
     → n ≡ n' → cn ≡ cn' → c ≡ c' → t ≡ t' → rn ≡ rn' → r ≡ r' → qn ≡ qn' → q ≡ q' → d ≡ d' → p ≡ p'
     → ◌≡◌ {A = Problem}
-    (record { name = n; course_names = cn; courses = c; teacher_names = t; room_names = rn; capacities = r; curriculum_names = qn; curricula = q; days = d; periods = p; unavailable = u; barred = replicate (length c * length r) false })
-    (record { name = n'; course_names = cn'; courses = c'; teacher_names = t'; room_names = rn'; capacities = r'; curriculum_names = qn'; curricula = q'; days = d'; periods = p'; unavailable = u; barred = replicate (length c' * length r') false })
+    (record { name = n; course_names = cn; courses = c; teacher_names = t; room_names = rn; capacities = r; curriculum_names = qn; curricula = q; days = d; periods = p; unavailable = u; closed = replicate (length c * (d * p)) false; barred = replicate (length c * length r) false; blocked = replicate (length r * (d * p)) false })
+    (record { name = n'; course_names = cn'; courses = c'; teacher_names = t'; room_names = rn'; capacities = r'; curriculum_names = qn'; curricula = q'; days = d'; periods = p'; unavailable = u; closed = replicate (length c' * (d' * p')) false; barred = replicate (length c' * length r') false; blocked = replicate (length r' * (d' * p')) false })
 problem_same n n' cn cn' c c' t t' rn rn' r r' qn qn' q q' d d' p p' u e0 e1 e2 e3 e4 e5 e6 e7 e8 e9 = rw (e0, e1, e2, e3, e4, e5, e6, e7, e8, e9) refl
+
+-- an instance in which nothing is closed
+nothing_closed : (i : Problem) → i.closed ≡ replicate (length i.courses * (i.days * i.periods)) false → i.barred ≡ replicate (length i.courses * length i.capacities) false → i.blocked ≡ replicate (length i.capacities * (i.days * i.periods)) false
+    → i ≡ record i {
+      closed = replicate (length i.courses * (i.days * i.periods)) false;
+      barred = replicate (length i.courses * length i.capacities) false;
+      blocked = replicate (length i.capacities * (i.days * i.periods)) false;
+    }
+nothing_closed i closed barred blocked = ap (λ x. record i { closed = x }) closed ∙ ap (λ x. record i { closed = replicate (length i.courses * (i.days * i.periods)) false; barred = x }) barred
+    ∙ ap (λ x. record i { closed = replicate (length i.courses * (i.days * i.periods)) false; barred = replicate (length i.courses * length i.capacities) false; blocked = x }) blocked
 
 -- the words determine all but the table
 is_said : (g : Given) (i : Problem) → SaysInstance g i → i ≡ said g i.unavailable
-is_said g i says = ap (λ b. record i { barred = b }) says.barred ∙ problem_same _ _ _ _ _ _ _ _ _ _ _ _ _ _ _ _ _ _ _ _ i.unavailable
+is_said g i says = nothing_closed i says.closed says.barred says.blocked ∙ problem_same _ _ _ _ _ _ _ _ _ _ _ _ _ _ _ _ _ _ _ _ i.unavailable
     says.name
     says.course_names
     (says.courses ∙ ap (λ ts. map (facts_of ts) g.courses) says.teacher_names)
@@ -56,9 +67,15 @@ is_said g i says = ap (λ b. record i { barred = b }) says.barred ∙ problem_sa
 courses_many : (g : Given) → Obey g → length (said g (table g)).courses ≡ value g.head.courses
 courses_many g o = length-map g.courses _ ∙ sym o.courses_counted
 
--- a slot in range is looked up in the table
-looked_up : (i : Problem) (c s : ℕ) → s < i.days * i.periods → is_unavailable i c s ≡ get_or i.unavailable (c * (i.days * i.periods) + s) false
-looked_up i c s lt = rw (lt-ltb s (i.days * i.periods) lt) refl
+or_false : (b : Bool) → (b || false) ≡ b
+or_false true = refl
+or_false false = refl
+
+-- a slot in range is looked up in the table, as nothing is closed
+pub looked_up : (i : Problem) (c s : ℕ) → i.closed ≡ replicate (length i.courses * (i.days * i.periods)) false → s < i.days * i.periods → is_unavailable i c s ≡ get_or i.unavailable (c * (i.days * i.periods) + s) false
+looked_up i c s none lt =
+    let place : ℕ = c * (i.days * i.periods) + s in
+    rw (lt-ltb s (i.days * i.periods) lt, none, all_alike false (length i.courses * (i.days * i.periods)) place) (or_false (get_or i.unavailable place false))
 
 -- the table that the pairs make is the one that the words describe
 table_is_said : (g : Given) (o : Obey g) (marks : List Bool) → SaysInstance g (said g marks) → table g ≡ marks
@@ -66,7 +83,7 @@ table_is_said g o marks says =
     let many : length (said g marks).courses ≡ value g.head.courses = courses_many g o in
     table_same (course_names g.courses) (days_of g) (periods_of g) (value g.head.courses) g.pairs o.pairs marks
     (says.marks ∙ ap (λ n. n * (days_of g * periods_of g)) many)
-    (λ c s known lt. sym (looked_up (said g marks) c s lt) ∙ says.unavailable c s (subst (λ n. c < n) (sym many) known) lt)
+    (λ c s known lt. sym (looked_up (said g marks) c s refl lt) ∙ says.unavailable c s (subst (λ n. c < n) (sym many) known) lt)
 
 -- the words describe the instance with the table that their pairs make
 says_table : (g : Given) → Obey g → SaysInstance g (said g (table g))
@@ -84,8 +101,10 @@ says_table g o =
       curriculum_names = refl;
       curricula = refl;
       marks = table_many (course_names g.courses) (days_of g) (periods_of g) (value g.head.courses) g.pairs ∙ ap (λ n. n * (days_of g * periods_of g)) (sym many);
-      unavailable = λ c s known lt. looked_up (said g (table g)) c s lt ∙ table_says (course_names g.courses) (days_of g) (periods_of g) (value g.head.courses) g.pairs o.pairs c s (subst (λ n. c < n) many known) lt;
+      unavailable = λ c s known lt. looked_up (said g (table g)) c s refl lt ∙ table_says (course_names g.courses) (days_of g) (periods_of g) (value g.head.courses) g.pairs o.pairs c s (subst (λ n. c < n) many known) lt;
+      closed = refl;
       barred = refl;
+      blocked = refl;
     }
 
 -- what is spelled fills the form

@@ -1,13 +1,14 @@
 -- The kinds of places: which words obey their rules.
-use Rattle.std.proofs.Common.{◌≡◌, ℕ, List, [], ◌∷◌, ◌++◌, Bool, true, false, cond, Option, Some, None, refl, ap, ◌∙◌}
-use Rattle.std.specs.Prelude.{nat_lt, nat_le}
+use Rattle.std.proofs.Common.{◌≡◌, inl, inr, ℕ, List, [], ◌∷◌, ◌++◌, Bool, true, false, cond, Option, Some, None, refl, ap, ◌∙◌}
+use Rattle.std.specs.Prelude.{nat_lt, nat_le, codes}
 use Rattle.std.specs.Str.{bytes_eq}
 use Rattle.std.proofs.lemmas.Bool.{ltb-true, lt-ltb, leb-true, le-leb}
 use Rattle.ctt_text.specs.Numbers.{is_number, value, number_of}
 use Rattle.ctt_problem.specs.Problem.{is_among, place_of, number_in}
 use Rattle.ctt_text.specs.Forms.{Form, ◌>>=◌, Fills}
-use Rattle.ctt_text.specs.Places.{passing_number, broken_unless, meant, exactly, known, one, fixed, after}
+use Rattle.ctt_text.specs.Places.{passing_number, passing_choice, is_all, broken_unless, meant, exactly, known, one, fixed, after}
 use Rattle.ctt_text.specs.InstanceText.{IsUpTo, IsBelow}
+use Rattle.ctt_text.specs.BlockedText.{IsAllOrBelow}
 use Rattle.ctt_text.proofs.FormLaws.{bind_case, Yields}
 use Rattle.ctt_problem.proofs.ListLaws.{bytes_sound}
 
@@ -66,6 +67,21 @@ module _ {F : Type 0} (bad out : ℕ → F) (word : List ℕ) (limit : ℕ) wher
   passed_up_to h =
       let p = passed_both (is_number word) (nat_le (value word) limit) bad out h in
       (p.0, leb-true (value word) limit p.1)
+
+-- `*`, or a number below a limit
+module _ {F : Type 0} (bad out : ℕ → F) (limit : ℕ) (word : List ℕ) where
+  pub choice_passes : IsAllOrBelow limit word → passing_choice bad (λ n. nat_lt n limit) out word ≡ None
+  choice_passes (inl all) = rw all refl
+  choice_passes (inr below) = rw (below.0, lt-ltb (value word) limit below.1) refl
+
+  pub passed_choice : passing_choice bad (λ n. nat_lt n limit) out word ≡ None → IsAllOrBelow limit word
+  passed_choice h = by (is_number word) (nat_lt (value word) limit) (is_all word) refl refl refl h
+    where
+      by : (a b c : Bool) → is_number word ≡ a → nat_lt (value word) limit ≡ b → is_all word ≡ c → cond {A = Option (ℕ → F)} a (cond b None (Some out)) (cond c None (Some bad)) ≡ None → IsAllOrBelow limit word
+      by true true c is below all h = inr (is, ltb-true (value word) limit below)
+      by true false c is below all h = cc
+      by false b true is below all h = inl (bytes_sound word (codes "*") all)
+      by false b false is below all h = cc
 
 -- what obeys the place of a fixed word is that word
 pub is_fixed : {F : Type 0} (fault : ℕ → F) (word text : List ℕ) → broken_unless fault (exactly text word) ≡ None → word ≡ text

@@ -3,11 +3,11 @@ use Rattle.std.proofs.Common.{◌≡◌, ◌≢◌, ℕ, zero, suc, ◌+◌, ◌
 use Rattle.std.specs.Prelude.{filter, slice_set, nat_lt}
 use Rattle.std.specs.List.{list_any, range_with_len, position_or_len, AllByRecursion as Each}
 use Rattle.std.specs.Str.{bytes_eq}
-use Rattle.std.proofs.lemmas.Bool.{true≢false, and_parts, eqb-true, eq-eqb, ne_eqb, lt-ltb, ltb-true, ltb-false, or_left, or_right}
+use Rattle.std.proofs.lemmas.Bool.{true≢false, and_parts, eqb-true, eq-eqb, ne_eqb, ltb-true, ltb-false, or_left, or_right}
 use Rattle.std.proofs.lemmas.List.{length-append, get_or_past}
 use Rattle.ctt_problem.specs.Lists.{each_once}
 use Rattle.ctt_problem.specs.Named.{AreNew, AreDistinct}
-use Rattle.ctt_problem.specs.Problem.{Problem, is_among, place_of, is_unavailable, teachers_named}
+use Rattle.ctt_problem.specs.Problem.{Problem, is_among, place_of, teachers_named}
 use Rattle.ctt_problem.proofs.ListLaws.{once_each, bytes_sound, same_bytes, each_among, place_new}
 use Rattle.ctt_problem.proofs.MarkLaws.{Row, row_of}
 use Rattle.ctt_problem.proofs.TableLemmas.{bool_case}
@@ -128,7 +128,7 @@ any_weaker p q (x ∷ xs) weaker h = bool_case _ (p x)
 
 -- no more pairs of a course and a slot are marked than are listed
 pub pairs_few : (i : Problem) (names : List (List ℕ)) (pairs : List PairWords) → length i.unavailable ≡ length i.courses * (i.days * i.periods)
-    → ((c s : ℕ) → c < length i.courses → s < i.days * i.periods → is_unavailable i c s ≡ list_any (is_listed names i.periods c s) pairs) → marked i.unavailable ≤ length pairs
+    → ((c s : ℕ) → c < length i.courses → s < i.days * i.periods → get_or i.unavailable (c * (i.days * i.periods) + s) false ≡ list_any (is_listed names i.periods c s) pairs) → marked i.unavailable ≤ length pairs
 pairs_few i names pairs all listed = marks_few place pairs i.unavailable (λ k h. found k h (row_of (length i.courses) (i.days * i.periods) k (within k h)))
   where
     place : PairWords → ℕ
@@ -143,4 +143,4 @@ pairs_few i names pairs all listed = marks_few place pairs i.unavailable (λ k h
     found k h at = any_weaker (is_listed names i.periods at.row at.column) (λ p. place p == k) pairs
         (λ p is. let parts = and_parts (place_of names p.course == at.row) (value p.day * i.periods + value p.period == at.column) is in
         eq-eqb (place p) k (rw (eqb-true (place_of names p.course) at.row parts.0, eqb-true (value p.day * i.periods + value p.period) at.column parts.1) at.place))
-        (sym (listed at.row at.column at.row_below at.column_below) ∙ rw (lt-ltb at.column (i.days * i.periods) at.column_below) (ap (λ m. get_or i.unavailable m false) at.place ∙ h))
+        (sym (listed at.row at.column at.row_below at.column_below) ∙ ap (λ m. get_or i.unavailable m false) at.place ∙ h)

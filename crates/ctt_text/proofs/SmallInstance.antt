@@ -29,7 +29,9 @@ small_instance = record {
   days = 2;
   periods = 3;
   unavailable = false ∷ false ∷ false ∷ false ∷ false ∷ false ∷ true ∷ false ∷ false ∷ false ∷ false ∷ false ∷ false ∷ false ∷ false ∷ false ∷ false ∷ false ∷ [];
+  closed = false ∷ false ∷ false ∷ false ∷ false ∷ false ∷ false ∷ false ∷ false ∷ false ∷ false ∷ false ∷ false ∷ false ∷ false ∷ false ∷ false ∷ false ∷ [];
   barred = false ∷ false ∷ false ∷ false ∷ false ∷ false ∷ [];
+  blocked = false ∷ false ∷ false ∷ false ∷ false ∷ false ∷ false ∷ false ∷ false ∷ false ∷ false ∷ false ∷ [];
 }
 
 -- the instance with these words in its header, and this count of members
@@ -114,7 +116,7 @@ otherwise_written = refl
 
 -- nothing at all
 all_zero : answer (words (codes "Name: none Courses: 0 Rooms: 0 Days: 0 Periods_per_day: 0 Curricula: 0 Constraints: 0 COURSES: ROOMS: CURRICULA: UNAVAILABILITY_CONSTRAINTS: END."))
-    ≡ Ok (record { name = codes "none"; course_names = []; courses = []; teacher_names = []; room_names = []; capacities = []; curriculum_names = []; curricula = []; days = 0; periods = 0; unavailable = []; barred = [] })
+    ≡ Ok (record { name = codes "none"; course_names = []; courses = []; teacher_names = []; room_names = []; capacities = []; curriculum_names = []; curricula = []; days = 0; periods = 0; unavailable = []; closed = []; barred = []; blocked = [] })
 unfolding read ◌>>=◌ times words is_blank one known any fixed number number_if new_name known_name number_up_to period_count two_counts calendar day_below period_below header course room member curriculum unavailability instance
 all_zero = refl
 

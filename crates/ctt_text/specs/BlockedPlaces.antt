@@ -55,7 +55,7 @@ pub record IsClosing (i : Problem) (e : Closing) : Type 0 where
 -- the number is the one chosen, or all are
 abbrev pub is_chosen : Option ℕ → ℕ → Bool
 is_chosen None n = true
-is_chosen (Some m) n = m == n
+is_chosen (Some m) n = n == m
 
 -- the slot is on the day and in the period of the entry
 abbrev pub covers_slot : Problem → Closing → ℕ → Bool

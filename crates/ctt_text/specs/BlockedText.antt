@@ -47,7 +47,7 @@ pub record IsBlockedEntry (i : Problem) (w : BlockedWords) : Type 0 where
 
 -- the word is `*`, or this number
 abbrev pub says : List ℕ → ℕ → Bool
-says word n = is_all word || value word == n
+says word n = is_all word || n == value word
 
 -- the entry is about the day and the period of the slot
 abbrev pub covers : Problem → ℕ → BlockedWords → Bool
@@ -55,11 +55,11 @@ covers i s w = says w.day (day_of i s) && says w.period (period_of i s)
 
 -- the entry is about the slot, and about the course or its teacher
 abbrev pub closes : Problem → ℕ → ℕ → BlockedWords → Bool
-closes i c s w = ((is_kind (codes "course") w && place_of i.course_names w.name == c) || (is_kind (codes "teacher") w && place_of i.teacher_names w.name == (course_of i c).teacher)) && covers i s w
+closes i c s w = ((is_kind (codes "course") w && c == place_of i.course_names w.name) || (is_kind (codes "teacher") w && (course_of i c).teacher == place_of i.teacher_names w.name)) && covers i s w
 
 -- the entry is about the slot, and about the room
 abbrev pub blocks : Problem → ℕ → ℕ → BlockedWords → Bool
-blocks i r s w = (is_kind (codes "room") w && place_of i.room_names w.name == r) && covers i s w
+blocks i r s w = (is_kind (codes "room") w && r == place_of i.room_names w.name) && covers i s w
 
 -- The words begin with as many entries as they state, of known rooms, teachers and courses, and
 -- exactly what some entry is about is marked; words after the final END. are ignored.

@@ -1,5 +1,5 @@
 -- The kinds of places in a text: the rule of one word, and the value that the word gives.
-use Rattle.std.specs.Prelude.{ℕ, List, Bool, Option, Some, None, nat_le, if◌then◌else◌, codes}
+use Rattle.std.specs.Prelude.{ℕ, List, Bool, true, false, Option, Some, None, nat_le, if◌then◌else◌, codes}
 use Rattle.std.specs.Str.{bytes_eq}
 use Rattle.ctt_text.specs.Numbers.{is_number, value, number_of}
 use Rattle.ctt_problem.specs.Problem.{is_among, number_in}
@@ -52,9 +52,15 @@ number_at_most bad greatest fault = number_if bad (λ n. nat_le n greatest) faul
 abbrev pub is_all : List ℕ → Bool
 is_all word = bytes_eq word (codes "*")
 
+-- the number if there is one, or None if the word stands for all
+abbrev pub or_all : Option ℕ → Bool → Option (Option ℕ)
+or_all (Some n) all = Some (Some n)
+or_all None true = Some None
+or_all None false = None
+
 -- a number, or None for `*`
 abbrev pub number_or_all : List ℕ → Option (Option ℕ)
-number_or_all word = if is_number word then Some (Some (value word)) else (if is_all word then Some None else None)
+number_or_all word = or_all (number_of word) (is_all word)
 
 -- the rule of a number that passes the test, or `*`
 abbrev pub passing_choice : {F : Type 0} → (ℕ → F) → (ℕ → Bool) → (ℕ → F) → Rule F

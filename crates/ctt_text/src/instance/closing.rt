@@ -1,7 +1,7 @@
 //! What an entry of closures closes.
 
-ghost use Rattle.std.specs.Prelude.{◌≡◌, ◌<◌, ◌==◌, ◌&&◌, ◌||◌, ℕ, nat_lt, IfSome};
-ghost use Rattle.ctt_problem.specs.Problem.{course_of, course_count, teacher_count, slot_count, day_of, period_of};
+ghost use Rattle.std.specs.Prelude.{◌≡◌, ◌<◌, ◌≤◌, ◌==◌, ◌&&◌, ◌||◌, ℕ, nat_lt, false, IfSome};
+ghost use Rattle.ctt_problem.specs.Problem.{course_of, course_count, room_count, teacher_count, slot_count, day_of, period_of};
 ghost use Rattle.ctt_problem.specs.Marks.{is_marked};
 ghost use Rattle.ctt_problem.specs.BitRows.{AddsMarks, HasSize};
 ghost use Rattle.ctt_text.specs.BlockedPlaces.{IsClosing, AreTablesOf, is_chosen, covers_slot, is_of_course, is_of_room};
@@ -115,7 +115,8 @@ fn close_teacher(instance: &Instance, closed: &mut BitRows, teacher: TeacherNo, 
     requires size { HasSize closed.old (course_count instance.now) (slot_count instance.now) }
     requires within { (n : ℕ) → slot_count instance.now ≤ n → is_marked slots.now n ≡ false }
     ensures { AddsMarks closed.old closed.new (λ c s.
-        (course_of instance.now c).teacher == teacher && is_marked slots.now s) }
+        (nat_lt c (course_count instance.now) && (course_of instance.now c).teacher == teacher)
+        && is_marked slots.now s) }
 {
     for course in instance.taught_by(teacher) {
         closed.mark_all(course.get() as usize, slots);
@@ -128,10 +129,12 @@ impl Tables {
         requires closing { IsClosing instance.now closing.now }
         requires size { AreTablesOf instance.now self.old }
         ensures closed { AddsMarks self.old.closed self.new.closed (λ c s.
-            is_of_course instance.now closing.now.kind closing.now.number c
+            (nat_lt c (course_count instance.now)
+            && is_of_course instance.now closing.now.kind closing.now.number c)
             && (nat_lt s (slot_count instance.now) && covers_slot instance.now closing.now s)) }
         ensures blocked { AddsMarks self.old.blocked self.new.blocked (λ r s.
-            is_of_room closing.now.kind closing.now.number r
+            (nat_lt r (room_count instance.now)
+            && is_of_room closing.now.kind closing.now.number r)
             && (nat_lt s (slot_count instance.now) && covers_slot instance.now closing.now s)) }
     {
         let slots = covered(instance, closing);
