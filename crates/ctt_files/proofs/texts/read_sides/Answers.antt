@@ -15,8 +15,11 @@ returns-clause-sides g c =
 
 pub returns-clause-cause : goal.returns-clause-cause
 returns-clause-cause g c =
-    IfErr-weaker c.block_slots.result _ _ (λ fault is. inr (c.bar_rooms.new.instance, c.in_ok-bar_rooms.ensures.barred,
-    subst (λ held. IsOfBlocked held c.bar_rooms.new.instance c.args.sides.blocked fault) c.in_ok-bar_rooms.ensures.kept is)) c.block_slots.ensures.cause
+    IfErr-weaker c.block_slots.result _ _ (λ fault is. inr (
+      c.bar_rooms.new.instance,
+      c.in_ok-bar_rooms.ensures.barred,
+      subst (λ held. IsOfBlocked held c.bar_rooms.new.instance c.args.sides.blocked fault) c.in_ok-bar_rooms.ensures.kept is,
+    )) c.block_slots.ensures.cause
 
 pub returns-in_err-bar_rooms-clause-cause : goal.returns-in_err-bar_rooms-clause-cause
 returns-in_err-bar_rooms-clause-cause g c =
