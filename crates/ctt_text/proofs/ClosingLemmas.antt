@@ -19,7 +19,7 @@ use Rattle.ctt_problem.proofs.TogetherLemmas.{has_below}
 use Rattle.ctt_text.specs.BlockedPlaces.{is_of_course, is_of_room, covers_slot, with_marks, with_closing, AreTablesOf, closures_in}
 
 -- a slot is that of a day and a period exactly if it is in range, on the day and in the period
-pub is_slot : (i : Problem) (day period n : ℕ) → day < i.days → period < i.periods → (n == slot_of i day period) ≡ (nat_lt n (slot_count i) && (day_of i n == day && period_of i n == period))
+is_slot : (i : Problem) (day period n : ℕ) → day < i.days → period < i.periods → (n == slot_of i day period) ≡ (nat_lt n (slot_count i) && (day_of i n == day && period_of i n == period))
 is_slot i day period n d p = bool_case _ (n == slot_of i day period)
     (λ is.
     let e : n ≡ day * i.periods + period = eqb-true n (slot_of i day period) is in
@@ -78,29 +78,9 @@ period_more i day k n was before now d p h e =
     by false true false a b = refl
     by false false d a b = refl
 
--- no marks are added
-pub adds_none : (g : BitTable) (rows : ℕ) (column : ℕ → Bool) → AddsMarks g g (λ r n. (nat_lt r rows && false) && column n)
-adds_none g rows column = record { size = (refl, refl); marks = λ r n. by (is_marked_in g r n) (nat_lt r rows) }
-  where
-    by : (b l : Bool) → b ≡ (b || ((l && false) && false))
-    by true l = refl
-    by false true = refl
-    by false false = refl
-
 -- the same marks, told by another test
-pub adds_same : (old new : BitTable) (test other : ℕ → ℕ → Bool) → AddsMarks old new test → ((r n : ℕ) → test r n ≡ other r n) → AddsMarks old new other
+adds_same : (old new : BitTable) (test other : ℕ → ℕ → Bool) → AddsMarks old new test → ((r n : ℕ) → test r n ≡ other r n) → AddsMarks old new other
 adds_same old new test other h same = record { size = h.size; marks = λ r n. h.marks r n ∙ ap (λ b. is_marked_in old r n || b) (same r n) }
-
--- marks in one row
-pub adds_row : (old new : BitTable) (rows number : ℕ) (marks column : ℕ → Bool) → number < rows → ((n : ℕ) → marks n ≡ column n) → AddsMarks old new (λ r n. r == number && marks n) → AddsMarks old new (λ r n. (nat_lt r rows && r == number) && column n)
-adds_row old new rows number marks column lt same h = adds_same old new _ _ h (λ r n. ap₂ (λ a b. a && b) (in_range r) (same n))
-  where
-    in_range : (r : ℕ) → (r == number) ≡ (nat_lt r rows && r == number)
-    in_range r = bool_case _ (r == number) (λ is. let below : r < rows = omega (arith, eqb-true r number is, lt) in rw (is, lt-ltb r rows below) refl) (λ isnt. rw isnt (none (nat_lt r rows)))
-      where
-        none : (b : Bool) → false ≡ (b && false)
-        none true = refl
-        none false = refl
 
 -- marks in the rows of a teacher's courses
 pub adds_taught : (i : Problem) (old new : BitTable) (teacher k : ℕ) (marks : ℕ → Bool) → length (courses_taught_by i teacher) ≤ k
