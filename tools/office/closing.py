@@ -8,6 +8,7 @@ import shutil
 import signal
 import time
 
+from office import processes
 from office.at_work import end_work
 from office.costs import costs_in_words
 from office.folder import Day, write_whole
@@ -45,7 +46,8 @@ def end_office(day: Day, seconds: float) -> None:
     for number in numbers[:1]:
         send(number, signal.SIGTERM)
     print(f"office: the office closes; who sits has {round(seconds)} seconds", flush=True)
-    while day.is_open() and time.time() < until + SLACK:
+    slack = SLACK if numbers and processes.is_alive(numbers[0]) else 0.0
+    while day.is_open() and time.time() < until + slack:
         time.sleep(0.05)
     if day.is_open():
         # the office is gone: the desk holds its lock

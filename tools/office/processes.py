@@ -111,6 +111,17 @@ def run(
     return child.returncode
 
 
+def is_alive(number: int) -> bool:
+    """Whether a process is there."""
+    try:
+        os.kill(number, 0)
+    except ProcessLookupError:
+        return False
+    except PermissionError:
+        pass
+    return True
+
+
 def how_ended(status: int) -> str:
     """The end of a child in words."""
     if status >= 0:

@@ -28,21 +28,10 @@ from office.saying import say
 ORPHAN = 10.0
 
 
-def is_alive(number: int) -> bool:
-    """Whether a process is there."""
-    try:
-        os.kill(number, 0)
-    except ProcessLookupError:
-        return False
-    except PermissionError:
-        pass
-    return True
-
-
 def end_orphan(day: Day) -> None:
     """Ends the desk that a killed office has left."""
     numbers = day.numbers()
-    if not day.is_open() or not numbers or is_alive(numbers[0]):
+    if not day.is_open() or not numbers or processes.is_alive(numbers[0]):
         return
     for number in numbers[1:]:
         send(number, signal.SIGTERM)
