@@ -21,10 +21,10 @@ from office.words import encoded, words_of  # noqa: E402
 FAULT = os.environ.get("FAULT")
 PROGRAM = os.environ.get("PROGRAM", os.path.join(HERE, "crates/ctt_tool/out/ctt_tool"))
 class FakeDesk:
-    def __init__(self, instance, start, planners, minutes):
+    def __init__(self, instance, start, planners, minutes, blocked=()):
         self.instance, self.minutes = instance, minutes
         self.costs = Costs(instance)
-        self.newest = FakeWeek(instance, start)
+        self.newest = FakeWeek(instance, start, blocked)
         self.count = 0
         self.is_full = False
         self.lines = 0
@@ -285,11 +285,21 @@ def options(words):
     return files, found
 
 
+def read_entries(path):
+    """The entries of a side file of closures; none without one."""
+    if path is None:
+        return []
+    with open(path) as file:
+        words = file.read().split()
+    return [words[at : at + 4] for at in range(2, 2 + 4 * int(words[1]), 4)]
+
+
 def keep(words):
     files, found = options(words)
     instance = read_instance(files[0], found.get("--barred"))
     start = read_solution(found["--start"]) if "--start" in found else []
-    desk = FakeDesk(instance, start, len(files) - 1, found.get("--minutes", os.devnull))
+    blocked, minutes = read_entries(found.get("--blocked")), found.get("--minutes", os.devnull)
+    desk = FakeDesk(instance, start, len(files) - 1, minutes, blocked)
     # the office holds the other ends, so that none of these waits
     seats = {}
     for planner, seat in enumerate(files[1:]):
@@ -317,7 +327,8 @@ def mend(words):
     """Prints those lectures of a solution that can be placed one after another, and names the
     others."""
     files, found = options(words)
-    timetable = FakeWeek(read_instance(files[0], found.get("--barred")))
+    instance = read_instance(files[0], found.get("--barred"))
+    timetable = FakeWeek(instance, (), read_entries(found.get("--blocked")))
     for course, room, day, period in read_solution(files[1]):
         fault = timetable.placing_fault(course, (day, period), room)
         if fault is None:

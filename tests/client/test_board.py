@@ -7,16 +7,19 @@ import threading
 import unittest.mock
 
 from support import COMP07, COMP07_SOL, HERE, PROGRAM, SMALL, SMALL_SOL, OfficeTest, said
+from support import wait_until
 
 sys.path.append(os.path.join(HERE, "tests"))
 from drawn import draw_instance, draw_solution  # noqa: E402
 from rules import Instance as Plain  # noqa: E402
 
 from office.board import Board  # noqa: E402
+from office.closures import blocked_text, closures_end, standing_of  # noqa: E402
 from office.edits import is_edit, read_prices  # noqa: E402
 from office.week import View  # noqa: E402
 from office.instance import read_instance, read_solution  # noqa: E402
-from office.minutes import read_minutes  # noqa: E402
+from office.folder import Day  # noqa: E402
+from office.parts import read_entries  # noqa: E402
 from office.overlays import CommitBox  # noqa: E402
 from office.text import cut, fit, shown, width, wrap  # noqa: E402
 from office.timetable import Timetable  # noqa: E402
@@ -127,20 +130,24 @@ class Drawn(OfficeTest):
         instance, options = self.draw(draw)
         self.open("day", instance, "2", *options)
         boards = [Board(self.planning("day", planner)) for planner in (0, 1)]
+        self.closures = 0
         for board in boards:
             board.begin()
             self.watch_commits(board)
+        keys = KEYS + ["B"] * (seed % 2)
         for _ in range(STEPS):
             board = draw.choice(boards)
+            self.go_on(boards)
             if draw.random() < 0.05:
                 board.tick()
             else:
-                board.press(draw.choice(KEYS))
+                board.press(draw.choice(keys))
             board.work.is_done = False
             self.check_rows(board, draw)
             self.assertEqual(said(board.planning.alarm), "")
         # no look of the screen is a call
-        calls = [call for entry in read_minutes(self.path("day/minutes")) for call in entry.calls]
+        self.go_on(boards)
+        calls = [call for entry in read_entries(Day(self.path("day"))) for call in entry.calls]
         self.assertEqual([call for call, _ in calls if not is_edit(call)], [])
         for board in boards:
             board.tick()
@@ -150,6 +157,26 @@ class Drawn(OfficeTest):
             board.planning.seat.go()
         found = "".join(lecture.words() + "\n" for lecture in newest.lectures())
         self.assertEqual(found, self.listed("day"))
+
+    def go_on(self, boards):
+        """Goes on in the next part of the day, if the rules have been changed at a screen."""
+        day, seats = boards[0].planning.seat.day, [board.planning.seat for board in boards]
+        if closures_end(day) == self.closures:
+            return
+        self.closures = closures_end(day)
+        instance = boards[0].planning.instance
+        wanted = blocked_text(standing_of(day, instance))
+        if wanted == blocked_text(instance.closures):
+            return
+        self.assertTrue(wait_until(lambda: all(seat.is_over() for seat in seats)))
+        threads = [threading.Thread(target=board.step_over) for board in boards]
+        for thread in threads:
+            thread.start()
+        for thread in threads:
+            thread.join()
+        for board in boards:
+            self.assertEqual(blocked_text(board.planning.instance.closures), wanted)
+            self.assertEqual(board.planning.seat.story.again, [])
 
     def test_days(self):
         for seed in range(DAYS):

@@ -59,7 +59,7 @@ class Beside(OfficeTest):
         drawn = Drawn(self, seed)
         start = read_solution(drawn.start) if drawn.start else []
         seats = Seats(self, drawn)
-        fake = FakeDesk(drawn.instance, start, PLANNERS, os.devnull)
+        fake = FakeDesk(drawn.instance, start, PLANNERS, os.devnull, drawn.blocked)
         knowns = [Known(drawn.instance, start) for _ in range(PLANNERS)]
         for _ in range(80):
             planner = drawn.draw.randrange(PLANNERS)

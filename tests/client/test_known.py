@@ -10,10 +10,12 @@ sys.path.append(os.path.join(HERE, "tests"))
 from drawn import draw_instance, draw_solution  # noqa: E402
 from rules import Instance as Plain  # noqa: E402
 
+from office.closures import blocked_now, blocked_text  # noqa: E402
 from office.edits import Redone, Story, courses_of, is_edit, read_prices  # noqa: E402
 from office.instance import read_instance, read_solution  # noqa: E402
 from office.known import Known  # noqa: E402
 from office.minutes import Minutes  # noqa: E402
+from office.scope import Scope  # noqa: E402
 from office.timetable import Timetable  # noqa: E402
 
 DRAWS = int(os.environ.get("DRAWS", "200"))
@@ -34,6 +36,8 @@ class Drawn:
         self.barred = self.write(test, "drawn.barred", barred) if barred is not None else None
         start = self.write(test, "drawn.sol", draw_solution(self.draw, plain))
         self.options = ["--barred", self.barred] if barred is not None else []
+        self.instance = read_instance(self.words[0], self.barred)
+        self.blocked = self.block(test)
         run = subprocess.run(
             [PROGRAM, "run", *self.words, os.devnull, "--start", start, *self.options],
             capture_output=True,
@@ -41,7 +45,27 @@ class Drawn:
         self.start = start if run.returncode == 0 else None
         if self.start:
             self.options += ["--start", start]
-        self.instance = read_instance(self.words[0], self.barred)
+
+    def block(self, test):
+        """Blocks something in every second instance; answers the entries of the side file."""
+        if self.draw.random() < 0.5:
+            return []
+        instance = self.instance
+        named = [("room", name) for name in instance.rooms]
+        named += [("teacher", name) for name in instance.teachers]
+        named += [("course", name) for name in instance.courses]
+        scopes = [
+            Scope(
+                *self.draw.choice(named),
+                self.draw.choice([None, *range(instance.days)]),
+                self.draw.choice([None, *range(instance.periods)]),
+            )
+            for _ in range(self.draw.randrange(5))
+        ]
+        closures = [blocked_now(scope, "", None, "") for scope in scopes]
+        instance.block(closures)
+        self.options += ["--blocked", self.write(test, "drawn.blocked", blocked_text(closures))]
+        return [scope.words().split(" ") for scope in scopes]
 
     @staticmethod
     def write(test, name, text):

@@ -74,3 +74,8 @@ class Minutes:
             at = behind
         self.entries += new
         return new
+
+
+def read_minutes(path: str) -> list[Entry]:
+    """The whole entries of minutes."""
+    return Minutes(path).read_on()

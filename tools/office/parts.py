@@ -188,6 +188,19 @@ class DayMinutes:
         self.entries += new
         return new
 
+    def has_more(self) -> bool:
+        """Whether there is more to be read of the day: a draft, or another part."""
+        return self.has_grown() or not self.part.is_last()
+
+    def read_to_end(self) -> None:
+        """Reads all that is there by now, part by part."""
+        is_last = self.part.is_last()
+        self.read_on()
+        while not is_last:
+            self.step()
+            is_last = self.part.is_last()
+            self.read_on()
+
     def step(self) -> None:
         """Goes on to the next part, which is there. The minutes of this one grow no more, and were
         read to their end since then."""

@@ -15,7 +15,7 @@ from office.at import read_at
 from office.changes import by_view, changes_between
 from office.folder import Day, lock
 from office.label_files import read_labels
-from office.minutes import Minutes
+from office.parts import DayMinutes
 from office.refused import Refused
 from office.shifts import Shift
 from office.site import Published, Site
@@ -179,13 +179,13 @@ def publish(day: Day, path: str, follows: bool, is_json: bool) -> int:
     """Publishes a day; with `follows` again after each accepted draft, until the day is closed."""
     day.facts()
     folder = Folder(path)
-    minutes = Minutes(day.minutes)
+    minutes = DayMinutes(day)
     while True:
         is_open = follows and day.is_open()
-        minutes.read_on()
+        minutes.read_to_end()
         publish_once(day, folder, is_json)
         if not is_open:
             return 0
         time.sleep(PACE)
-        while day.is_open() and not minutes.has_grown():
+        while day.is_open() and not minutes.has_more():
             time.sleep(PACE)
