@@ -15,7 +15,7 @@ from office.parts import half_made, last_part, parts_of, read_entries
 from office.seatlog import read_past
 
 KILLED = os.path.join(HERE, "tests/client/killed_office.py")
-EACH = int(os.environ.get("EACH", "8"))
+EACH = int(os.environ.get("EACH", "9"))
 
 
 class Killed(Parts):
@@ -113,8 +113,7 @@ class Killed(Parts):
         told = standing(read_closures(self.day))
         self.assertEqual(standing(read_closures(after)), told)
         self.assertEqual(self.rules(after), blocked_text(told))
-        self.day = after
-        anna = self.sit_at(0, "anna")
+        anna = self.sit_at(0, "anna", "next")
         self.assertEqual(anna.overlay.title, "2 edits of day not accepted: make them again?")
         self.press(anna, "y")
         self.assertEqual(anna.planning.edits(), [MOVE])

@@ -134,14 +134,15 @@ class Drawn(OfficeTest):
         for board in boards:
             board.begin()
             self.watch_commits(board)
-        keys = KEYS + ["B"] * (seed % 2)
         for _ in range(STEPS):
             board = draw.choice(boards)
             self.go_on(boards)
             if draw.random() < 0.05:
                 board.tick()
+            elif draw.random() < 0.01 and seed % 2:
+                self.block(board, draw)
             else:
-                board.press(draw.choice(keys))
+                board.press(draw.choice(KEYS))
             board.work.is_done = False
             self.check_rows(board, draw)
             self.assertEqual(said(board.planning.alarm), "")
@@ -157,6 +158,13 @@ class Drawn(OfficeTest):
             board.planning.seat.go()
         found = "".join(lecture.words() + "\n" for lecture in newest.lectures())
         self.assertEqual(found, self.listed("day"))
+
+    @staticmethod
+    def block(board, draw):
+        """Blocks or lifts something by the keys, if the screen is at a week."""
+        downs = ["down"] * draw.randrange(9)
+        for key in ["escape", "B", *downs, "enter", *draw.choice(["", "x"]), "enter"]:
+            board.press(key)
 
     def go_on(self, boards):
         """Goes on in the next part of the day, if the rules have been changed at a screen."""

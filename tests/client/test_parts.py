@@ -30,8 +30,8 @@ class Parts(OfficeTest):
         self.anna = self.sit_at(0, "anna")
         self.ben = self.sit_at(1, "ben")
 
-    def sit_at(self, planner, name):
-        board = Board(self.planning("day", planner, name))
+    def sit_at(self, planner, name, day="day"):
+        board = Board(self.planning(day, planner, name))
         board.begin()
         text_of(board)
         return board

@@ -10,11 +10,19 @@ from io import StringIO
 from support import HERE, PROGRAM
 from test_import import Tables
 
+from office.closures import (
+    blocked_now,
+    blocked_text,
+    closures_path,
+    closures_text,
+    read_closures,
+)
 from office.exporting import export_day
 from office.folder import Day
 from office.importing import import_folder
 from office.instance import read_instance, read_solution
 from office.label_files import read_labels
+from office.scope import Scope
 
 sys.path.insert(0, os.path.join(HERE, "tests"))
 from drawn import PIECES, draw_instance, draw_solution  # noqa: E402
@@ -66,12 +74,41 @@ class ThereAndBack(Tables):
             labels = draw_labels(draw, read_instance_of(text, self.path("x")))
             for file, table in zip(("labels.csv", "times.csv"), labels):
                 files[day.file(file)] = table.encode()
+        closures = self.draw_closures(draw, read_instance_of(text, self.path("x")), start)
+        held = closures_text(closures)
+        files[closures_path(day)] = held
+        if closures:
+            files[day.file("blocked")] = blocked_text(closures)
         facts = {"planners": 1, "program": [PROGRAM], "after": None, "opened": "2026-10-12T08:00"}
+        facts["closures"] = len(held)
         files[day.facts_file] = json.dumps(facts).encode()
         for path, written in files.items():
             with open(path, "wb") as file:
                 file.write(written)
         return day
+
+    @staticmethod
+    def draw_closures(draw, instance, start):
+        """Closures in which no lecture of a start stands."""
+        words = [word.decode() for word in start.split()]
+        stands = list(zip(words[::4], words[1::4], map(int, words[2::4]), map(int, words[3::4])))
+        named = [("course", name) for name in instance.courses]
+        named += [("teacher", name) for name in instance.teachers]
+        named += [("room", name) for name in instance.rooms]
+        if draw.random() < 0.4 or not named or not instance.slots():
+            return []
+        scopes = []
+        for _ in range(draw.randrange(1, 4)):
+            day = draw.choice([None, *range(instance.days)])
+            period = draw.choice([None, *range(instance.periods)])
+            scope = Scope(*draw.choice(named), day, period)
+            if not any(
+                scope.has_slot((d, p)) and scope.is_about(instance, course, room)
+                for course, room, d, p in stands
+            ):
+                scopes.append(scope)
+        whys = ["", "heating", 'the "x", again']
+        return [blocked_now(scope, "ben", None, draw.choice(whys)) for scope in scopes]
 
     def test_drawn_instances(self):
         draw = random.Random(76)
@@ -85,11 +122,15 @@ class ThereAndBack(Tables):
                 import_folder(tables, plan, False)
                 barred = day.barred if day.barred_words() else None
                 wanted = read_instance(day.instance, barred)
+                wanted.block(read_closures(day))
                 new = os.path.join(plan, "barred")
                 found = read_instance(
                     os.path.join(plan, "instance.ctt"), new if os.path.exists(new) else None
                 )
                 self.assertEqual(found, wanted)
+                found.block(read_closures(Day(plan)))
+                self.assertEqual(found.closed, wanted.closed)
+                self.assertEqual(found.blocked, wanted.blocked)
                 for part in ("courses", "rooms", "curricula", "teachers"):
                     self.assertEqual(list(getattr(found, part)), list(getattr(wanted, part)))
                 self.assertEqual(os.path.exists(new), barred is not None)

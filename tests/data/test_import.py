@@ -7,9 +7,12 @@ from io import StringIO
 
 from support import HERE, PROGRAM, OfficeTest
 
+from office.closures import read_closures
+from office.folder import Day
 from office.importing import import_folder
 from office.instance import read_instance, read_solution
 from office.label_files import read_labels
+from office.scope import Scope
 from office.refused import Refused
 
 SHEETS = os.path.join(HERE, "tests/data/sheets")
@@ -155,6 +158,63 @@ class Dialects(Tables):
         self.assertIn("office: 2 lectures set aside", said[2])
         self.assertIn("open, seats 0 to 0", said[3])
         self.assertEqual(read_labels(self.path("next")).room("Hall-3"), "Hall 3 (Hall-3)")
+
+
+class Closures(Tables):
+    def test_what_is_blocked(self):
+        """Closures of a table are those of a day, with their reasons."""
+        self.tables()
+        with open(self.path("college/blocked.csv"), "w") as file:
+            file.write("Kind,Room,Teacher,Course,Day,Period,Reason\n")
+            file.write('room,Cellar,,,Tue,,"heating, mould"\nteacher,,"Müller, Karl",,1,3,\n')
+        self.imported()
+        self.assertNotIn("blocked", os.listdir(self.path("plan")))
+        office = self.open("day", self.path("plan"), "1")
+        day = Day(self.path("day"))
+        told = read_closures(day)
+        scopes = [Scope("room", "Cellar", 1), Scope("teacher", "Müller-Karl", 0, 2)]
+        self.assertEqual([one.scope for one in told], scopes)
+        self.assertEqual([one.why for one in told], ["heating, mould", ""])
+        printed = self.office("blocks", day.path)[1]
+        self.assertIn("Cellar is blocked on Tue: heating, mould (", printed)
+        self.assertIn("Müller, Karl (Müller-Karl) is blocked on Mon 14:15 (", printed)
+        lines = "show price place Topology-advanced Cellar 1 0\n"
+        self.assertEqual(self.sit("day", 0, lines), ["refused blocked"])
+        # what is said by a command goes into the tables, too
+        self.office("block", day.path, "course", "Analysis", "*", "8:15")
+        tables = self.path("tables")
+        self.assertEqual(self.office("export", day.path, "-o", tables)[0], 0)
+        with open(os.path.join(tables, "blocked.csv"), encoding="utf-8-sig") as file:
+            self.assertEqual(
+                file.read().splitlines(),
+                [
+                    "kind,room,teacher,course,day,period,why",
+                    'room,Cellar,,,Tue,,"heating, mould"',
+                    'teacher,,"Müller, Karl",,Mon,14:15,',
+                    "course,,,Analysis,Mon,8:15,",
+                    "course,,,Analysis,Tue,8:15,",
+                ],
+            )
+        self.office("close", day.path, "--wait", "0")
+        self.assertEqual(office.wait(60), 0)
+
+    def test_a_plan_for_the_next_day(self):
+        """What was blocked by a command holds beside what a new plan has."""
+        self.tables()
+        self.imported()
+        office = self.open("day", self.path("plan"), "1")
+        self.office("block", self.path("day"), "room", "Hall 2", "tue")
+        self.office("close", self.path("day"), "--wait", "0")
+        office.wait(60)
+        with open(self.path("college/blocked.csv"), "w") as file:
+            file.write("Kind,Room,Teacher,Course,Day,Period\nroom,Cellar,,,Tue,\n")
+        self.imported(to="changed")
+        words = "--after", self.path("day"), "--instance", self.path("changed")
+        process = self.start("open", self.path("next"), *words)
+        while "open, seats" not in process.stderr.readline():
+            pass
+        scopes = [one.scope for one in read_closures(Day(self.path("next")))]
+        self.assertEqual(scopes, [Scope("room", "Hall-2", 1), Scope("room", "Cellar", 1)])
 
 
 class Codes(Tables):

@@ -176,20 +176,32 @@ class Wrong(Tables):
         # rooms that nobody could read are not said to be missing
         self.assertEqual(rest, [])
 
-    def test_closures_are_not_taken_silently(self):
+    def test_closures(self):
         self.tables()
         with open(self.path("college/blocked.csv"), "w") as file:
-            file.write("kind,room,teacher,course,day,period\nroom,Hall 2,,,Mon,\n")
-            file.write("room,Hall 3,,,Mon,\nhouse,,,,1,\n")
-        found = self.faults()
-        self.assertIn("blocked.csv: this program cannot hold closures yet", found[0])
+            file.write("kind,room,teacher,course,day,period\nroom,Cellar,,,Mon,\n")
+            file.write("room,Hall 3,,,Mon,\nhouse,,,,1,\nroom,Cellar,,,Wed,1\n")
+            file.write("room,Cellar,,,1,9:99\n")
         self.assertEqual(
-            found[1:],
+            self.faults(),
             [
                 "blocked.csv row 3: there is no room Hall 3",
                 "blocked.csv row 4: the kind is not room, teacher or course: house",
+                "blocked.csv row 5: the day is not 1 to 2, nor a weekday of times.csv: Wed",
+                "blocked.csv row 6: the period is not 1 to 3, nor when one begins by times.csv: "
+                "9:99",
             ],
         )
+
+    def test_a_start_that_is_blocked(self):
+        self.tables()
+        with open(self.path("college/blocked.csv"), "w") as file:
+            file.write("kind,room,teacher,course,day,period\nroom,Hall 2,,,Mon,8:15\n")
+            file.write("course,,,Linear Algebra,1,10:15\n")
+        found = self.faults()
+        self.assertEqual(len(found), 2, found)
+        self.assertIn("Linear-Algebra is unavailable at Mon 10:15", "\n".join(found))
+        self.assertIn("the room Hall-2 is blocked at Mon 8:15", "\n".join(found))
 
     def test_nothing_is_written_over(self):
         self.tables()

@@ -13,7 +13,7 @@ from typing import Dict, Iterable, List, Optional
 
 from office.folder import Day, file_size, read_text
 from office.instance import Instance, Reader
-from office.lines import add_line, fields_of
+from office.lines import add_line, fields_of, one_line
 from office.processes import now
 from office.scope import KINDS, Closure, Scope, starred, unstarred
 from office.words import decoded, encoded
@@ -70,6 +70,12 @@ def blocked_now(scope: Scope, who: str, seat: Optional[int], why: str) -> Closur
 
 def lifted_now(scope: Scope, who: str, seat: Optional[int], why: str) -> Closure:
     return Closure(scope, who, seat, now(), why, True)
+
+
+def closures_text(closures: Iterable[Closure]) -> bytes:
+    """Closures as the lines of a file."""
+    lines = ("\t".join(map(one_line, line_of(closure))) + "\n" for closure in closures)
+    return encoded("".join(lines))
 
 
 def read_closures(day: Day, first: int = 0, last: Optional[int] = None) -> List[Closure]:

@@ -11,6 +11,7 @@ from office.label_files import LABELS_COLUMNS, TIMES_COLUMNS, read_labels
 from office.labels import KINDS, PLAN, Labels, clock
 from office.new_folder import new_folder, write_files
 from office.plan_tables import COLUMNS
+from office.scope import KINDS as CLOSED
 from office.tables import read_bytes, write_table
 from office.timetable import Slot
 
@@ -75,6 +76,15 @@ class Export:
         for course, room in sorted(self.instance.barred):
             yield self.named("course", course), self.named("room", room)
 
+    def closures(self) -> Rows:
+        """What is blocked, a row for each day."""
+        for closure in self.instance.closures:
+            kind, code, day, period = closure.scope
+            names = [self.named(kind, code) if kind == column else "" for column in CLOSED]
+            for on in range(self.instance.days) if day is None else [day]:
+                when = self.slot((on, period or 0))
+                yield (kind, *names, when[0], "" if period is None else when[1], closure.why)
+
     def lectures(self, at: At) -> Rows:
         for one in at.lectures:
             where = self.named("course", one.course), self.named("room", one.room)
@@ -112,6 +122,8 @@ def files_of(at: At, labels: Labels) -> Dict[str, bytes]:
     }
     if at.day.barred_words():
         rows["barred.csv"] = export.barred()
+    if at.instance.closures:
+        rows["blocked.csv"] = export.closures()
     return {file: write_table(heads[file], list(found)) for file, found in rows.items()}
 
 

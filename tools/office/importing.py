@@ -6,8 +6,10 @@ import os
 import shlex
 from typing import Dict, List, Tuple
 
+from office.closures import blocked_text, closures_text
 from office.codes import NO_NAME
-from office.imported import BARRED, INSTANCE, START
+from office.folder import write_whole
+from office.imported import BARRED, CLOSURES, INSTANCE, START
 from office.instance import Instance
 from office.label_files import LABELS_COLUMNS
 from office.labels import KINDS, PLAN
@@ -20,10 +22,15 @@ from office.text import counted
 from office.words import encoded
 
 
+# the side file of what is blocked, as long as the program reads it
+BLOCKED = "blocked"
+
+
 def instance_text(instance: Instance) -> bytes:
     """An instance as the desk reads it."""
     courses = instance.courses.values()
-    closed = [(one.name, *slot) for one in courses for slot in sorted(instance.unavailable[one.name])]
+    away = instance.unavailable
+    closed = [(one.name, *slot) for one in courses for slot in sorted(away[one.name])]
     lines: List[Tuple[object, ...]] = [
         ("Name:", instance.name),
         ("Courses:", len(courses)),
@@ -69,6 +76,8 @@ def files_of(tables: Tables, instance: Instance) -> Dict[str, bytes]:
     }
     if tables.barred is not None:
         files[BARRED] = barred_text(instance)
+    if tables.closures is not None:
+        files[CLOSURES] = closures_text(tables.closures)
     if tables.start is not None:
         lines = (f"{lecture.words()}\n" for _, lecture in tables.start)
         files[START] = encoded("".join(lines))
@@ -79,12 +88,16 @@ def files_of(tables: Tables, instance: Instance) -> Dict[str, bytes]:
     return files
 
 
-def validate(program: List[str], folder: str, has: Dict[str, bytes]) -> None:
+def validate(program: List[str], folder: str, has: Dict[str, bytes], instance: Instance) -> None:
     """Has the program read what was written, as a desk would."""
     path = {name: os.path.join(folder, name) for name in has}
     start = ["--start", path[START]] if START in has else []
     barred = ["--barred", path[BARRED]] if BARRED in has else []
-    status, _ = output([*program, "run", path[INSTANCE], os.devnull, *start, *barred])
+    blocked = os.path.join(folder, BLOCKED)
+    write_whole(blocked, blocked_text(instance.closures))
+    sides = [*barred, "--blocked", blocked] if instance.closures else barred
+    status, _ = output([*program, "run", path[INSTANCE], os.devnull, *start, *sides])
+    os.remove(blocked)
     if status != 0:
         raise Silent(status or MACHINE)
 
@@ -117,6 +130,6 @@ def import_folder(source: str, folder: str, unproved: bool) -> int:
     program = program_words(unproved)
     with new_folder(folder) as made:
         write_files(made, files)
-        validate(program, made, files)
+        validate(program, made, files, instance)
     say_what(tables, instance, folder)
     return 0

@@ -122,6 +122,7 @@ def open_by(words: argparse.Namespace, top: argparse.ArgumentParser) -> int:
             )
         plan = plan_after(day, Day(words.after), words.seats, words.changed, words.barred)
         plan.blocked, plan.mends = words.blocked, plan.mends or words.blocked is not None
+        plan.take_closures(words.closures)
         plan.labels, plan.web = words.labels or plan.labels, web_of(day, words)
         return open_day(plan, words.unproved)
     if day.is_there() and names_day_alone(words):
@@ -137,6 +138,7 @@ def open_by(words: argparse.Namespace, top: argparse.ArgumentParser) -> int:
         top.error("open: DAY INSTANCE PLANNERS, or DAY --after DAY, or DAY alone to go on with it")
     plan = Plan(day, words.planners, words.instance, words.start, words.barred)
     plan.blocked, plan.labels, plan.web = words.blocked, words.labels, web_of(day, words)
+    plan.take_closures(words.closures)
     return open_day(plan, words.unproved)
 
 

@@ -59,6 +59,11 @@ class Plan:
         self.mends = False
         self.program = ["timedesk"]
 
+    def take_closures(self, folder: Optional[str]) -> None:
+        """Blocks beside what is blocked already what an import has, if there is one."""
+        if folder is not None:
+            self.closures = standing([*self.closures, *read_closures(Day(folder))])
+
 
 def plan_after(
     day: Day, before: Day, planners: Optional[int], instance: Optional[str], barred: Optional[str]

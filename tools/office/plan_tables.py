@@ -4,10 +4,13 @@ from __future__ import annotations
 import os
 from typing import Dict, List, Optional, Set, Tuple
 
+from office.closures import blocked_now
 from office.codes import Codes, word_of
 from office.instance import Course, Instance
 from office.label_files import SLOTS, TIMES_COLUMNS, read_minute, read_weekday, take_labels
 from office.labels import KINDS, PLAN
+from office.scope import KINDS as CLOSED, Closure, Scope
+from office.seat import user_name
 from office.start_faults import find_faults
 from office.tables import Column, Faults, Row, read_table
 from office.timetable import Lecture, Slot
@@ -50,15 +53,12 @@ COLUMNS = {
         *(Column(kind, is_needed=False) for kind in ("room", "teacher", "course")),
         DAY,
         PERIOD,
+        Column("why", ("reason",), is_needed=False),
     ),
     "lectures.csv": (Column("course"), Column("room"), DAY, PERIOD._replace(is_needed=True)),
 }
 NEEDED = ("courses.csv", "rooms.csv", "curricula.csv", "unavailable.csv")
 LIMITS = {"course": 2000, "room": 1000, "curriculum": 20_000}
-NO_CLOSURES = (
-    "this program cannot hold closures yet, so nothing is read from here: "
-    "say those of teachers and courses in unavailable.csv, and take the file away"
-)
 # how many lectures a course has whose number could not be read, so that nothing follows from it
 MANY = 1_000_000
 
@@ -80,6 +80,7 @@ class Tables:
         self.closed: Dict[str, Set[Slot]] = {}
         self.barred: Optional[Set[Tuple[str, str]]] = None
         # each with its row
+        self.closures: Optional[List[Closure]] = None
         self.start: Optional[List[Tuple[Row, Lecture]]] = None
 
     def read(self) -> Instance:
@@ -89,7 +90,7 @@ class Tables:
         self.take_curricula()
         self.take_unavailable()
         self.take_barred()
-        self.refuse_closures()
+        self.take_closures()
         for kind, most in LIMITS.items():
             if len(self.codes[kind].names) > most:
                 file = "curricula.csv" if kind == "curriculum" else f"{kind}s.csv"
@@ -106,6 +107,7 @@ class Tables:
             self.closed,
             self.barred or set(),
         )
+        instance.block(self.closures or [])
         self.take_lectures(instance)
         self.faults.refuse(f"the tables in {self.folder}")
         return instance
@@ -253,18 +255,22 @@ class Tables:
             if course is not None and room is not None:
                 self.barred.add((course, room))
 
-    def refuse_closures(self) -> None:
-        """Reads closures for what is wrong in them, and refuses them all the same."""
+    def take_closures(self) -> None:
+        """Rows about a room, a teacher or a course that cannot be used on a day, or in a slot."""
         rows = self.rows("blocked.csv")
-        for row in rows or []:
-            kind = row.needed("kind").lower()
-            if kind in ("room", "teacher", "course"):
-                self.codes[kind].find(row, kind)
+        if rows is None:
+            return
+        self.closures = []
+        for row in rows:
+            kind, name = row.needed("kind").lower(), None
+            if kind in CLOSED:
+                name = self.codes[kind].find(row, kind)
             elif kind:
                 row.fault(f"the kind is not room, teacher or course: {kind}")
-            self.slots_of(row)
-        if rows is not None:
-            self.faults.add("blocked.csv", 0, NO_CLOSURES)
+            for slot in self.slots_of(row)[: None if row["period"] else 1]:
+                if name is not None:
+                    scope = Scope(kind, name, slot[0], slot[1] if row["period"] else None)
+                    self.closures.append(blocked_now(scope, user_name(), None, row["why"]))
 
     def take_lectures(self, instance: Instance) -> None:
         rows = self.rows("lectures.csv")

@@ -29,6 +29,8 @@ def find_faults(instance: Instance, labels: Labels, start: List[Tuple[Row, Lectu
             row.fault(f"{course} is unavailable at {when}")
         elif kind == "barred":
             row.fault(f"the room {room} is barred for {course}")
+        elif kind == "blocked":
+            row.fault(f"the room {room} is blocked at {when}")
         elif kind == "roomtaken":
             row.fault(f"{room} has {other[0]} at {when}, in row {rows[other[0], slot]}")
         else:
