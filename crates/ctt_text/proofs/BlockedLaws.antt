@@ -144,8 +144,7 @@ module _ (i : Problem) where
   unfolding blocked_entry closing choice_if known_name known one ◌>>=◌
   entry_fills s w is =
       let n = named_as w is in
-      let stated : kind_of w.kind ≡ Some n.kind = ap kind_of n.word ∙ word_kind n.kind in
-      (
+      let stated : kind_of w.kind ≡ Some n.kind = ap kind_of n.word ∙ word_kind n.kind in (
         rw stated refl,
         (
           rw (stated, n.known) refl,
@@ -310,7 +309,7 @@ module _ (i : Problem) where
   spelled_read : (words : List (List ℕ)) (closed blocked : List Bool) → BlockSpells i words closed blocked → blocked_answer i words ≡ Ok (record { closed = closed; blocked = blocked })
   spelled_read words closed blocked s =
       let same : made_of s.given ≡ record { closed = closed; blocked = blocked }
-          = is_made s.given s.entries ∙ ap₂ (λ a b. record { closed = a; blocked = b }) (closed_same s.given s.entries closed s.courses_marked s.courses) (blocked_same s.given s.entries blocked s.rooms_marked s.rooms) in
+      = is_made s.given s.entries ∙ ap₂ (λ a b. record { closed = a; blocked = b }) (closed_same s.given s.entries closed s.courses_marked s.courses) (blocked_same s.given s.entries blocked s.rooms_marked s.rooms) in
       ap (λ ws. blocked_answer i ws) s.all
       ∙ fills_answer ends_early (closures i) (spelled_closures s.count s.given) s.rest (record { closed = closed; blocked = blocked })
       (subst (λ x. Fills (closures i) (spelled_closures s.count s.given) x) same (spelled_fills s.count s.given s.few s.counted s.entries))

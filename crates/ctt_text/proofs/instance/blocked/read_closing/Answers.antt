@@ -12,9 +12,9 @@ unfolding closing
 returns-clause-exact c =
     let i = c.args.instance.now in
     let day : reads_blocked (choice_if BadNumber (λ n. nat_lt n i.days) DayOut) c.read_name.new.reader ≡ Ok (c.in_ok-day.day, c.next_days.new.reader)
-        = subst (λ m. reads_blocked (choice_if BadNumber (λ n. nat_lt n m) DayOut) c.read_name.new.reader ≡ Ok (c.in_ok-day.day, c.next_days.new.reader)) c.days.ensures.exact c.in_ok-day.ensures.exact in
+    = subst (λ m. reads_blocked (choice_if BadNumber (λ n. nat_lt n m) DayOut) c.read_name.new.reader ≡ Ok (c.in_ok-day.day, c.next_days.new.reader)) c.days.ensures.exact c.in_ok-day.ensures.exact in
     let period : reads_blocked (choice_if BadNumber (λ n. nat_lt n i.periods) PeriodOut) c.next_days.new.reader ≡ Ok (c.in_ok-period.period, c.next_periods.new.reader)
-        = subst (λ m. reads_blocked (choice_if BadNumber (λ n. nat_lt n m) PeriodOut) c.next_days.new.reader ≡ Ok (c.in_ok-period.period, c.next_periods.new.reader)) c.periods.ensures.exact c.in_ok-period.ensures.exact in
+    = subst (λ m. reads_blocked (choice_if BadNumber (λ n. nat_lt n m) PeriodOut) c.next_days.new.reader ≡ Ok (c.in_ok-period.period, c.next_periods.new.reader)) c.periods.ensures.exact c.in_ok-period.ensures.exact in
     read_then ends_early (known Expected kind_of Room) _ c.args.reader.now c.read_kind.new.reader c.in_ok-kind.kind c.in_ok-kind.ensures
     ∙ read_then ends_early (known_name UnknownName (names_of i c.in_ok-kind.kind)) _ c.read_kind.new.reader c.read_name.new.reader c.in_ok-number.number c.in_ok-number.ensures.exact
     ∙ read_then ends_early (choice_if BadNumber (λ n. nat_lt n i.days) DayOut) _ c.read_name.new.reader c.next_days.new.reader c.in_ok-day.day day
@@ -27,9 +27,9 @@ returns-in_err-period-clause-exact c =
     let i = c.args.instance.now in
     let p = err_from_is_err_and c.from_residual-in_err-period.result c.from_residual-in_err-period.ensures.1 in
     let day : reads_blocked (choice_if BadNumber (λ n. nat_lt n i.days) DayOut) c.read_name.new.reader ≡ Ok (c.in_ok-day.day, c.next_days.new.reader)
-        = subst (λ m. reads_blocked (choice_if BadNumber (λ n. nat_lt n m) DayOut) c.read_name.new.reader ≡ Ok (c.in_ok-day.day, c.next_days.new.reader)) c.days.ensures.exact c.in_ok-day.ensures.exact in
+    = subst (λ m. reads_blocked (choice_if BadNumber (λ n. nat_lt n m) DayOut) c.read_name.new.reader ≡ Ok (c.in_ok-day.day, c.next_days.new.reader)) c.days.ensures.exact c.in_ok-day.ensures.exact in
     let fails : reads_blocked (choice_if BadNumber (λ n. nat_lt n i.periods) PeriodOut) c.next_days.new.reader ≡ Err c.in_err-period.field-0.0
-        = subst (λ m. reads_blocked (choice_if BadNumber (λ n. nat_lt n m) PeriodOut) c.next_days.new.reader ≡ Err c.in_err-period.field-0.0) c.periods.ensures.exact c.in_err-period.ensures.exact in
+    = subst (λ m. reads_blocked (choice_if BadNumber (λ n. nat_lt n m) PeriodOut) c.next_days.new.reader ≡ Err c.in_err-period.field-0.0) c.periods.ensures.exact c.in_err-period.ensures.exact in
     rw (p.1, p.2)
     (fails_there ends_early wants_memory c.in_err-period.field-0.0 (choice_if BadNumber (λ n. nat_lt n i.periods) PeriodOut) _ c.next_days.new.reader _
     (read_then ends_early (known Expected kind_of Room) _ c.args.reader.now c.read_kind.new.reader c.in_ok-kind.kind c.in_ok-kind.ensures

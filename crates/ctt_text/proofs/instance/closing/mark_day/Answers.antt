@@ -10,4 +10,4 @@ loop-period-preserved c =
     let slot : c.get.result ≡ slot_of i c.args.day c.loop-period.period = c.get.ensures ∙ c.slot_of.ensures.exact in
     let below : c.loop-period.period < i.periods = subst (λ m. c.loop-period.period < m) c.periods-period-end.ensures.exact c.loop-period-test.true in
     λ n. period_more i c.args.day c.loop-period.period n (is_marked c.args.marks.now n) (is_marked c.loop-period.marks n) (is_marked c.mark.new.self n) c.requires below (c.loop-period.invariant n)
-        (c.mark.ensures.marked n ∙ ap (λ s. n == s || is_marked c.loop-period.marks n) slot)
+    (c.mark.ensures.marked n ∙ ap (λ s. n == s || is_marked c.loop-period.marks n) slot)
