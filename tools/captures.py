@@ -6,6 +6,7 @@ With `--check` nothing is written: the pictures that are others now are named, a
 if there are any. A picture is the block behind a line `<!-- picture: NAME -->`. Times are those of
 a day that was made up. TIMEDESK names the program for the desk.
 """
+import contextlib
 import os
 import re
 import subprocess
@@ -62,9 +63,9 @@ class Play:
         )
         return done.stdout
 
-    def sit(self, planner, name):
+    def sit(self, planner, name, day="monday"):
         return self.terminals.open(
-            ["env", "-C", self.folder, OFFICE, "sit", "monday", planner, "--name", name]
+            ["env", "-C", self.folder, OFFICE, "sit", day, planner, "--name", name]
         )
 
     def take(self, name, terminal, wanted):
@@ -104,35 +105,54 @@ class Play:
         self.keep("log", self.office("log", "monday"))
         self.keep("closed", self.office("close", "monday"))
 
+    def play_closure(self):
+        """A room is blocked under an open draft."""
+        anna, ben = self.sit("0", "anna", "tuesday"), self.sit("1", "ben", "tuesday")
+        anna.wait("no draft open")
+        anna.press(":", "move c0109 2 4 r04 4 3", "Enter")
+        anna.wait("r04 4 3: done")
+        anna.press(":", "reroom c0049 r04 0 0", "Enter")
+        anna.wait("2 edits")
+        ben.wait("no draft open")
+        ben.press("v", "room r04", "Enter", "Right", "Right", "B")
+        self.take("to block", ben, "What is to be blocked")
+        ben.press("on day 3 (5", "Enter", "heating", "Enter")
+        self.take("rules changed", anna, "These were refused")
+
+
+@contextlib.contextmanager
+def opened(folder, day):
+    """An office that is open for a while."""
+    examples = os.path.join(HERE, "examples")
+    words = ["open", day, f"{examples}/comp07.ctt", "3", "--start", f"{examples}/comp07.sol"]
+    office = subprocess.Popen(
+        [OFFICE, *words],
+        cwd=folder,
+        stdout=subprocess.DEVNULL,
+        stderr=subprocess.PIPE,
+        text=True,
+    )
+    try:
+        yield "open, seats" in office.stderr.readline()
+    finally:
+        office.terminate()
+        office.wait()
+        office.stderr.close()
+
 
 def take_pictures():
-    """The pictures of a day, by their names."""
+    """The pictures of two days, by their names."""
     with tempfile.TemporaryDirectory() as folder:
-        examples = os.path.join(HERE, "examples")
-        words = [
-            "open",
-            "monday",
-            f"{examples}/comp07.ctt",
-            "3",
-            "--start",
-            f"{examples}/comp07.sol",
-        ]
-        office = subprocess.Popen(
-            [OFFICE, *words],
-            cwd=folder,
-            stdout=subprocess.DEVNULL,
-            stderr=subprocess.PIPE,
-            text=True,
-        )
         play = Play(folder)
         try:
-            if "open, seats" in office.stderr.readline():
-                play.play()
+            with opened(folder, "monday") as is_open:
+                if is_open:
+                    play.play()
+            with opened(folder, "tuesday") as is_open:
+                if is_open:
+                    play.play_closure()
         finally:
             play.terminals.end()
-            office.terminate()
-            office.wait()
-            office.stderr.close()
         return play.pictures
 
 
