@@ -70,14 +70,18 @@ class Driver:
             text=True,
             start_new_session=True,
         )
-        self.port = 0
+        try:
+            self.port = self.read_port()
+        except BaseException:
+            self.end()
+            raise
+
+    def read_port(self):
         for line in self.process.stdout:
             found = re.search(r"started successfully on port (\d+)", line)
             if found:
-                self.port = int(found.group(1))
-                break
-        if not self.port:
-            raise BrowserLost("the driver does not begin")
+                return int(found.group(1))
+        raise BrowserLost("the driver does not begin")
 
     def end(self):
         """Ends the driver, and browsers that it has left."""
