@@ -141,6 +141,8 @@ class Browser:
             deviceScaleFactor=zoom,
             mobile=False,
         )
+        # the page has it a little later
+        self.wait("return innerWidth === arguments[0]", int(width / zoom))
         if touch:
             self.cdp("Emulation.setTouchEmulationEnabled", enabled=True, maxTouchPoints=5)
             self.cdp("Emulation.setEmitTouchEventsForMouse", enabled=False, configuration="desktop")
@@ -191,18 +193,30 @@ class Browser:
 
     def wait(self, script, *arguments, seconds=PATIENCE):
         """The value of a script as soon as it is true."""
-        until = time.monotonic() + seconds
+        until, failed = time.monotonic() + seconds, ""
         while True:
-            found = self.run(script, *arguments)
-            if found:
-                return found
+            try:
+                found = self.run(script, *arguments)
+                if found:
+                    return found
+            except BrowserLost:
+                raise
+            except DriverFault as fault:
+                # the page goes just now, or has not come
+                failed = str(fault)
             if time.monotonic() > until:
-                raise DriverFault(f"waited for: {script} {arguments}\n{self.seen()[:1500]}")
+                told = f"waited for: {script} {arguments} {failed}\n{self.seen()[:1500]}"
+                raise DriverFault(told)
             time.sleep(0.02)
 
     def seen(self):
-        """The text of the page."""
-        return self.run("return document.body.innerText")
+        """The text of the page, and what is in front and has the keyboard."""
+        return self.run(
+            "const at = document.activeElement;"
+            "const where = at && `${at.tagName} ${at.id || at.dataset.at || at.className}`;"
+            "return `keyboard: ${where}, acts: ${document.body.dataset.acts}\n`"
+            " + document.body.innerText"
+        )
 
     def text(self, selector):
         return self.run(

@@ -260,7 +260,8 @@ class BrowserTest(WebTest):
         browser.sees("Committed as draft", "#said")
 
 
-# how many edits the draft has, and whether a box is in front
+# whether all is done that was pressed, how many edits the draft has, whether a box is in front
+DONE = "return document.body.dataset.acts === '0'"
 EDITS = "return document.querySelectorAll('#draft .edits li').length"
 BOX = "return document.getElementById('box').open"
 
@@ -283,6 +284,7 @@ __all__ = [
     "BrowserTest",
     "COMP07",
     "COMP07_SOL",
+    "DONE",
     "EDITS",
     "HERE",
     "OFFICE",
