@@ -215,6 +215,16 @@ class BrowserTest(WebTest):
         found = [one for one in browser.complaints() if "Failed to load resource" not in one]
         self.assertEqual(found, [])
 
+    def keep_banners(self, browser):
+        """From now on the page keeps what its banner has said."""
+        browser.run(
+            "window.banners = [];"
+            "const watch = (all) => all.forEach((one) =>"
+            "  one.addedNodes.forEach((node) => banners.push(node.data)));"
+            "const told = { childList: true };"
+            "new MutationObserver(watch).observe(document.getElementById('banner'), told)"
+        )
+
     def has_focus(self, browser):
         """The focus is somewhere, so that a keyboard has its effect."""
         self.assertNotIn(browser.run("return document.activeElement?.tagName"), (None, "BODY"))
