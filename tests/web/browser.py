@@ -13,6 +13,8 @@ import time
 ELEMENT = "element-6066-11e4-a52e-4f735466cecf"
 # what takes longer hangs
 PATIENCE = int(os.environ.get("PATIENCE", "30"))
+# for trials: how many times slower a page is, and milliseconds that each answer takes longer
+SLOWER, LATER = (float(os.environ.get(name, "0")) for name in ("SLOWER", "LATER"))
 KEYS = {
     "Enter": "\ue007",
     "Escape": "\ue00c",
@@ -131,6 +133,15 @@ class Browser:
         media = [{"name": name, "value": value} for name, value in features.items()]
         self.cdp("Emulation.setEmulatedMedia", features=media)
         self.command("POST", "timeouts", {"script": PATIENCE * 1000})
+        self.slow_down()
+
+    def slow_down(self):
+        if SLOWER:
+            self.cdp("Emulation.setCPUThrottlingRate", rate=SLOWER)
+        if LATER:
+            self.cdp("Network.enable")
+            told = {"offline": False, "downloadThroughput": -1, "uploadThroughput": -1}
+            self.cdp("Network.emulateNetworkConditions", latency=LATER, **told)
 
     def set_size(self, width, height, touch=False, zoom=1):
         """The size of the page; a zoom leaves so many fewer pixels for what is drawn."""
