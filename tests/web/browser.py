@@ -13,6 +13,8 @@ import time
 ELEMENT = "element-6066-11e4-a52e-4f735466cecf"
 # what takes longer hangs
 PATIENCE = int(os.environ.get("PATIENCE", "30"))
+# for trials: how many times slower a page is, and milliseconds that each answer takes longer
+SLOWER, LATER = (float(os.environ.get(name, "0")) for name in ("SLOWER", "LATER"))
 KEYS = {
     "Enter": "\ue007",
     "Escape": "\ue00c",
@@ -70,14 +72,18 @@ class Driver:
             text=True,
             start_new_session=True,
         )
-        self.port = 0
+        try:
+            self.port = self.read_port()
+        except BaseException:
+            self.end()
+            raise
+
+    def read_port(self):
         for line in self.process.stdout:
             found = re.search(r"started successfully on port (\d+)", line)
             if found:
-                self.port = int(found.group(1))
-                break
-        if not self.port:
-            raise BrowserLost("the driver does not begin")
+                return int(found.group(1))
+        raise BrowserLost("the driver does not begin")
 
     def end(self):
         """Ends the driver, and browsers that it has left."""
@@ -127,6 +133,15 @@ class Browser:
         media = [{"name": name, "value": value} for name, value in features.items()]
         self.cdp("Emulation.setEmulatedMedia", features=media)
         self.command("POST", "timeouts", {"script": PATIENCE * 1000})
+        self.slow_down()
+
+    def slow_down(self):
+        if SLOWER:
+            self.cdp("Emulation.setCPUThrottlingRate", rate=SLOWER)
+        if LATER:
+            self.cdp("Network.enable")
+            told = {"offline": False, "downloadThroughput": -1, "uploadThroughput": -1}
+            self.cdp("Network.emulateNetworkConditions", latency=LATER, **told)
 
     def set_size(self, width, height, touch=False, zoom=1):
         """The size of the page; a zoom leaves so many fewer pixels for what is drawn."""
@@ -137,6 +152,8 @@ class Browser:
             deviceScaleFactor=zoom,
             mobile=False,
         )
+        # the page has it a little later
+        self.wait("return innerWidth === arguments[0]", int(width / zoom))
         if touch:
             self.cdp("Emulation.setTouchEmulationEnabled", enabled=True, maxTouchPoints=5)
             self.cdp("Emulation.setEmitTouchEventsForMouse", enabled=False, configuration="desktop")
@@ -187,18 +204,30 @@ class Browser:
 
     def wait(self, script, *arguments, seconds=PATIENCE):
         """The value of a script as soon as it is true."""
-        until = time.monotonic() + seconds
+        until, failed = time.monotonic() + seconds, ""
         while True:
-            found = self.run(script, *arguments)
-            if found:
-                return found
+            try:
+                found = self.run(script, *arguments)
+                if found:
+                    return found
+            except BrowserLost:
+                raise
+            except DriverFault as fault:
+                # the page goes just now, or has not come
+                failed = str(fault)
             if time.monotonic() > until:
-                raise DriverFault(f"waited for: {script} {arguments}\n{self.seen()[:1500]}")
+                told = f"waited for: {script} {arguments} {failed}\n{self.seen()[:1500]}"
+                raise DriverFault(told)
             time.sleep(0.02)
 
     def seen(self):
-        """The text of the page."""
-        return self.run("return document.body.innerText")
+        """The text of the page, and what is in front and has the keyboard."""
+        return self.run(
+            "const at = document.activeElement;"
+            "const where = at && `${at.tagName} ${at.id || at.dataset.at || at.className}`;"
+            "return `keyboard: ${where}, acts: ${document.body.dataset.acts}\n`"
+            " + document.body.innerText"
+        )
 
     def text(self, selector):
         return self.run(

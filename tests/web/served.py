@@ -5,10 +5,8 @@ import http.client
 import json
 import os
 import re
-import signal
 import socket
 import sys
-import time
 import unittest
 
 HERE = os.path.dirname(os.path.dirname(os.path.dirname(os.path.abspath(__file__))))
@@ -16,22 +14,11 @@ HERE = os.path.dirname(os.path.dirname(os.path.dirname(os.path.abspath(__file__)
 sys.path.append(os.path.join(HERE, "tests", "client"))
 sys.path.insert(0, os.path.join(HERE, "tools"))
 
-from browser import Browser, BrowserLost, Driver, DriverFault, has_browser  # noqa: E402
+from browser import Browser, Driver, DriverFault, has_browser  # noqa: E402
 from support import COMP07, COMP07_SOL, OFFICE, SMALL, OfficeTest, wait_until  # noqa: E402
 
 from office.refused import Refused  # noqa: E402
 from office.web.launch import find_python  # noqa: E402
-
-
-class TooLate(Exception):
-    """A test hangs."""
-
-
-def too_late(*_):
-    raise TooLate(f"the test did not end within {PATIENCE} seconds")
-
-
-signal.signal(signal.SIGALRM, too_late)
 
 
 def has_tornado():
@@ -41,8 +28,6 @@ def has_tornado():
         return False
 
 
-# seconds after which a test is ended
-PATIENCE = 8 * int(os.environ.get("PATIENCE", "30"))
 NO_TORNADO = "no Python has tornado, so no seat was served"
 NO_BROWSER = "chromium or chromedriver is not installed, so no page was opened"
 READY = "return performance.getEntriesByName('ready').length > 0"
@@ -56,21 +41,7 @@ addEventListener('unhandledrejection', (one) => blocked.push(String(one.reason))
 
 
 class WebTest(OfficeTest):
-    """A test with days that are served. What takes longer hangs."""
-
-    def run(self, result=None):
-        begun = time.monotonic()
-        faults = len(result.failures + result.errors) if result else 0
-        signal.alarm(PATIENCE)
-        try:
-            return super().run(result)
-        finally:
-            signal.alarm(0)
-            if os.environ.get("VERBOSE"):
-                found = (result.failures + result.errors)[faults:] if result else []
-                print(f"{time.monotonic() - begun:5.1f} s  {self.id()}", flush=True)
-                for _, text in found:
-                    print(text, flush=True)
+    """A test with days that are served."""
 
     def serve(self, day, *words):
         """Serves the seats of a day, and answers their links by what they are of."""
@@ -194,35 +165,30 @@ class Pool:
         self.free.setdefault(kind, []).append(browser)
 
     def end(self):
-        """Ends all; who needs a browser then begins anew."""
-        for browser in [one for kind in self.free.values() for one in kind]:
+        """Ends all; who needs a browser then begins anew, also if this is broken off."""
+        free, self.free = self.free, {}
+        driver, self.driver = self.driver, None
+        for browser in [one for kind in free.values() for one in kind]:
             browser.end()
-        self.free.clear()
-        if self.driver is not None:
-            self.driver.end()
-            self.driver = None
+        if driver is not None:
+            driver.end()
 
 
 POOL = Pool()
 atexit.register(POOL.end)
-PARTS = ("failures", "errors", "skipped", "expectedFailures", "unexpectedSuccesses")
 
 
 class BrowserTest(WebTest):
-    """A test in real browsers. One of which the browser itself is lost is run once more."""
+    """A test in real browsers. Behind one that has failed all begin anew."""
 
     def run(self, result=None):
-        found = unittest.TestResult()
-        super().run(found)
-        if any(BrowserLost.__name__ in text for _, text in found.errors):
-            why = [line for line in found.errors[0][1].splitlines() if BrowserLost.__name__ in line]
-            print(f"run again: the browser did not start, or was lost: {self.id()}: {why[-1:]}")
-            POOL.end()
-            found = unittest.TestResult()
-            super().run(found)
-        result.testsRun += found.testsRun
-        for part in PARTS:
-            getattr(result, part).extend(getattr(found, part))
+        before, is_good = len(result.failures + result.errors), False
+        try:
+            super().run(result)
+            is_good = len(result.failures + result.errors) == before
+        finally:
+            if not is_good:
+                POOL.end()
 
     def browser(self, **settings):
         kind, browser = POOL.take(settings)
@@ -248,6 +214,16 @@ class BrowserTest(WebTest):
         self.assertEqual(browser.run("return window.blocked"), [])
         found = [one for one in browser.complaints() if "Failed to load resource" not in one]
         self.assertEqual(found, [])
+
+    def keep_banners(self, browser):
+        """From now on the page keeps what its banner has said."""
+        browser.run(
+            "window.banners = [];"
+            "const watch = (all) => all.forEach((one) =>"
+            "  one.addedNodes.forEach((node) => banners.push(node.data)));"
+            "const told = { childList: true };"
+            "new MutationObserver(watch).observe(document.getElementById('banner'), told)"
+        )
 
     def has_focus(self, browser):
         """The focus is somewhere, so that a keyboard has its effect."""
@@ -294,7 +270,8 @@ class BrowserTest(WebTest):
         browser.sees("Committed as draft", "#said")
 
 
-# how many edits the draft has, and whether a box is in front
+# whether all is done that was pressed, how many edits the draft has, whether a box is in front
+DONE = "return document.body.dataset.acts === '0'"
 EDITS = "return document.querySelectorAll('#draft .edits li').length"
 BOX = "return document.getElementById('box').open"
 
@@ -317,6 +294,7 @@ __all__ = [
     "BrowserTest",
     "COMP07",
     "COMP07_SOL",
+    "DONE",
     "EDITS",
     "HERE",
     "OFFICE",

@@ -8,6 +8,7 @@ from served import (
     BOX,
     COMP07,
     COMP07_SOL,
+    DONE,
     OFFICE,
     SMALL,
     BrowserTest,
@@ -15,6 +16,8 @@ from served import (
     skip_without_browser,
 )
 from terminal import Terminals, has_tmux
+
+from office.minutes import read_minutes
 
 FROM, BEST = (4, 1), (4, 3)
 # as many drawn days, and acts of each
@@ -28,6 +31,12 @@ KEYS = (
     + ["Escape"] * 4
     + ["Tab", "Shift+Tab", "Home", "End", "Delete", "Space", "/"]
 )
+# whether a box or a list is in front, something is held, or typed in the search
+BUSY = """
+return document.activeElement.matches('input')
+  || !!document.querySelector('dialog[open], .menu-box, #week.holding');
+"""
+HEARD = "return Number(document.querySelector('#news .count')?.innerText || 0) === arguments[0]"
 # what a week shows: the slots of its lectures with their rooms
 SHOWN = """
 return [...document.querySelectorAll('#week .cell')].flatMap((one) =>
@@ -78,9 +87,10 @@ class Days(BrowserTest):
         self.assertIn("hall <1> & more", log)
         for one in (anna, ben):
             self.is_clean(one)
+        self.keep_banners(anna)
         closing = self.start("close", self.path("day"), "--wait", "4")
-        anna.sees("The office closes in", "#banner")
         anna.sees("The office has closed", "#banner")
+        self.assertIn("The office closes in", str(anna.run("return banners")))
         printed, _ = closing.communicate(timeout=60)
         self.assertIn("the audit agrees", printed)
 
@@ -115,6 +125,12 @@ class Days(BrowserTest):
             if window.run(BOX) and draw.random() < 0.5:
                 window.press(draw.choice(["Enter", "Escape", "Tab"]))
             self.assertEqual(window.run("return window.blocked"), [], f"seed {seed}, act {done}")
+        for window in windows:
+            self.settle(window)
+        # what was committed last is heard of
+        count = len(read_minutes(self.path(f"{day}/minutes")))
+        for window in windows:
+            window.wait(HEARD, count)
         courses = ["c0109", "c0097", "c0014", "c0084"] if big else ["geo", "alg", "top"]
         seen = {course: self.seen_at_the_end(windows[0], course) for course in courses}
         for window in windows:
@@ -142,19 +158,27 @@ class Days(BrowserTest):
             draw.randrange(1000),
         )
 
+    def settle(self, window):
+        """All is done that was pressed, and nothing is in front or held."""
+        until = time.monotonic() + 30
+        while True:
+            window.wait(DONE)
+            if not window.run(BUSY):
+                return
+            self.assertLess(time.monotonic(), until, window.seen())
+            window.run(f"if ({BOX[7:]}) document.getElementById('box').focus()")
+            window.press("Escape")
+
     def seen_at_the_end(self, window, course):
         """The week of a course on the newest timetable: what is open is given up."""
-        window.run("document.querySelector('#box').open && document.querySelector('#box').focus()")
-        for _ in range(3):
-            window.press("Escape")
-        window.run("document.querySelector('#week [tabindex=\"0\"]').focus()")
-        window.wait(f"return !({BOX[7:]})")
+        self.settle(window)
         window.run("document.querySelector('#week [tabindex=\"0\"]').focus()")
         if "draft" in window.text("#costs .state") and "no draft" not in window.text("#costs"):
             window.press("a")
             window.wait(BOX)
             window.press("Enter")
             window.sees("no draft open", "#costs")
+            window.wait(DONE)
         self.show(window, course)
         window.wait(
             "return document.querySelector('#week-title .kind').textContent === 'course'"

@@ -1,10 +1,13 @@
 """What is held: by mouse, pen and finger, and while others change what stands there."""
+import signal
 import time
 
-from served import COMP07, COMP07_SOL, EDITS, BrowserTest, cell, skip_without_browser
+from served import COMP07, COMP07_SOL, DONE, EDITS, BrowserTest, cell, skip_without_browser
 
 # a lecture of c0109, and where it is cheapest
 FROM, BEST = (4, 1), (4, 3)
+# nothing is held, and all is done
+FREE = f"return !document.querySelector('.held-card, #week.holding') && {DONE[7:]}"
 
 
 @skip_without_browser
@@ -12,7 +15,7 @@ class Hand(BrowserTest):
     def setUp(self):
         super().setUp()
         self.open("day", COMP07, "3", "--start", COMP07_SOL)
-        self.serve("day")
+        self.server = self.serve("day")
 
     def test_drag(self):
         """By mouse and by pen: the price beside the hand, Escape, and the window's edge."""
@@ -23,22 +26,39 @@ class Hand(BrowserTest):
             anna.sees("−257 r04", ".held-card")
             anna.sees("day 5, period 4 saves 257", "#tray")
             anna.press("Escape")
-            anna.wait("return !document.querySelector('.held-card, #week.holding')")
+            anna.wait(FREE)
             anna.pointer(kind, [("up",)])
+            anna.wait(FREE)
             self.assertEqual(anna.run(EDITS), 0)
             # let go outside of the week
             anna.drag(kind, cell(FROM) + " .card", cell(BEST), (1270, 4))
-            anna.wait("return !document.querySelector('.held-card, #week.holding')")
+            anna.wait(FREE)
             self.assertEqual(anna.run(EDITS), 0)
             anna.drag(kind, cell(FROM) + " .card", cell(BEST))
             anna.sees("your draft: 1 edit", "#costs")
             anna.sees("−257", "#draft")
             anna.press("u")
             anna.sees("your draft: 0 edits", "#costs")
+            anna.wait(FREE)
         # a lecture that cannot stand there stays where it was
         anna.drag("mouse", cell(FROM) + " .card", cell((0, 0)))
         anna.sees("cannot stand", "#said")
         self.assertEqual(anna.run(EDITS), 0)
+        self.is_clean(anna)
+
+    def test_dragged_before_the_answer(self):
+        """A drag that begins before the office has answered the one before has its turn behind it."""
+        anna = self.planner()
+        self.show(anna, "c0109")
+        self.server.send_signal(signal.SIGSTOP)
+        try:
+            anna.drag("mouse", cell(FROM) + " .card", cell(BEST), (1270, 4))
+            anna.drag("mouse", cell(FROM) + " .card", cell(BEST))
+        finally:
+            self.server.send_signal(signal.SIGCONT)
+        anna.sees("your draft: 1 edit", "#costs")
+        anna.wait(FREE)
+        self.assertEqual(anna.run(EDITS), 1)
         self.is_clean(anna)
 
     def test_missing_is_dragged_in(self):
@@ -69,7 +89,7 @@ class Hand(BrowserTest):
         ):
             told = [{"x": x, "y": y} for x, y in points]
             anna.cdp("Input.dispatchTouchEvent", type=kind, touchPoints=told)
-        anna.wait("return !document.querySelector('.held-card, #week.holding')")
+        anna.wait(FREE)
         self.assertEqual(anna.run(EDITS), 0)
         anna.drag("touch", cell(FROM) + " .grip", cell(BEST))
         anna.sees("your draft: 1 edit", "#costs")

@@ -14,7 +14,15 @@ from served import SMALL, BrowserTest, skip_without_browser
 
 WORDS = {"anna": "one", "ben": "two", "dean": "three", "guest": "four"}
 LOGINS = "anna 0\nben 1\n# the dean reads\ndean reader\n"
-BANNER = "#banner"
+# presses `f` again as soon as it has had its effect, until something is said
+PRESSED = """
+if (document.body.dataset.acts !== '0') return false;
+if (document.getElementById('said').innerText.includes(arguments[0])) return true;
+const at = document.querySelector('#week [tabindex="0"]');
+at.focus();
+at.dispatchEvent(new KeyboardEvent('keydown', { key: 'f', bubbles: true }));
+return false;
+"""
 
 
 def free_port():
@@ -112,17 +120,8 @@ class Proxied(BrowserTest):
         anna.sees("ben", "#news")
         for how in ("redirect", "page", "word"):
             self.proxy.expire(how)
-            anna.wait(
-                "document.querySelector('#week [tabindex=\"0\"]').focus();"
-                "document.querySelector('#week [tabindex=\"0\"]').dispatchEvent("
-                "new KeyboardEvent('keydown', {key: 'f', bubbles: true}));"
-                "return document.querySelector('#said').innerText.includes('login')"
-            )
+            anna.wait(PRESSED, "login")
             self.proxy.renew()
-            anna.wait(
-                "document.querySelector('#week [tabindex=\"0\"]').dispatchEvent("
-                "new KeyboardEvent('keydown', {key: 'f', bubbles: true}));"
-                "return document.querySelector('#said').innerText.includes('newest timetable')"
-            )
+            anna.wait(PRESSED, "newest timetable")
         self.assertEqual(anna.run("return window.blocked"), [])
         self.assertTrue(os.path.exists(self.path("day/web.socket")))

@@ -3,14 +3,15 @@ from __future__ import annotations
 
 import os
 import secrets
+import time
 from typing import Dict, List, NamedTuple, Optional, Set, Tuple
 
 from office.folder import Day, is_locked, lock, read_text, write_whole
 from office.refused import Refused
 
 READER = "reader"
-# bytes of a key: 192 bits
-LONG = 24
+# bytes of a key: 192 bits; seconds that a server may take to begin
+LONG, BEGINS = 24, 10.0
 
 
 class Keys(NamedTuple):
@@ -74,12 +75,20 @@ def lock_server(day: Day) -> int:
     held = lock(day.file("web"))
     if held is None:
         raise Refused(f"the seats of {day.path} are served already: office web {day.path} --links")
+    # where an earlier one has served them is no address any more
+    os.truncate(held, 0)
     return held
 
 
 def served_at(day: Day) -> Optional[str]:
-    """Where the seats are served now."""
-    return read_text(day.file("web")).strip() if is_locked(day.file("web")) else None
+    """Where the seats are served now. A server that begins just now is waited for."""
+    until = time.monotonic() + BEGINS
+    while is_locked(day.file("web")) and time.monotonic() < until:
+        base = read_text(day.file("web")).strip()
+        if base:
+            return base
+        time.sleep(0.05)
+    return None
 
 
 def links_of(day: Day, base: str) -> List[Tuple[str, str]]:

@@ -245,7 +245,6 @@ async def run(day: Day, served: Served, held: int) -> int:
     path = served.socket or day.file("web.socket")
     end = listen_at(served, path)
     base = base_of(served, end)
-    os.truncate(held, 0)
     os.pwrite(held, f"{base}\n".encode(), 0)
     server = Listener(
         application(office),

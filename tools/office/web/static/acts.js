@@ -1,7 +1,8 @@
 // What each key, button and drag does: it is asked of the office, with what was seen.
 import * as boxes from "./boxes.js";
-import { announce, find, save } from "./dom.js";
+import { announce, find, isTyping, save } from "./dom.js";
 import { chosen, heldSaid, heldShort } from "./held.js";
+import { help } from "./help.js";
 import { openMenu } from "./menu.js";
 import { same } from "./numbers.js";
 import { toast } from "./toasts.js";
@@ -108,7 +109,7 @@ class Acts {
   // the rooms of a slot by price, or the partners of a swap
   async rooms(slot, lecture) {
     if (!this.held) await this.pickUp(slot, lecture);
-    if (!this.held) return;
+    if (!this.held || isTyping()) return;
     const { held, week } = this;
     const isHome = same(slot, held.at);
     const offers = this.offerAt(slot).offers.filter(([, code]) => !isHome || code !== held.room);
@@ -165,7 +166,7 @@ class Acts {
       weeks: () => this.nextWeek(lecture),
       print: () => this.print(),
       line: () => this.typeLine(),
-      help: () => boxes.help(this.app.day.keys, this.queued),
+      help: () => help(this.app.day.keys, this.queued),
       next: () => this.rooms(slot, lecture),
       "lay down": () => this.layDown(),
     }[name];

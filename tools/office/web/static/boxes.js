@@ -2,12 +2,22 @@
 import { button, el, find, key, name } from "./dom.js";
 import { kindOf, number, signed } from "./numbers.js";
 
+// where the keyboard was; whether what is in front is a question of the office; and one that has
+// come while something else was typed or read
 let before = null;
+let isAsked = false;
+let later = null;
+
+// where the keyboard goes when a box is closed
+export function backTo(element) {
+  before = element;
+}
 
 // letters: what is done by a letter, where nothing is typed
-function open(title, parts, { cls = "", cancel, letters = {} } = {}) {
+export function open(title, parts, { cls = "", cancel, letters = {} } = {}) {
   const box = find("box");
   if (!box.open) before = document.activeElement;
+  isAsked = false;
   box.className = cls;
   box.oncancel = (event) => {
     event.preventDefault();
@@ -41,9 +51,25 @@ export function close() {
   const week = find("week").querySelector("[tabindex='0']");
   const target = before?.isConnected && before !== document.body ? before : week;
   target?.focus();
+  askLater();
 }
 
-const buttons = (...made) => el("div", { cls: "buttons end" }, ...made);
+// asks what has come meanwhile, if it is asked still
+export function askLater() {
+  const next = later;
+  later = null;
+  next?.();
+}
+
+export const hasLater = () => later !== null;
+
+// the office asks nothing any more; a box that it has not opened stays
+export function closeAsked() {
+  later = null;
+  if (isAsked) close();
+}
+
+export const buttons = (...made) => el("div", { cls: "buttons end" }, ...made);
 
 // a line of text in a box, and what Enter does with it
 function field(id, label, more, go) {
@@ -87,8 +113,8 @@ export function askName({ seat, last }, proposed) {
 export function askLine(send) {
   const go = () => {
     const line = find("line").value.trim();
-    close();
     if (line) send(line);
+    close();
   };
   const more = { maxlength: "500", spellcheck: "false", autofocus: true };
   open(
@@ -160,8 +186,14 @@ function choiceList(choices, choose) {
 }
 
 // a question of the office: its title and lines, perhaps costs, a list, a line to type, and a
-// button an answer
+// button an answer. What is typed or read meanwhile is ended first, so that no key meant for that
+// answers it.
 export function ask(question, acts) {
+  const isBusy = document.activeElement === find("search-input") || (find("box").open && !isAsked);
+  if (isBusy) {
+    later = () => ask(question, acts);
+    return;
+  }
   const { number: id, title, lines, answers, choices, costs, why, canWait } = question;
   const back = () => {
     close();
@@ -195,6 +227,7 @@ export function ask(question, acts) {
       letters: Object.fromEntries(keyed.map((one) => [one.key, go(one.name)])),
     }
   );
+  isAsked = true;
 }
 
 // what has become of the draft while its box is in front
@@ -203,41 +236,4 @@ export function foretell(text) {
   if (!line) return;
   line.hidden = !text;
   line.replaceChildren(name(text));
-}
-
-// each key in a sentence, which does the same if it is pressed here; and the signs
-export function help(keys, act) {
-  const keyList = keys.filter((one) => one.help);
-  const term = (one, text) => [el("dt", {}, one), el("dd", {}, text)];
-  const sign = (cls, text) => el("span", { cls: `${cls} static` }, text);
-  const press = (one) => () => {
-    before = null;
-    close();
-    act(one.name);
-  };
-  const made = (one) => button(one.name, key(one.said), press(one), { "aria-label": one.name });
-  open(
-    "Keys and signs",
-    [
-      el("h3", {}, "Keys, in the week; each can be pressed here, too"),
-      el(
-        "dl",
-        { cls: "keys" },
-        term(key("arrows"), "move the cursor over the week; Tab leaves the week for the panels"),
-        keyList.map((one) => term(made(one), one.help))
-      ),
-      el("h3", {}, "Signs"),
-      el(
-        "dl",
-        { cls: "keys" },
-        term(sign("sign short", "● 21"), "so many students have no seat"),
-        term(sign("sign alone", "○ 2"), "points for standing alone on its day"),
-        term(sign("pencil", "✎"), "changed in your draft"),
-        term(sign("who", "name"), "changed by somebody else since"),
-        term(sign("delta good", "−22"), "saves 22 points")
-      ),
-      buttons(button("back", "Back", close, { cls: "primary", autofocus: true })),
-    ],
-    { cancel: close }
-  );
 }

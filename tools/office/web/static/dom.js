@@ -55,6 +55,9 @@ export function save(file, text) {
 
 export const key = (text) => el("kbd", {}, text);
 
+// what is typed goes on where it was begun, whatever comes meanwhile
+export const isTyping = () => document.activeElement?.matches("input, textarea") ?? false;
+
 // what a person hears who does not see
 export function announce(text) {
   find("said").textContent = text;

@@ -95,14 +95,14 @@ class Hand {
     if (slot) this.week.cell(slot).classList.add("over");
   }
 
-  async end(event) {
+  // a drop has its turn behind the picking up, which may not be answered yet
+  end(event) {
     const { pressed } = this;
     if (!pressed || event.pointerId !== pressed.id) return;
     const slot = this.slotOf(event);
     this.stop();
     if (!pressed.isDragging) return;
     swallowClick();
-    await pressed.ready;
     if (event.type === "pointerup" && slot) this.acts.drop(slot);
     else this.acts.layDown();
   }
@@ -115,12 +115,10 @@ class Hand {
     document.body.classList.remove("dragging");
   }
 
-  async escape(event) {
+  escape(event) {
     if (event.key !== "Escape" || !this.pressed?.isDragging) return;
     event.stopPropagation();
-    const { ready } = this.pressed;
     this.stop();
-    await ready;
     this.acts.layDown();
   }
 }

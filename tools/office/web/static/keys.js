@@ -1,6 +1,6 @@
 // The keyboard. Letters are keys only in the week, so that they disturb nobody who types or
 // dictates elsewhere.
-import { find } from "./dom.js";
+import { find, isTyping } from "./dom.js";
 import { isMenuOpen } from "./menu.js";
 
 const STEPS = {
@@ -12,7 +12,6 @@ const STEPS = {
   End: [99, 0],
 };
 
-const isTyping = () => document.activeElement?.matches("input, textarea") ?? false;
 const isPlain = (event) => !event.ctrlKey && !event.metaKey && !event.altKey;
 
 // keys: [{name, key}] as the office has them

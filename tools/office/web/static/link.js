@@ -64,41 +64,112 @@ export async function ask(verb, told = {}) {
   });
 }
 
-// Lines of JSON by fetch, which can send the key in a header. A page that is left may be kept by
-// the browser, to be gone back to; it must not listen meanwhile, as a window that nobody sees.
+// whether the office knows this window, how often it has begun there, whether it does so no more
+let isKnown = false;
+let times = 0;
+let isEnded = false;
+// who waits for the next beginning, what makes it begin at once, what ends the news that are read
+const waiting = [];
+let hurry = () => {};
+let away = new AbortController();
+const UNKNOWN = 410;
+const NO_KEY = 401;
+// so long the end of the news is waited for by which the office lets a window go, and until the
+// next beginning, at first; one that takes longer than this is told
+const ENDS = 1000;
+const SOON = 250;
+const LATE = 1000;
+
+function beginning() {
+  hurry();
+  return new Promise((good, bad) => waiting.push({ good, bad }));
+}
+
+// those who wait for a beginning have it, or hear why there is none
+function settle(fault) {
+  for (const { good, bad } of waiting.splice(0)) fault ? bad(fault) : good();
+}
+
+// What a planner does is asked of an office that knows this window. So it waits for a beginning,
+// and is asked again behind one if it was not done, since the window was not known.
+export async function act(verb, told = {}) {
+  if (!isKnown && !isEnded) await beginning();
+  const asked = times;
+  try {
+    const found = await ask(verb, told);
+    if (asked === times) return found;
+    // what is drawn and asked by now is that of another beginning
+    return { ...found, picture: undefined, question: undefined };
+  } catch (fault) {
+    if (fault.status !== UNKNOWN || isEnded) throw fault;
+  }
+  if (asked === times) {
+    const old = away;
+    setTimeout(() => old.abort(), ENDS);
+    await beginning();
+  }
+  return ask(verb, told);
+}
+
+// Lines of JSON by fetch, which can send the key in a header.
 async function readNews(hear) {
-  const away = new AbortController();
-  addEventListener("pagehide", () => away.abort(), { once: true });
+  away = new AbortController();
   const response = await request("news", { headers: fields(), signal: away.signal });
   const reader = response.body.pipeThrough(new TextDecoderStream()).getReader();
   let text = "";
   for (;;) {
     const { value, done } = await reader.read();
-    if (done) return;
+    if (done) return null;
     const lines = (text + value).split("\n");
     text = lines.pop();
     for (const line of lines.filter(Boolean)) hear(JSON.parse(line));
   }
 }
 
-const pause = (time) => new Promise((go) => setTimeout(go, time));
+// A page that is left may be kept by the browser, to be gone back to. It must not listen meanwhile,
+// as a window that nobody sees, and begins anew when it is seen again.
+addEventListener("pagehide", () => {
+  isKnown = false;
+  away.abort();
+});
+addEventListener("pageshow", () => hurry());
+
+// some time, or until it is hurried; none if somebody waits
+function pause(time) {
+  return new Promise((go) => {
+    hurry = go;
+    setTimeout(go, waiting.length ? 0 : time);
+  });
+}
+
+function faultOf(thrown) {
+  if (thrown instanceof Fault) return thrown;
+  if (thrown instanceof TypeError || thrown.name === "AbortError") return new Fault(0, SILENT);
+  throw thrown;
+}
 
 // Begins, listens, and begins again when the office was away; ends when `isOver` says so.
 export async function keepListening({ begin, hear, lost, isOver }) {
-  let wait = 250;
-  while (!isOver()) {
-    try {
-      await begin();
-      wait = 250;
-      await readNews(hear);
-      if (!isOver()) lost(new Fault(0, SILENT));
-    } catch (fault) {
-      const isBroken = fault instanceof TypeError || fault.name === "AbortError";
-      if (!(fault instanceof Fault) && !isBroken) throw fault;
-      lost(fault instanceof Fault ? fault : new Fault(0, SILENT));
-      if (fault.status === 401) return;
+  let [wait, late] = [SOON, 0];
+  for (;;) {
+    let fault = await begin().then(() => null, faultOf);
+    clearTimeout(late);
+    if (fault) {
+      lost(fault);
+      settle(fault);
+    } else {
+      [isKnown, times, wait] = [true, times + 1, SOON];
+      settle();
+      fault = await readNews(hear).catch(faultOf);
+      isKnown = false;
+      // an office that was away for a moment is not worth a word
+      if (fault?.status) lost(fault);
+      else late = setTimeout(() => isOver() || lost(new Fault(0, SILENT)), LATE);
     }
+    if (isOver() || fault?.status === NO_KEY) break;
     await pause(wait);
     wait = Math.min(wait * 2, 8000);
   }
+  isEnded = true;
+  settle(new Fault(0, SILENT));
 }

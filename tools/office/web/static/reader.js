@@ -1,6 +1,6 @@
 // The timetable as it stands, for who reads: weeks by name, live.
 import { announce, banner, el, fill, find, name } from "./dom.js";
-import { ask, keepListening, takeKey } from "./link.js";
+import { act, ask, keepListening, takeKey } from "./link.js";
 import { makeSearch } from "./search.js";
 import { Week } from "./week.js";
 
@@ -18,7 +18,7 @@ function draw(told) {
 }
 
 async function show(view) {
-  const found = await ask("show", { view }).catch(lost);
+  const found = await act("show", { view }).catch(lost);
   if (!found) return;
   draw(found.picture.week);
   week.setCursor(week.cursor, true);

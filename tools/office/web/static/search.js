@@ -5,7 +5,7 @@ const MOST = 40;
 const STEPS = { ArrowDown: 1, ArrowUp: -1, PageDown: 10, PageUp: -10 };
 
 class Search {
-  // choose(view) when a week is taken, back() when none is
+  // choose(view) when a week is taken, and back() then, or when none is
   constructor(choose, back) {
     Object.assign(this, { choose, back, all: [], found: [], at: 0 });
     this.input = find("search-input");
@@ -85,8 +85,14 @@ class Search {
   take(place) {
     const one = this.found[place];
     if (!one) return;
-    this.close();
     this.choose([one.kind, one.code]);
+    this.leave();
+  }
+
+  // the keyboard is the week's again at once, so that what is typed ahead has its effect there
+  leave() {
+    this.input.blur();
+    this.back();
   }
 
   press(event) {
@@ -95,10 +101,8 @@ class Search {
       this.at = Math.max(0, Math.min(this.found.length - 1, this.at + step));
       this.show();
     } else if (event.key === "Enter") this.take(this.at);
-    else if (event.key === "Escape") {
-      this.close();
-      this.back();
-    } else return;
+    else if (event.key === "Escape") this.leave();
+    else return;
     event.preventDefault();
     event.stopPropagation();
   }

@@ -4,10 +4,10 @@ import * as boxes from "./boxes.js";
 import { announce, banner, el, fill, find, name } from "./dom.js";
 import { makeHand } from "./hand.js";
 import { listenToKeys } from "./keys.js";
-import { ask, Fault, keepListening, takeKey } from "./link.js";
+import { act, ask, Fault, keepListening, takeKey } from "./link.js";
 import { Look } from "./look.js";
-import { menuInFront } from "./menu.js";
 import { keyOf } from "./numbers.js";
+import { makeQueue } from "./queue.js";
 import { makeSearch } from "./search.js";
 import * as side from "./side.js";
 import { toast, toastNotice } from "./toasts.js";
@@ -105,7 +105,7 @@ function take(found) {
   if (found.question !== undefined) {
     app.question = found.question;
     if (found.question) boxes.ask(found.question, acts);
-    else boxes.close();
+    else boxes.closeAsked();
   }
   if (found.notice) toastNotice(found.notice, acts);
 }
@@ -114,7 +114,7 @@ function take(found) {
 
 async function turn(verb, told = {}) {
   try {
-    const found = await ask(verb, told);
+    const found = await act(verb, told);
     take(found);
     return found;
   } catch (fault) {
@@ -123,24 +123,6 @@ async function turn(verb, told = {}) {
     announce(fault.message);
     return {};
   }
-}
-
-// acts one after another: what was pressed before has its effect first, and a key that was meant
-// for the week does nothing behind a box or a list that has come up meanwhile
-let last = Promise.resolve();
-
-function queue(act) {
-  const [question, menu] = [app.question, menuInFront()];
-  const isFree = () => app.question === question && (!menuInFront() || menuInFront() === menu);
-  const done = last.then(() => (isFree() ? act() : null));
-  // those behind one that fails have their turn all the same
-  last = done.catch(failed);
-  return last;
-}
-
-function failed(fault) {
-  console.error(fault);
-  toast("bad", "This page has failed at what was asked last; load it anew if it goes on so.");
 }
 
 // what the office says by itself
@@ -232,10 +214,11 @@ function build(found) {
   week = new Week(found, true);
   look = new Look(app, week);
   search = makeSearch(found.named, (view) => acts.show(view), () => acts.toWeek());
-  acts = makeActs({ app, week, turn, queue, look, search: () => search.focus() });
+  acts = makeActs({ app, week, turn, queue: makeQueue(app), look, search: () => search.focus() });
   look.acts = acts;
   hand = makeHand(week, acts);
   listenToKeys(acts, found.keys);
+  find("search-input").addEventListener("blur", boxes.askLater);
   setInterval(() => (app.closes || app.isOver) && drawBanner(), 1000);
 }
 

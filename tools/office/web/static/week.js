@@ -1,6 +1,6 @@
 // The week: days as columns, periods as rows. Cells stay, what is in them is drawn anew.
 import { card, cardSaid } from "./card.js";
-import { el, fill, find, name } from "./dom.js";
+import { el, fill, find, isTyping, name } from "./dom.js";
 import { heldParts, heldSaid } from "./held.js";
 import { keyOf, same } from "./numbers.js";
 
@@ -89,7 +89,7 @@ export class Week {
     const cell = this.cell(slot);
     cell.tabIndex = 0;
     cell.classList.add("at");
-    if (!focus) return;
+    if (!focus || isTyping()) return;
     cell.focus({ preventScroll: true });
     cell.scrollIntoView({ block: "nearest", inline: "nearest" });
   }

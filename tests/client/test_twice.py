@@ -1,0 +1,150 @@
+"""The runner of the tests: what has failed is run once more, and nothing breaks off the others."""
+import os
+import subprocess
+import sys
+import tempfile
+import textwrap
+import unittest
+
+from support import HERE
+
+# what the tests share: how often each has been run
+COUNTED = """
+import os, signal, time, unittest
+
+def count(name):
+    with open(os.path.join(os.environ["ROOM"], name), "a+") as file:
+        file.write("x")
+        file.seek(0)
+        return len(file.read())
+"""
+RUN = """
+import sys
+sys.path[:0] = [{tests!r}, {room!r}]
+import unittest, twice
+twice.PATIENCE, twice.AGAIN = {patience}, 1
+suite = unittest.TestLoader().discover({room!r})
+print(*twice.run_twice(suite))
+"""
+
+
+class Twice(unittest.TestCase):
+    def run_these(self, text, patience=60):
+        """Runs tests that are written here; what is printed, and how often each was run."""
+        with tempfile.TemporaryDirectory() as room:
+            with open(os.path.join(room, "test_drawn.py"), "w") as file:
+                file.write(COUNTED + textwrap.dedent(text))
+            run = RUN.format(tests=os.path.join(HERE, "tests"), room=room, patience=patience)
+            told = {**os.environ, "ROOM": room, "VERBOSE": ""}
+            done = subprocess.run(
+                [sys.executable, "-B", "-c", run],
+                capture_output=True,
+                text=True,
+                env=told,
+                timeout=120,
+            )
+            self.assertEqual((done.returncode, done.stderr), (0, ""), done.stdout)
+            counts = {}
+            for name in set(os.listdir(room)) - {"test_drawn.py"}:
+                counts[name] = os.path.getsize(os.path.join(room, name))
+            return done.stdout, counts
+
+    def test_each_end(self):
+        """Passed, passed at the second run, failed twice, skipped; the first fault is printed."""
+        printed, counts = self.run_these(
+            """
+            class One(unittest.TestCase):
+                def test_good(self):
+                    count("good")
+                def test_once(self):
+                    self.assertEqual(count("once"), 2, "the first fault")
+                def test_bad(self):
+                    self.fail(f"fault {count('bad')}")
+                def test_parts(self):
+                    for part in range(3):
+                        with self.subTest(part=part):
+                            self.assertNotEqual(count("parts"), 2, "a part")
+                @unittest.skip("lacking")
+                def test_skipped(self):
+                    count("skipped")
+            """
+        )
+        self.assertEqual(counts, {"good": 1, "once": 2, "bad": 2, "parts": 6})
+        lines = printed.split("\n")
+        name = "test_drawn.One.test_"
+        self.assertIn("the first fault", printed)
+        self.assertIn("fault 1", printed)
+        self.assertIn("1 skipped: lacking", lines)
+        self.assertIn(f"FAILED: {name}bad: AssertionError: fault 2", lines)
+        self.assertEqual(
+            lines[-3:], [f"2 needed a second run: {name}once, {name}parts", "3 1", ""]
+        )
+
+    def test_class(self):
+        """What is done once for a class is done again, for each of its tests alone."""
+        printed, counts = self.run_these(
+            """
+            class One(unittest.TestCase):
+                @classmethod
+                def setUpClass(cls):
+                    if count("begun") == 1:
+                        raise OSError("not yet")
+                def test_one(self):
+                    count("one")
+                def test_other(self):
+                    count("other")
+
+            class Other(unittest.TestCase):
+                def test_other(self):
+                    count("last")
+            """
+        )
+        self.assertEqual(counts, {"begun": 3, "one": 1, "other": 1, "last": 1})
+        self.assertIn("OSError: not yet", printed)
+        self.assertTrue(printed.endswith("\n3 0\n"), printed)
+
+    def test_hang(self):
+        """A test that hangs is broken off, also where it ends what it has begun."""
+        printed, counts = self.run_these(
+            """
+            class One(unittest.TestCase):
+                def test_hang(self):
+                    self.addCleanup(self.end, count("hang"))
+                    if count("other") == 1:
+                        time.sleep(100)
+                def end(self, number):
+                    if number == 1:
+                        time.sleep(100)
+                def test_last(self):
+                    count("last")
+            """,
+            patience=2,
+        )
+        self.assertEqual(counts, {"hang": 2, "other": 2, "last": 1})
+        self.assertEqual(printed.count("TooLate: the test did not end within"), 2)
+        self.assertTrue(printed.endswith("\n2 0\n"), printed)
+
+    def test_thrown_past_all(self):
+        """What is thrown where nobody catches it fails its test, and those behind it are run."""
+        printed, counts = self.run_these(
+            """
+            class One(unittest.TestCase):
+                @classmethod
+                def setUpClass(cls):
+                    cls.addClassCleanup(count, "ended")
+                def run(self, result=None):
+                    super().run(result)
+                def test_a(self):
+                    count("a")
+                def test_b(self):
+                    self.addCleanup(count, "cleaned")
+                    if count("b") == 1:
+                        self._outcome = None
+                        self.doCleanups = None
+                def test_c(self):
+                    count("c")
+            """
+        )
+        self.assertEqual({name: counts[name] for name in "abc"}, {"a": 1, "b": 2, "c": 1})
+        self.assertGreaterEqual(counts["ended"], 2)
+        self.assertIn("1 needed a second run: test_drawn.One.test_b\n3 0\n", printed)

@@ -1,0 +1,31 @@
+// Acts one after another: what was pressed before has its effect first, and a key that was meant
+// for the week does nothing behind a box or a list that has come up meanwhile.
+import { hasLater } from "./boxes.js";
+import { menuInFront } from "./menu.js";
+import { toast } from "./toasts.js";
+
+function failed(fault) {
+  console.error(fault);
+  toast("bad", "This page has failed at what was asked last; load it anew if it goes on so.");
+}
+
+export function makeQueue(app) {
+  let last = Promise.resolve();
+  let count = 0;
+  // so many are not done yet
+  const tell = (more) => {
+    count += more;
+    document.body.dataset.acts = String(count);
+  };
+  tell(0);
+  return (act) => {
+    // as they are seen
+    const [question, menu] = [hasLater() ? null : app.question, menuInFront()];
+    const isFree = () => app.question === question && (!menuInFront() || menuInFront() === menu);
+    tell(1);
+    const done = last.then(() => (isFree() ? act() : null));
+    // those behind one that fails have their turn all the same
+    last = done.catch(failed).then(() => tell(-1));
+    return done;
+  };
+}
