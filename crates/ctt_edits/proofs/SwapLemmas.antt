@@ -21,7 +21,7 @@ use Rattle.ctt_board.proofs.RoomLemmas.{is_at, room_is, room_after, find-filter,
 use Rattle.ctt_edits.specs.Edits.{or_else, fault_if, fault_alone, try_fault, fault_in_place_of, edit_fault}
 use Rattle.ctt_edits.specs.declared.edit.Edit.TheVariants.{Swap}
 use Rattle.ctt_edits.specs.declared.fault.EditFault.{EditFault}
-use Rattle.ctt_edits.specs.declared.fault.EditFault.TheVariants.{AlreadyThere, CourseFull, Unavailable, Barred, Clash, RoomTaken}
+use Rattle.ctt_edits.specs.declared.fault.EditFault.TheVariants.{AlreadyThere, CourseFull, Unavailable, Barred, Blocked, Clash, RoomTaken}
 
 -- the faults of a lecture in a free room that is not blocked
 abbrev in_place : Bool → Bool → Bool → Option ℕ → Option EditFault
