@@ -13,5 +13,6 @@ returns-in-Ok-clause-adds g c =
       c.in_ok-push-in-Ok.ensures.items,
       refl,
       row_of c.args.form (g.F.Files.held c.args.files.now) c.args.instance.now c.args.file _ row c.in-Ok.timetable.items _ _ _
-          named c.in-Ok.ensures.spelled c.deref.ensures.value judged.lawful judged.complete judged.hard judged.cost c.in_ok-cells_of-in-Ok.ensures,
+          named c.in-Ok.ensures.spelled c.deref.ensures.value judged.lawful judged.complete judged.hard judged.cost
+          (rw c.has_blocked.ensures at c.in_ok-cells_of-in-Ok.ensures),
     )
