@@ -166,14 +166,14 @@ line_of_one() {
     return 1
 }
 
-try_trials 'the trials' "$trials" 23
+try_trials 'the trials' "$trials" 29
 try_trials 'the trials of the program' "$program_trials" 26
 of_trials=$((passed + failed))
 done_without=0
 made_again=0
 names=$("$program" --help | sed -n '/^Commands:$/,/^$/s/^  \([a-z]*\) .*/\1/p')
 for words in 'check small.ctt s.sol --json --barred barred' 'check small.ctt small.ctt' \
-    'check small.ctt s.sol --json --blocked blocked --barred barred' 'check small.ctt s.sol --blocked barred' 'week small.ctt s.sol --blocked blocked' \
+    'check small.ctt s.sol --json --blocked blocked --barred barred' 'check small.ctt small.ctt --blocked barred' 'week small.ctt s.sol --blocked blocked' \
     'check small.ctt s.sol --explain' 'check small.ctt s.sol --explain --json' 'compare small.ctt s.sol small.ctt' 'week small.ctt s.sol' 'week small.ctt s.sol --course geo' \
     'page small.ctt s.sol' \
     'run small.ctt refreshed --barred barred --journal journal' 'run small.ctt refreshed --blocked blocked --journal journal' 'audit small.ctt told --start s0.sol' \
