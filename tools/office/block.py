@@ -1,5 +1,5 @@
-"""`office block`, `office unblock` and `office blocks`: when a room, a teacher or a course cannot be
-used, said by whoever keeps the office. The office that is open changes its rules by it."""
+"""`office block`, `office unblock` and `office blocks`: when a room, a teacher or a course cannot
+be used, said by whoever keeps the office. The office that is open changes its rules by it."""
 from __future__ import annotations
 
 import time

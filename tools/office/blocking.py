@@ -1,5 +1,5 @@
-"""A planner blocks a room, a teacher or a course from his seat, or lifts what is blocked. The office
-changes the rules by it, and tells all who sit who has done so, and why."""
+"""A planner blocks a room, a teacher or a course from his seat, or lifts what is blocked. The
+office changes the rules by it, and tells all who sit who has done so, and why."""
 from __future__ import annotations
 
 from typing import List, NamedTuple, Optional, Tuple

@@ -43,8 +43,12 @@ class Board:
         self.is_dead = False
         # the window is too small to see what a key does
         self.is_small = False
+        self.actions = self.acts()
+
+    def acts(self) -> Dict[str, Callable[[], Optional[Question]]]:
+        """What each action does, by its name."""
         drafting = self.work.drafting
-        self.actions: Dict[str, Callable[[], Optional[Question]]] = {
+        return {
             "pick up": self.pick_up,
             "swap": self.swap,
             "missing": self.list_missing,
@@ -319,10 +323,6 @@ class Board:
     def step_over(self) -> None:
         """Goes on in the next part of the day."""
         self.rules.step_over()
-
-    def forget_drawn(self) -> None:
-        """What was seen is no more."""
-        self.drawn = Drawn()
 
     def put_aside(self) -> None:
         self.work.carry = None

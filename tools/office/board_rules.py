@@ -5,6 +5,7 @@ from __future__ import annotations
 from typing import TYPE_CHECKING, Callable, Optional
 
 from office.blocking import Choice
+from office.drawn import Drawn
 from office.notice import say
 from office.overlays import Chooser, CommitBox, Overlay, Typed
 
@@ -46,7 +47,7 @@ class BoardRules:
         board, front = self.board, self.board.overlay
         board.overlay = None
         question = board.work.step_over()
-        board.forget_drawn()
+        board.drawn = Drawn()
         self.keep(front)
         board.ask(question)
         if board.overlay is None:

@@ -12,6 +12,7 @@ from office import processes
 from office.at_work import end_work
 from office.costs import costs_in_words
 from office.folder import Day, write_whole
+from office.new_part import rules_after
 from office.parts import Part, half_made, parts_of
 from office.pipes import remove_pipes
 from office.program import Left
@@ -142,5 +143,7 @@ def write_end(day: Day) -> int:
     print(f"cost before {costs_in_words(before)}")
     print(f"cost after  {costs_in_words(after)}")
     print(f"missing lectures {after['lectures']}")
+    if rules_after(last, last.instance()) is not None:
+        print("what was blocked or lifted last is no rule of this day, and holds on a day after it")
     print(f"written: {journals}, {day.audit}, {day.end}")
     return 0

@@ -79,8 +79,8 @@ ACTIONS = (
         "block",
         "B",
         "",
-        "blocks the room, the teacher or the course at the cursor, in the slot, on its day or on all "
-        "days, with a reason; or lifts what is blocked there. The rules change for all.",
+        "blocks the room, the teacher or the course at the cursor, in the slot, on its day or on "
+        "all days, with a reason; or lifts what is blocked there. The rules change for all.",
     ),
     Action("who", "i", "who", "lists who sits where, on what he works, and since when."),
     Action("undo", "u", "undo", "takes the last edit of the draft back."),

@@ -1,5 +1,5 @@
-"""`office open DAY` of a day whose desk has ended, or was killed: the day goes on with another part.
-A change of rules that was broken off is made again."""
+"""`office open DAY` of a day whose desk has ended, or was killed: the day goes on with another
+part. A change of rules that was broken off is made again."""
 from __future__ import annotations
 
 import contextlib

@@ -22,8 +22,9 @@ from office.saying import say
 # how many seconds those who sit have when the office is closed by a signal, and for the way to the
 # next part of the day
 GRACE, STEP = 10.0, 5.0
-# how many seconds pass between two looks for what is blocked
-PACE = 0.25
+# how many seconds pass between two looks for what is blocked, and until rules that could not be
+# written are tried again
+PACE, LATER, NEVER = 0.25, 10.0, float("inf")
 
 
 class Running:
@@ -35,8 +36,9 @@ class Running:
         self.program: List[str] = []
         self.seats = HeldSeats()
         self.desk: Optional[subprocess.Popen[bytes]] = None
-        # how long the closures were when it was looked whether they change the rules
-        self.looked = -1
+        # how long the closures were when it was looked whether they change the rules, and when it
+        # is looked again although they are as long as then
+        self.looked, self.again = -1, NEVER
 
     def note(self, stage: str) -> None:
         """Notes in the lock's file how far the office is."""
@@ -83,7 +85,7 @@ class Running:
         assert self.desk is not None
         while self.desk.poll() is None and not self.signals.count:
             self.signals.wait(PACE)
-            if closures_size(self.day) != self.looked:
+            if closures_size(self.day) != self.looked or time.monotonic() > self.again:
                 self.look()
         if self.desk.poll() is None:
             self.close(self.desk)
@@ -119,7 +121,7 @@ class Running:
 
     def look(self) -> None:
         """Changes the rules, if something is blocked or lifted since they were made."""
-        self.looked = closures_size(self.day)
+        self.looked, self.again = closures_size(self.day), NEVER
         taken = rules_after(self.part, self.part.instance())
         if taken is not None:
             self.change(taken)
@@ -132,7 +134,9 @@ class Running:
         try:
             new.begin(taken)
         except (Refused, OSError) as fault:
-            say(f"the rules stay as they are: {fault or 'the program does not read the new ones'}")
+            told = str(fault) or "the program does not read the new ones"
+            say(f"the rules stay as they are, for now: {told}")
+            self.again = time.monotonic() + LATER
             return
         say("the rules change: the desk ends, and another one opens")
         self.note(CHANGING)
@@ -140,7 +144,17 @@ class Running:
         self.signals.check()
         self.end_desk()
         self.desk = None
-        self.part = new.make()
+        try:
+            self.part = new.make()
+            self.begin_part()
+        except (Refused, OSError):
+            path = self.day.path
+            say(f"the day stops: office open {path} goes on with it, office close {path} ends it")
+            raise
+        say(f"open again, with part {self.part.number} of the day")
+
+    def begin_part(self) -> None:
+        """Opens the desk of a part that was made just now."""
         for planner in range(self.planners):
             # who was at work says so again
             end_work(self.day, planner)
@@ -148,4 +162,3 @@ class Running:
             os.remove(self.day.failing)
         self.seats = HeldSeats()
         self.start(REOPENING)
-        say(f"open again, with part {self.part.number} of the day")
