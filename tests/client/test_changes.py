@@ -88,6 +88,37 @@ class Changes(OfficeTest):
         )
         self.assertIn("open, seats", said[3])
 
+    def test_closures_go_on(self):
+        """What is blocked stays so, but what the changed instance has no more."""
+        changed = self.changed(("geo", "geometry"), ("\nA 25", "\nC 25"))
+        entries = "Blocked: 4 room A 0 * teacher t1 * 1 course geo 1 1 course top 0 0 END."
+        said, _ = self.follow(changed, "--blocked", self.write("closed", entries))
+        self.assertEqual(
+            said[:2],
+            [
+                "office: not blocked any more: room A 0 *: there is no such thing\n",
+                "office: not blocked any more: course geo 1 1: there is no such thing\n",
+            ],
+        )
+        with open(self.path("tuesday/blocked")) as file:
+            self.assertEqual(file.read(), "Blocked: 2\ncourse top 0 0\nteacher t1 * 1\nEND.\n")
+        printed = self.office("blocks", self.path("tuesday"))[1]
+        self.assertRegex(printed, r"^t1 is blocked each day in period 2 \(.*\), 20.*\ntop is blocked ")
+
+    def test_something_else_is_blocked(self):
+        self.before("--start", SMALL_SOL, "--blocked", self.write("one", "Blocked: 0 END."))
+        entries = self.write("two", "Blocked: 3 room A 0 1 teacher t1 1 * room A 0 1 END.")
+        after = ["--after", self.path("monday"), "--blocked", entries]
+        office = self.start("open", self.path("tuesday"), *after)
+        said = [office.stderr.readline() for _ in range(4)]
+        self.assertRegex(said[0], r"set aside alg, day 2, period 1, B: t1 is blocked then \(.*\)\n$")
+        self.assertRegex(said[1], r"set aside geo, day 1, period 2, A: A is blocked then \(.*\)\n$")
+        self.assertIn("office: 2 lectures set aside", said[2])
+        self.assertIn("open, seats", said[3])
+        self.assertEqual(self.sit("tuesday", 0, "show missing\n"), ["missing 2 alg 1 geo 1"])
+        with open(self.path("tuesday/closures")) as file:
+            self.assertEqual(len(file.readlines()), 2)
+
     def test_wrong_instance(self):
         changed = self.changed(("END.", "geo"))
         self.before()

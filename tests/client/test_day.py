@@ -73,6 +73,19 @@ class Refusals(OfficeTest):
             3,
             f"office: cannot read {nowhere}: No such file or directory\n",
         )
+        blocked = ["--blocked", self.write("blocked", "Blocked: 1 room A 0 1 END.")]
+        self.refused(
+            [SMALL, "2", "--start", SMALL_SOL, *blocked], 1, "timedesk: opening 3 blocked\n"
+        )
+        self.refused([SMALL, "2", "--blocked", SMALL], 1, "timedesk: blocked L3 1\n")
+        self.refused(
+            [SMALL, "2", "--blocked", SMALL, "--barred", SMALL], 1, "timedesk: barred B3 1\n"
+        )
+        self.refused(
+            [SMALL, "2", "--blocked", nowhere],
+            3,
+            f"office: cannot read {nowhere}: No such file or directory\n",
+        )
         self.refused([SMALL, "2", "--start", clash], 1, "timedesk: opening 2 clash alg\n")
         self.refused([SMALL, "2", "--barred", bad], 1, "timedesk: barred B3 1\n")
         self.refused([SMALL, "0"], 3, "office: planners are 1 to 64\n")

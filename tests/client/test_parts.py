@@ -326,6 +326,24 @@ class Lines(Parts):
         self.assertEqual(ask("show price place alg A 0 0"), "refused blocked")
 
 
+    def test_who_comes_back(self):
+        """A draft that was left open is made again for who sits down by lines."""
+        self.process = self.open("day", SMALL, "1", "--start", SMALL_SOL)
+        self.day = Day(self.path("day"))
+        self.sit("day", 0, f"open\n{MOVE}\n{REROOM}\n", "--name", "anna")
+        self.block()
+        self.assertTrue(wait_until(lambda: len(parts_of(self.day)) == 2 and self.day.is_ready()))
+        words = ["sit", self.path("day"), "0", "--name", "anna"]
+        status, printed, told = self.office(*words, text="status\nopen\n")
+        self.assertEqual((status, printed), (0, "draft 1 0 fresh\nalready open\n"))
+        self.assertEqual(
+            told,
+            "office: your draft is made again: 1 of 2 edits\n"
+            f"office: not made again: {REROOM}: refused blocked\n",
+        )
+        self.assertEqual(self.office(*words, text="status\n"), (0, "draft 1 0 fresh\n", ""))
+
+
 class Whole(Parts):
     """The day as one."""
 

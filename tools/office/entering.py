@@ -1,9 +1,9 @@
 """How a planner's client goes from one part of a day to the next."""
 from __future__ import annotations
 
-from typing import TYPE_CHECKING, List
+from typing import TYPE_CHECKING
 
-from office.parts import Change, change_of
+from office.parts import change_of
 
 if TYPE_CHECKING:
     from office.reading import Reading
@@ -29,14 +29,12 @@ def read_parts(reading: Reading) -> None:
         reading.read_minutes()
 
 
-def enter(reading: Reading) -> List[Change]:
-    """Goes on in the next part of the day as soon as its desk is there, and answers how it has come
-    about, which may be by several changes. The story of the seat has what the draft was."""
-    seen, seat = len(reading.changes), reading.seat
-    seat.leave_desk()
-    seat.enter()
+def enter(reading: Reading) -> None:
+    """Goes on in the next part of the day as soon as its desk is there. The story of the seat has
+    what the draft was."""
+    reading.seat.leave_desk()
+    reading.seat.enter()
     reading.begin_part()
     read_parts(reading)
     reading.read_newest()
     reading.courtesies.keep_own(False, [])
-    return reading.changes[seen:]

@@ -42,8 +42,10 @@ class Reading:
         self.instance = copy.copy(instance or instance_of(seat.day))
         self.minutes = DayMinutes(seat.day)
         self.known = Known(self.instance, self.minutes.part.lectures())
-        # how the parts of the day but the first one have come about, as far as they are read
+        # how the parts of the day but the first one have come about, as far as they are read, and
+        # of how many of these the planner was told
         self.changes: List[Change] = []
+        self.told = 0
         self.news = News(seat.day)
         self.courtesies = Courtesies(seat)
         self.notice: Notice = NOTHING
@@ -128,6 +130,7 @@ class Reading:
         read_parts(self)
         self.read_newest()
         self.has_begun = True
+        self.told = len(self.changes)
         self._meet()
         self.courtesies.begin()
         if answer.startswith("draft "):

@@ -16,7 +16,7 @@ from office.folder import Day
 from office.processes import Alarm
 from office.program import HERE
 from office.refused import MACHINE
-from office.plain_steps import step_over
+from office.plain_steps import make_again, step_over
 from office.seat import DEAD, DeskEnded, Gone, NoAnswer, Seat
 from office.words import decoded, encoded
 
@@ -87,6 +87,7 @@ class PlainSitting:
     def begin(self) -> None:
         for answer in self.seat.catch_up():
             self.show(answer)
+        make_again(self.seat, say)
         if sys.stdin.isatty():
             self.tell_owner()
             self.tell_earlier()

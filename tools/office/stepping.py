@@ -39,8 +39,11 @@ class Stepped(NamedTuple):
 def step_over(planning: Planning) -> Stepped:
     """Goes on in the next part of the day, as soon as its desk is there: what was open is made
     again. Raises `DeskEnded` if the office has ended instead."""
-    changes = enter(planning)
-    stepped = Stepped(changes, make_again(planning))
+    enter(planning)
+    remade = make_again(planning)
+    # a change during which the desk has ended once more is told with the next one
+    stepped = Stepped(planning.changes[planning.told :], remade)
+    planning.told = len(planning.changes)
     planning.notice = told_of(stepped)
     return stepped
 
