@@ -13,7 +13,7 @@ sys.dont_write_bytecode = True
 from office import new_part, running  # noqa: E402
 from office.main import main  # noqa: E402
 
-AT = int(os.environ["KILL_AT"])
+AT, OFFICE = int(os.environ["KILL_AT"]), os.getpid()
 EVENTS = ("os.rename", "os.remove", "os.mkdir", "os.rmdir", "os.chmod", "subprocess.Popen")
 WRAPPED = ("fsync", "pwrite", "ftruncate", "write", "mkfifo", "close")
 
@@ -25,7 +25,7 @@ class Steps:
     count = 0
 
     def take(self, what):
-        if not self.is_counting:
+        if not self.is_counting or os.getpid() != OFFICE:
             return
         self.count += 1
         with_steps = os.environ.get("STEPS")

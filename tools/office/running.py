@@ -42,8 +42,10 @@ class Running:
 
     def note(self, stage: str) -> None:
         """Notes in the lock's file how far the office is."""
-        desk = self.desk.pid if self.desk is not None else "-"
-        text = f"{os.getpid()} {desk} {stage}\n".encode()
+        self._note(os.getpid(), str(self.desk.pid) if self.desk is not None else "-", stage)
+
+    def _note(self, office: int, desk: str, stage: str) -> None:
+        text = f"{office} {desk} {stage}\n".encode()
         os.pwrite(self.lock, text, 0)
         os.ftruncate(self.lock, len(text))
 
@@ -54,11 +56,15 @@ class Running:
         part, paths = self.part, [self.day.seat(planner) for planner in range(self.planners)]
         self.seats.make(paths)
         words = [*self.program, "desk", self.day.instance, *paths, *part.start_words()]
+        office = os.getpid()
+
+        def begin() -> None:
+            # should the office be killed now, it is known who has its lock
+            self._note(office, str(os.getpid()), stage)
+
         # the desk has the lock too: as long as it goes on, no other office opens here
-        self.desk = desk = processes.start(
-            [*words, "--minutes", part.minutes], None, keep=[self.lock]
-        )
-        self.note(stage)
+        words += ["--minutes", part.minutes]
+        self.desk = desk = processes.start(words, None, keep=[self.lock], preexec_fn=begin)
         self.wait_for_seats(desk)
         self.note(OPEN)
 
