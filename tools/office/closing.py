@@ -19,8 +19,9 @@ from office.program import Left
 from office.refused import CONTENT, Refused
 from office.text import counted
 
-# how many seconds the office has to end behind those who sat
-SLACK = 10.0
+# how many seconds the office has to end behind those who sat; those who sit at a desk that a killed
+# office has left go by themselves, and have so many
+SLACK, GOING = 10.0, 3.0
 
 
 def close_day(day: Day, seconds: float) -> int:
@@ -47,7 +48,7 @@ def end_office(day: Day, seconds: float) -> None:
     for number in numbers[:1]:
         send(number, signal.SIGTERM)
     print(f"office: the office closes; who sits has {round(seconds)} seconds", flush=True)
-    slack = SLACK if numbers and processes.is_alive(numbers[0]) else 0.0
+    slack = SLACK if numbers and processes.is_alive(numbers[0]) else GOING
     while day.is_open() and time.time() < until + slack:
         time.sleep(0.05)
     if day.is_open():
