@@ -13,8 +13,6 @@ from office.closures import (
     closures_path,
     closures_size,
     lifted_now,
-    read_closures,
-    standing,
     standing_of,
 )
 from office.folder import Day
@@ -141,7 +139,7 @@ def print_unblock(day: Day, words: List[str], why: str) -> int:
     must_be_open(day)
     labels, instance = read_labels(day.path), instance_of(day)
     wording, scope = Wording({}, labels), find_scope(words, instance, labels)
-    found = standing(read_closures(day))
+    found = standing_of(day, instance)
     if not any(scope.covers(one.scope) for one in found):
         told = f"{wording.name(scope.kind, scope.name)} is not blocked {wording.when(scope)}"
         wider = [one for one in found if one.scope.covers(scope)]
