@@ -75,7 +75,7 @@ class Asked(Shared):
         for action in ACTIONS:
             if action.name in done_by_the_page() | set(ELSEWHERE) | {"leave"}:
                 continue
-            status, found = self.ask("act", {"name": action.name})
+            status, found = self.ask("act", {"name": action.name, "at": [0, 0]})
             self.assertEqual(status, 200, (action.name, found))
         status, found = self.ask("print")
         self.assertEqual(status, 200, found)

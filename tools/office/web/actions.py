@@ -47,6 +47,8 @@ BUTTONS = {
     "compare": "Compare with…",
     "go on": "Go on all the same",
     "unpin": "Take the pin off",
+    "block": "Block it",
+    "seen": "Go on",
 }
 
 

@@ -4,10 +4,12 @@ from __future__ import annotations
 
 from typing import Any, Dict, List
 
+from office.blocked import by_told, closure_told, reason_told
 from office.carry import SWAP, Carry, Offer
 from office.costs import read_costs
-from office.notice import NOTHING, say
+from office.notice import NOTHING, Notice, say
 from office.planning import Planning
+from office.scope import Closure
 from office.text import counted
 from office.timetable import Lecture, Slot
 from office.web.frame import Frame
@@ -45,6 +47,9 @@ class Picture:
             "costs": planning.costs(),
             "missing": self.missing(),
             "draft": self.draft() if planning.is_open else None,
+            "blocked": self.wording.lines(
+                [closure_told(one) for one in self.planning.instance.closures]
+            ),
             "ended": [self.wording.edit(edit) for edit in planning.ended()],
             "alarm": self.alarm(),
         }
@@ -72,7 +77,11 @@ class Picture:
 
     def missing(self) -> List[Data]:
         return [
-            {"count": count, **self.frame.course(name)}
+            {
+                "count": count,
+                "stood": [self.wording.place(one) for one in self.work.stood(name)],
+                **self.frame.course(name),
+            }
             for name, count in self.planning.missing().items()
         ]
 
@@ -85,7 +94,7 @@ class Picture:
         told = [
             self.cell(slot, cell, gone.get(slot, []), newest.get(slot, []))
             for slot, cell in cells.items()
-            if cell.lectures or cell.is_mine or cell.is_others or cell.is_closed
+            if cell.lectures or cell.is_mine or cell.is_others or cell.is_closed or cell.blocked
         ]
         missing = self.planning.missing()
         count = sum(missing.get(course, 0) for course in courses_of_view(instance, view))
@@ -114,7 +123,7 @@ class Picture:
                 for one, signs in zip(cell.lectures, cell.signs)
             ],
             "mine": cell.is_mine,
-            "others": [self.wording.notice(changed.data["who"])] if changed else [],
+            "others": self.who_changed(changed) if changed else [],
             "changed": self.wording.notice(changed) if changed else "",
             # what stands there for all others, if that is not what is drawn
             "now": [brief(one) for one in newest]
@@ -124,7 +133,22 @@ class Picture:
             "gone": [brief(one) for one in gone] if cell.is_mine else [],
             "working": sorted({self.wording.safe(one.name) for one in cell.at_work}),
             "pinned": bool(cell.pins),
+            "blocked": [self.blocked(one) for one in cell.blocked],
         }
+
+    def blocked(self, closure: Closure) -> Data:
+        """Why a slot is blocked, in few words, and with by whom and when."""
+        return {
+            "why": self.wording.safe(closure.why),
+            "text": self.wording.notice(reason_told(closure)),
+        }
+
+    def who_changed(self, changed: Notice) -> List[str]:
+        """Who has changed a slot: by a draft, or by what he has blocked."""
+        if "who" in changed.data:
+            return [self.wording.notice(changed.data["who"])]
+        closures = [one for change in self.planning.changes[-1:] for one in change.closures]
+        return sorted({self.wording.notice(by_told(one)) for one in closures})
 
     def gone(self) -> Dict[Slot, List[Lecture]]:
         """The lectures that the draft has moved out of the slots of the week."""
@@ -163,6 +187,7 @@ class Picture:
         cell = self.work.cells()[lecture.slot]
         changed = self.work.changed_here(lecture.slot) if cell.is_others else None
         told = [*([changed] if changed else []), *self.work.knowing.told_of(cell)]
+        told += [reason_told(one) for one in cell.blocked]
         return {
             "course": lecture.course,
             "said": wording.course(lecture.course),

@@ -4,11 +4,12 @@ from __future__ import annotations
 from functools import partial
 from typing import Any, Callable, Dict, List, NamedTuple, Optional, Tuple
 
+from office.blocking import Choice as Blocked
 from office.drafting import Box
 from office.notice import Notice, Question, say
 from office.planning import Planning
 from office.shifts import shifts_of
-from office.timetable import Lecture
+from office.timetable import Lecture, Slot
 from office.variants import Variant
 from office.web.guard import Fault
 from office.work import Work
@@ -95,6 +96,28 @@ class Asking:
             title = say("one course", course=lecture.course)
             self.shown.ask(Question(title), Line("Why is it pinned?", "pin", take))
         return question
+
+    def block(self, lecture: Optional[Lecture], slot: Slot) -> Optional[Question]:
+        """Lists what can be blocked or lifted where the cursor is."""
+        found = self.work.blocking.choices(self.work.view, lecture, slot)
+        if not found:
+            self.work.notice = say("nothing to block")
+            return None
+        choices: List[Choice] = [(one.told, partial(self.take_block, one)) for one in found]
+        return Question(say("what to block"), choices=choices)
+
+    def take_block(self, one: Blocked) -> None:
+        """Lifts what was chosen, or asks why it is to be blocked."""
+        blocking = self.work.blocking
+        if one.lifts is not None:
+            blocking.lift(one.scope)
+            return
+
+        def take(why: str) -> None:
+            blocking.block(one.scope, why)
+
+        line = Line("Why? (all who plan see it)", "block", take)
+        self.shown.ask(Question(one.told), line)
 
     def put_aside(self) -> None:
         """Puts the edits of the draft aside under a name."""

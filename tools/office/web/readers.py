@@ -2,17 +2,17 @@
 from __future__ import annotations
 
 import contextlib
+import copy
 from typing import Any, Dict, Optional
 
 from office.folder import Day
-from office.instance import Instance, read_solution
-from office.minutes import Minutes
+from office.parts import DayMinutes
 from office.timetable import Timetable
 from office.web.frame import Frame
 from office.web.guard import Fault
 from office.web.verbs import Told
 from office.web.windows import Window, Windows
-from office.week import View, all_views, by_slot, of_view
+from office.week import View, all_views, blocked_at, by_slot, of_view
 
 # so many may read at once
 MOST = 200
@@ -25,22 +25,34 @@ class Readers:
     def __init__(self, day: Day, frame: Frame) -> None:
         self.frame = frame
         self.windows = Windows(MOST)
-        self.minutes = Minutes(day.minutes)
-        start = read_solution(day.start) if "--start" in day.start_words() else []
-        self.timetable = Timetable(frame.instance, start)
+        self.minutes = DayMinutes(day)
         self.pictures = 0
+        self._begin()
         self._read_on()
 
-    @property
-    def instance(self) -> Instance:
-        return self.frame.instance
+    def _begin(self) -> None:
+        """Takes up the start and the rules of a part of the day."""
+        part = self.minutes.part
+        self.instance = copy.copy(self.frame.instance)
+        self.instance.block(part.closures(self.instance))
+        self.timetable = Timetable(self.instance, part.lectures())
 
     def _read_on(self) -> bool:
-        entries = self.minutes.read_on()
-        for entry in entries:
-            for edit in entry.edits():
-                self.timetable.try_edit(edit)
-        return bool(entries)
+        """Reads what is new, through all parts of the day that are there; answers whether anything
+        is."""
+        is_new = False
+        while True:
+            # what a part has is whole once the next one is there
+            is_last = self.minutes.part.is_last()
+            entries = self.minutes.read_on()
+            for entry in entries:
+                for edit in entry.edits():
+                    self.timetable.try_edit(edit)
+            is_new = is_new or bool(entries) or not is_last
+            if is_last:
+                return is_new
+            self.minutes.step()
+            self._begin()
 
     async def answer(self, window: Window, verb: str, data: Data) -> Data:
         told = Told(self.instance, data)
@@ -62,16 +74,19 @@ class Readers:
         self.pictures += 1
         closed = self.instance.closed[view.name] if view.kind == "course" else set()
         lectures = by_slot(of_view(self.timetable, view))
+        blocked = {one for one in self.instance.slots() if blocked_at(self.instance, view, one)}
         blank: Data = {"mine": False, "others": [], "now": None, "gone": [], "working": []}
         cells = [
             {
                 "at": slot,
                 "lectures": [self.frame.lecture(one) for one in lectures.get(slot, [])],
                 "closed": slot in closed,
+                # who reads is told neither why nor by whom
+                "blocked": [{"why": "", "text": "blocked"}] if slot in blocked else [],
                 **blank,
             }
             for slot in self.instance.slots()
-            if slot in lectures or slot in closed
+            if slot in lectures or slot in closed or slot in blocked
         ]
         title = self.frame.wording.name(*view)
         week = {"view": view, "title": title, "about": self.frame.about(view), "cells": cells}
@@ -79,7 +94,7 @@ class Readers:
 
     async def look(self) -> None:
         self.windows.drop_silent()
-        if self.minutes.has_grown() and self._read_on():
+        if self.minutes.has_more() and self._read_on():
             for window in self.windows.all():
                 if window.is_listening:
                     window.tell({"picture": self.picture(window)})

@@ -5,9 +5,9 @@ from __future__ import annotations
 import asyncio
 import contextlib
 from concurrent.futures import ThreadPoolExecutor
+from functools import partial
 from typing import Any, Callable, Dict, List, Optional
 
-from office.carry import MOVE, PLACE, SWAP
 from office.costs import COSTS
 from office.folder import Day, is_locked
 from office.notice import NOTHING, Question, say
@@ -15,21 +15,25 @@ from office.planning import Planning
 from office.print_week import page_of
 from office.refused import Refused
 from office.seat import DEAD, DeskEnded, NoAnswer, Seat, read_sitter
+from office.stepping import waiting_told
 from office.web.actions import key_table
 from office.web.answers import Picture
 from office.web.asking import WHY, Shown
 from office.web.frame import Frame
 from office.web.guard import Fault
-from office.web.telling import news_data, notice_data, question_data
-from office.web.verbs import CHANGES, VERBS, Told, Turn
+from office.web.heard import Heard, last_news
+from office.web.telling import notice_data, question_data
+from office.web.verbs import CHANGES, VERBS, Told, Turn, hold_again
 from office.web.windows import Window, Windows
 from office.work import Work
 
 # so many requests of a seat may wait for their turn; a seat without a window is left after so many
-# seconds; so many drafts are told when a window begins; letters of a name
-WAIT, IDLE, DRAFTS, NAME = 16, 30.0, 40, 40
+# seconds; letters of a name
+WAIT, IDLE, NAME = 16, 30.0, 40
 # the status of a seat whose desk has ended or does not answer
 LOST = 503
+# what changes nothing
+LOOKS = ("show", "next_week", "about", "print", "close")
 FAREWELL = (
     "The office has closed: what you have committed is on the disk, and open edits are offered "
     "again on the next day."
@@ -45,10 +49,6 @@ class Sitter:
         self.windows = Windows()
         self.planning: Optional[Planning] = None
         self.name = ""
-        # how many accepted drafts the windows have heard of, what they have heard of the last ones,
-        # and how long the notes of commits were then
-        self.heard = self.notes = 0
-        self.told_news: Dict[int, Data] = {}
         # what is asked of who has sat down, until it is answered in one of his windows
         self.first: Optional[Question] = None
         # by how much each edit of the draft has changed the cost when it was made
@@ -67,18 +67,21 @@ class Sitter:
             self.loop = asyncio.get_running_loop()
             found = await self.do(lambda: self._hello(window, data))
         else:
-            found = await self.do(lambda: self._turn(window, verb, data))
+            found = await self.do(lambda: self._turn(window, verb, data), verb in LOOKS)
         for other, event in found.pop("others", []):
             other.tell(event)
         return found
 
-    async def do(self, work: Callable[[], Data]) -> Data:
-        """Does something at the seat, one thing at a time."""
+    async def do(self, work: Callable[[], Data], is_look: bool = True) -> Data:
+        """Does something at the seat, one thing at a time. If the rules change meanwhile, a look is
+        a look at the next part of the day, and an act is not done."""
         if self._waiting >= WAIT:
             raise Fault(429, "too many requests wait at this seat")
         self._waiting += 1
         try:
-            return await asyncio.get_running_loop().run_in_executor(self._thread, self._do, work)
+            return await asyncio.get_running_loop().run_in_executor(
+                self._thread, self._do, work, is_look
+            )
         except Fault as fault:
             if fault.status == LOST:
                 # all windows hear it, whichever of them has asked
@@ -91,17 +94,22 @@ class Sitter:
                 self._is_slow = False
                 self.tell({"waits": ""})
 
-    def _do(self, work: Callable[[], Data]) -> Data:
+    def _do(self, work: Callable[[], Data], is_look: bool) -> Data:
         try:
-            return work()
+            if is_look or not self._is_over():
+                return work()
+            self._step_over()
+            return {}
         except Refused as refused:
             raise Fault(409, refused.reason) from None
-        except DeskEnded:
+        except (DeskEnded, NoAnswer) as fault:
+            with contextlib.suppress(DeskEnded, NoAnswer):
+                if self._is_over():
+                    self._step_over()
+                    return work() if is_look else {}
             self._go()
-            raise Fault(LOST, DEAD) from None
-        except NoAnswer:
-            self._go()
-            raise Fault(LOST, "the desk does not answer") from None
+            told = DEAD if isinstance(fault, DeskEnded) else "the desk does not answer"
+            raise Fault(LOST, told) from None
 
     # in the seat's thread
 
@@ -120,7 +128,7 @@ class Sitter:
         with contextlib.suppress(Fault):
             shown.work.show(told.view())
         with contextlib.suppress(Fault):
-            self._hold_again(shown, data.get("held"))
+            hold_again(shown, self.frame.instance, data.get("held"))
         if self.first is not None:
             shown.ask(self.first)
         return {
@@ -130,26 +138,16 @@ class Sitter:
             "parts": COSTS,
             "farewell": FAREWELL,
             **self.frame.told(),
-            "news": self._news(planning),
+            "news": last_news(planning, self.frame.wording),
             "picture": self._picture(shown),
             "question": question_data(self.frame.wording, shown),
             "notice": self._notice(),
         }
 
-    def _hold_again(self, shown: Shown, held: Any) -> None:
-        """What was held when this server was another one is held again."""
-        if not isinstance(held, dict) or shown.work.carry is not None:
-            return
-        told = Told(self.frame.instance, {"lecture": held})
-        if held.get("kind") == PLACE:
-            shown.work.pick_up_missing(told.course(held.get("course")))
-        elif held.get("kind") in (MOVE, SWAP):
-            shown.work.pick_up(told.lecture(), held["kind"])
-
     def _sit(self, name: str) -> None:
         seat = Seat(self.day, self.planner, name)
         planning = Planning(seat, self.frame.instance)
-        seat.waits = self._tell_waiting
+        seat.waits = partial(self._tell_waiting, seat)
         try:
             self.begun = Work(planning)
             self.first = self.begun.begin()
@@ -157,14 +155,12 @@ class Sitter:
             seat.go()
             raise
         self.planning, self.name = planning, name
-        self.heard = max(0, len(planning.news.accepted) - DRAFTS)
+        self.heard = Heard(planning, self.frame.wording)
         self.prices.clear()
-        self.told_news.clear()
-        self._new_news(planning)
 
-    def _tell_waiting(self, seconds: float) -> None:
+    def _tell_waiting(self, seat: Seat, seconds: float) -> None:
         """The windows are told that the desk does not answer; this runs in the seat's thread."""
-        told = self.frame.wording.notice(say("no answer yet", seconds=round(seconds)))
+        told = self.frame.wording.notice(waiting_told(seat, seconds))
         self._is_slow = True
         self.loop.call_soon_threadsafe(self.tell, {"waits": told})
 
@@ -209,6 +205,30 @@ class Sitter:
             found["others"] = self._pictures(window)
             found["committed"] = len(planning.seat.story.accepted) > accepted
         return found
+
+    # from one part of the day to the next
+
+    def _is_over(self) -> bool:
+        return self.planning is not None and self.planning.seat.is_over()
+
+    def _step_over(self) -> None:
+        """Goes on in the next part of the day as soon as its desk is there: a draft that was open is
+        made again, what was picked up is put back. What is to be read is so where nothing else is
+        in front."""
+        question = self.begun.step_over()
+        assert self.planning is not None
+        self.planning.alarm = NOTHING
+        for window in self.windows.all():
+            shown = self._shown(window)
+            shown.work.carry = None
+            if question is not None and shown.question is None:
+                shown.ask(question)
+            if not window.is_listening:
+                continue
+            told: Data = {"notice": self._notice(), "picture": self._picture(shown)}
+            if shown.question in (None, question):
+                told["question"] = question_data(self.frame.wording, shown)
+            self.loop.call_soon_threadsafe(window.tell, told)
 
     def _print(self, shown: Shown) -> Data:
         """The week that is seen as a page that needs nothing else."""
@@ -279,32 +299,14 @@ class Sitter:
         planning = self.planning
         if planning is None:
             return {"others": [], "news": []}
+        if self._is_over():
+            self._step_over()
         if planning.seat.has_more():
             # nothing was asked: the desk has ended
             planning.seat.read(0)
         is_new = planning.tick()
-        news = self._new_news(planning)
+        news = self.heard.read_on()
         return {"news": news, "others": self._pictures() if news or is_new else []}
-
-    def _new_news(self, planning: Planning) -> List[Data]:
-        """Drafts that were accepted since, and those of which more is known by now: a reason is
-        written behind its commit."""
-        notes, self.notes = self.notes, planning.news.read_notes()
-        first = self.heard if notes == self.notes else max(0, self.heard - DRAFTS)
-        accepted = planning.news.accepted[first:]
-        self.heard = len(planning.news.accepted)
-        found = {
-            one["number"]: one
-            for one in (news_data(planning, self.frame.wording, each) for each in accepted)
-        }
-        new = [one for number, one in found.items() if self.told_news.get(number) != one]
-        self.told_news.update(found)
-        return new
-
-    def _news(self, planning: Planning) -> List[Data]:
-        """The last drafts that were accepted."""
-        found = planning.news.accepted[-DRAFTS:]
-        return [news_data(planning, self.frame.wording, one) for one in found]
 
     async def rename(self) -> None:
         """Tells the windows what things are called now."""
@@ -317,7 +319,7 @@ class Sitter:
     def _renamed(self) -> Data:
         if self.planning is None:
             return {"others": []}
-        told = {"names": self.frame.told(), "accepted": self._news(self.planning)}
+        told = {"names": self.frame.told(), "accepted": last_news(self.planning, self.frame.wording)}
         return {"others": [(window, {**event, **told}) for window, event in self._pictures()]}
 
     def tell(self, event: Data) -> None:

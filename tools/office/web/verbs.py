@@ -4,7 +4,7 @@ from __future__ import annotations
 
 from typing import Any, Callable, Dict, List, Optional
 
-from office.carry import MOVE, SWAP, Offer
+from office.carry import MOVE, PLACE, SWAP, Offer
 from office.instance import Instance
 from office.notice import Question, say
 from office.timetable import Lecture, Slot
@@ -162,6 +162,7 @@ class Turn:
             "undo": drafting.undo,
             "history": lambda: self.work.drafts_of(self.told.lecture()),
             "pin": lambda: asking.pin(self.told.lecture()),
+            "block": lambda: asking.block(self.told.lecture(), self.told.slot("at")),
             "who": self.work.knowing.who_is_where,
             "undo undo": drafting.undo_undo,
             "put aside": asking.put_aside,
@@ -183,6 +184,17 @@ class Turn:
         if name not in LOOKS:
             self.work.carry = None
         return acts[name]()
+
+
+def hold_again(shown: Shown, instance: Instance, held: Any) -> None:
+    """What was held when the server was another one is held again."""
+    if not isinstance(held, dict) or shown.work.carry is not None:
+        return
+    told = Told(instance, {"lecture": held})
+    if held.get("kind") == PLACE:
+        shown.work.pick_up_missing(told.course(held.get("course")))
+    elif held.get("kind") in (MOVE, SWAP):
+        shown.work.pick_up(told.lecture(), held["kind"])
 
 
 VERBS: Dict[str, Callable[[Turn], Optional[Question]]] = {

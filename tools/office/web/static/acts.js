@@ -170,7 +170,7 @@ class Acts {
       next: () => this.rooms(slot, lecture),
       "lay down": () => this.layDown(),
     }[name];
-    return own ? own() : this.turn("act", { name, lecture });
+    return own ? own() : this.turn("act", { name, lecture, at: slot });
   }
 }
 

@@ -63,11 +63,12 @@ export function drawInspector(app, week, acts) {
   }
   // what is about to be told takes the same room
   if (here) return refill(box, el("div", { css: { "--hue": here.hue } }, title(here.said, "")));
-  const changed = week.at(week.cursor).changed;
+  const { changed, blocked = [] } = week.at(week.cursor);
   return refill(
     box,
     el("h2", {}, name(week.said(week.cursor))),
     changed ? line(changed) : null,
+    blocked.map(({ text }) => line(text)),
     el("p", { cls: "hint" }, "Nothing stands here. Choose a lecture and press ", key("Enter")),
     el("p", { cls: "hint" }, "to see what each slot costs, or drag it there.")
   );

@@ -62,6 +62,7 @@ function drawState() {
   side.drawCosts(app);
   side.drawDraft(app, acts);
   side.drawMissing(app, acts);
+  side.drawBlocked(app);
   drawBanner();
 }
 

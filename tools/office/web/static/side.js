@@ -154,6 +154,7 @@ export function drawMissing({ picture }, acts) {
           el("span", { cls: "grip", "aria-hidden": "true" }, "⠿")
         ),
         el("span", { cls: "line place" }, `${one.count} missing`, name(one.teacher_said)),
+        one.stood.map((place) => el("span", { cls: "line foot" }, "stood on ", name(place))),
         el("span", { cls: "line foot" }, counted(one.students, "student")),
       ],
       () => acts.place(one.course),
@@ -171,6 +172,15 @@ export function drawMissing({ picture }, acts) {
     el("ul", { cls: "to-place" }, missing.slice(0, COURSES).map((one) => el("li", {}, card(one)))),
     rest > 0 ? el("p", { cls: "hint" }, `and ${rest} other courses`) : null
   );
+}
+
+// what is blocked, below all others, so that it moves none
+
+export function drawBlocked({ picture }) {
+  const { blocked } = picture.state;
+  const box = find("blocked");
+  box.hidden = blocked.length === 0;
+  refill(box, title("Blocked", blocked.length), el("ul", {}, blocked.map(told)));
 }
 
 // what was accepted

@@ -4,7 +4,7 @@ import { el, fill, find, isTyping, name } from "./dom.js";
 import { heldParts, heldSaid } from "./held.js";
 import { keyOf, same } from "./numbers.js";
 
-const EMPTY = { lectures: [], others: [], gone: [], now: null, working: [] };
+const EMPTY = { lectures: [], others: [], gone: [], now: null, working: [], blocked: [] };
 
 export class Week {
   // slots: for each day what each of its periods is called
@@ -110,7 +110,7 @@ export class Week {
       cell.classList.toggle("at", same(slot, this.cursor));
       cell.classList.toggle("mine", !!one.mine);
       cell.classList.toggle("theirs", one.others.length > 0);
-      cell.classList.toggle("closed", !!one.closed);
+      cell.classList.toggle("closed", !!one.closed || one.blocked.length > 0);
       cell.classList.toggle("fresh", !!who && recent.has(key));
       const parts = held
         ? heldParts(cell, one, held, offers.get(key), week.view)
@@ -131,6 +131,7 @@ export class Week {
     }
     if (now) return news;
     if (one.gone.length) return [el("div", { cls: "ghost" }, "was ", name(one.gone.join(", ")))];
+    if (one.blocked.length) return one.blocked.map(blockedText);
     return one.closed ? [el("span", { cls: "closed-text" }, "closed")] : [];
   }
 
@@ -143,9 +144,16 @@ export class Week {
     if (one.mine) parts.push("changed in your draft");
     if (who) parts.push(`changed by ${who}`);
     if (one.pinned) parts.push("pinned");
+    parts.push(...one.blocked.map(({ text }) => text));
     if (one.working.length) parts.push(`${one.working.join(", ")} works on it`);
     return parts.join(". ");
   }
+}
+
+// a slot that is blocked, and why
+function blockedText({ why, text }) {
+  const told = why ? [": ", name(why)] : null;
+  return el("span", { cls: "closed-text blocked-text", title: text }, "blocked", told);
 }
 
 // who works on what stands in a slot, and whether it is pinned

@@ -1,0 +1,113 @@
+"""What is blocked, in browsers: the key, what is seen of it, and how the seats go on when the rules
+of the day change."""
+from served import (
+    BOX,
+    COMP07,
+    COMP07_SOL,
+    DONE,
+    EDITS,
+    BrowserTest,
+    cell,
+    skip_without_browser,
+)
+
+# a lecture of c0109 in r01, where it is cheapest, and one in r12
+FROM, BEST = (4, 1), (4, 3)
+HELD = "return !!document.querySelector('#week.holding')"
+
+
+@skip_without_browser
+class Blocked(BrowserTest):
+    def setUp(self):
+        super().setUp()
+        self.open("day", COMP07, "3", "--start", COMP07_SOL)
+        self.serve("day")
+
+    def block(self, browser, told, why):
+        """Blocks by the key, at the cursor."""
+        browser.press("B")
+        browser.sees("What is to be blocked", "#box")
+        browser.type(told)
+        browser.press("Enter")
+        browser.wait("return !!document.getElementById('why')")
+        browser.type(why)
+        browser.press("Enter")
+
+    def test_key(self):
+        """A room is blocked on a day, with a reason: all are told by whom, what stood there is
+        missing, the slots say so, and are never offered; and it is lifted."""
+        anna, ben = self.planner(), self.planner("seat 1", "ben")
+        self.show(anna, "r04")
+        anna.click(cell(BEST))
+        self.show(ben, "c0109")
+        self.block(anna, "block r04 day 5", "heating")
+        for one in (anna, ben):
+            one.sees("r04 is blocked on day 5: heating (anna at seat 0)", "#said")
+            one.sees("r04 is blocked on day 5: heating", "#blocked")
+        ben.click(cell(FROM))
+        ben.press("Enter")
+        ben.wait(HELD)
+        self.assertNotIn("r04", ben.text(cell(BEST)))
+        ben.press("Escape")
+        ben.wait(f"return !({HELD[7:]}) && {DONE[7:]}")
+        self.show(ben, "r04")
+        for period in range(5):
+            ben.sees("blocked: heating", cell((4, period)))
+        ben.click(cell(BEST))
+        ben.sees("r04 is blocked here: heating (anna at seat 0", "#inspector")
+        reader = self.browser()
+        reader.go(self.links["reader"])
+        reader.wait("return performance.getEntriesByName('ready').length > 0")
+        self.show(reader, "r04")
+        reader.sees("blocked", cell(BEST))
+        self.assertNotIn("heating", reader.run("return document.documentElement.outerHTML"))
+        ben.press("B")
+        ben.sees("lift", "#box")
+        ben.type("lift r04")
+        ben.press("Enter")
+        for one in (anna, ben):
+            one.sees("r04 is open again on day 5", "#said")
+        for one in (anna, ben, reader):
+            self.is_clean(one)
+
+    def test_draft_goes_on(self):
+        """Rules that change under an open draft: it is made again, what was refused is told with its
+        reason, what was set aside is missing, with where it stood; a reason that is being typed
+        stays."""
+        anna, ben = self.planner(), self.planner("seat 1", "ben")
+        self.show(anna, "c0109")
+        self.move(anna, FROM, BEST)
+        self.show(ben, "c0097")
+        ben.click("#week .card")
+        ben.press("x")
+        ben.sees("missing 1", "#costs")
+        ben.press("c")
+        ben.wait(BOX)
+        ben.type("a rea")
+        status, printed, said = self.office(
+            "block", self.path("day"), "room", "r04", "5", "--why", "heating"
+        )
+        self.assertEqual((status, said), (0, ""), printed)
+        anna.sees("0 of 1 edits made again", "#box")
+        anna.sees("r04 is blocked then: heating", "#box")
+        anna.press("Enter")
+        anna.wait(f"return !({BOX[7:]})")
+        anna.sees("stood on day 5", "#missing")
+        self.assertEqual(ben.run("return document.getElementById('why').value"), "a rea")
+        ben.sees("r04 is blocked on day 5: heating", "#said")
+        ben.type("son")
+        ben.press("Enter")
+        ben.sees("Committed as draft 1", "#said")
+        anna.sees("“a reason”", "#news")
+        # a draft in the new part of the day
+        anna.click(cell(FROM))
+        anna.press("Enter")
+        anna.wait(HELD)
+        anna.press("b", "Enter")
+        anna.sees("your draft: 1 edit", "#costs")
+        self.assertEqual(anna.run(EDITS), 1)
+        self.committed(anna)
+        for one in (anna, ben):
+            self.is_clean(one)
+        printed = self.office("close", self.path("day"), "--wait", "0")[1]
+        self.assertIn("2 drafts accepted in 2 parts, the audit agrees", printed)
