@@ -25,12 +25,20 @@ class Blocked(BrowserTest):
 
     def block(self, browser, told, why):
         """Blocks by the key, at the cursor."""
-        browser.press("B")
-        browser.sees("What is to be blocked", "#box")
-        browser.type(told)
-        browser.press("Enter")
+        self.choose(browser, told)
         browser.wait("return !!document.getElementById('why')")
         browser.type(why)
+        browser.press("Enter")
+
+    def choose(self, browser, told):
+        """Chooses what is to be blocked or lifted at the cursor."""
+        browser.press("B")
+        browser.sees(told, "#box")
+        browser.run(
+            "[...document.querySelectorAll('.choice')]"
+            ".find((one) => one.innerText.startsWith(arguments[0])).focus()",
+            told,
+        )
         browser.press("Enter")
 
     def test_key(self):
@@ -40,10 +48,15 @@ class Blocked(BrowserTest):
         self.show(anna, "r04")
         anna.click(cell(BEST))
         self.show(ben, "c0109")
-        self.block(anna, "block r04 day 5", "heating")
+        self.block(anna, "block r04 on day 5 (4 lectures", "heating")
         for one in (anna, ben):
             one.sees("r04 is blocked on day 5: heating (anna at seat 0)", "#said")
+            one.sees("4 lectures are missing now", "#said")
             one.sees("r04 is blocked on day 5: heating", "#blocked")
+            one.sees("stood on day 5", "#box")
+            one.press("Enter")
+            one.wait(f"return !({BOX[7:]})")
+            one.sees("missing 4", "#costs")
         ben.click(cell(FROM))
         ben.press("Enter")
         ben.wait(HELD)
@@ -61,10 +74,7 @@ class Blocked(BrowserTest):
         self.show(reader, "r04")
         reader.sees("blocked", cell(BEST))
         self.assertNotIn("heating", reader.run("return document.documentElement.outerHTML"))
-        ben.press("B")
-        ben.sees("lift", "#box")
-        ben.type("lift r04")
-        ben.press("Enter")
+        self.choose(ben, "lift: r04")
         for one in (anna, ben):
             one.sees("r04 is open again on day 5", "#said")
         for one in (anna, ben, reader):
