@@ -101,6 +101,7 @@ class Hand(BrowserTest):
         self.show(anna, "c0109")
         self.pick_up(anna, FROM)
         anna.sees("−257", cell(BEST))
+        anna.sees("Cheapest: −257 in r04", "#inspector")
         self.show(ben, "r04")
         ben.click(cell((1, 4)))
         self.sit("day", 2, "open\nswap c0109 4 1 c0078 3 1\ncommit\n", "--name", "cleo")

@@ -15,6 +15,9 @@ from served import (
     wait_until,
 )
 
+from office.commit_notes import CommitNote, keep_commit_note
+from office.folder import Day
+
 # a lecture of c0109, where it is cheapest, and what ben does with it
 FROM, BEST = (4, 1), (4, 3)
 # a clock that is an hour ahead
@@ -225,6 +228,11 @@ class Seats(BrowserTest):
         self.move(anna, FROM, BEST)
         self.sit("day", 1, BEN, "--name", "ben")
         anna.sees("ben", "#news")
+        # a reason that is written a little later
+        note = CommitNote(1, "2026-11-30T10:15:00.000+0100", 1, "ben", "exam")
+        keep_commit_note(Day(self.path("day")), note)
+        anna.sees("“exam”", "#news")
+        self.assertEqual(anna.run("return document.querySelectorAll('.drafts > li').length"), 1)
         self.is_clean(anna)
 
     def test_killed_during_a_commit(self):

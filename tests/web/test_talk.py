@@ -15,6 +15,8 @@ from served import (
     wait_until,
 )
 
+from office.commit_notes import CommitNote, keep_commit_note
+from office.folder import Day
 from office.minutes import read_minutes
 
 FROM, BEST = (4, 1), (4, 3)
@@ -214,6 +216,22 @@ class Talk(WebTest):
             self.assertTrue(self.next_event(answer, "over")["over"])
             self.assertEqual(closing.wait(60), 0)
         self.assertTrue(wait_until(lambda: self.server.poll() is not None))
+
+    def test_reason_that_comes_later(self):
+        """A reason is written behind its commit, perhaps after the news of it; it is told then."""
+        self.ask("hello", {"name": "anna"})
+        connection = http.client.HTTPConnection(self.address(), timeout=30)
+        with contextlib.closing(connection):
+            connection.request("GET", "/api/news", headers=dict(self.asking(self.key())))
+            answer = connection.getresponse()
+            self.sit("day", 1, "open\nmove c0109 3 2 r09 3 3\ncommit\n", "--name", "ben")
+            self.assertEqual(self.next_event(answer, "news")["news"][0]["why"], "")
+            note = CommitNote(1, "2026-11-30T10:15:00.000+0100", 1, "ben", "exam")
+            keep_commit_note(Day(self.path("day")), note)
+            # what he does meanwhile reads it, too
+            self.ask("act", {"name": "who"})
+            found = self.next_event(answer, "news")["news"]
+            self.assertEqual([(one["number"], one["why"]) for one in found], [(1, "exam")])
 
     def test_desk_dies(self):
         """Each window hears that the desk has died, also if a request was the first to find out."""

@@ -56,15 +56,21 @@ class News:
         """Takes up an accepted draft."""
         self.accepted.append(Accepted(entry, shifts, heard))
 
-    def told(self, accepted: Accepted) -> Told:
-        """By whom, when and why a draft was committed: by the notes of commits, else by the logs,
-        as far as they are open to this planner, else who sits there now, and when it was heard
-        of."""
+    def read_notes(self) -> int:
+        """Reads the notes of commits, if there are others than before, and answers how long they
+        are: by that one knows whether more may be known of a draft than was told."""
         size = file_size(notes_path(self.day))
         if size != self._size:
             self._size = size
             for note in read_commit_notes(self.day).values():
                 self._told[note.number] = Told(note.name, note.time, note.why)
+        return size
+
+    def told(self, accepted: Accepted) -> Told:
+        """By whom, when and why a draft was committed: by the notes of commits, else by the logs,
+        as far as they are open to this planner, else who sits there now, and when it was heard
+        of."""
+        self.read_notes()
         if accepted.entry.number not in self._told:
             self._read_logs()
         return self._told[accepted.entry.number]

@@ -11,6 +11,8 @@ from office.week import View, courses_of_view
 from office.wording import Wording
 
 Data = Dict[str, Any]
+# what is said with a sign: a price, and those of the parts
+PRICES = ("price", "parts")
 # hues that are told apart, in an order in which the first few lie far from each other
 HUES = (215, 30, 150, 275, 345, 95, 185, 55, 310, 245, 125, 0)
 
@@ -22,7 +24,11 @@ def isolated(name: str) -> str:
 
 
 class PageWording(Wording):
-    """Words with arrows at which no line is broken."""
+    """Words with arrows at which no line is broken, and prices with the sign that the page has."""
+
+    def value(self, name: str, value: Any) -> Any:
+        found = super().value(name, value)
+        return found.replace("-", "\N{MINUS SIGN}") if name in PRICES else found
 
     def shifts(self, shifts: Sequence[Shift]) -> str:
         return super().shifts(shifts).replace(" -> ", " → ").replace(" <-> ", " ⇄ ")

@@ -45,8 +45,10 @@ class Sitter:
         self.windows = Windows()
         self.planning: Optional[Planning] = None
         self.name = ""
-        # how many accepted drafts the windows have heard of
-        self.heard = 0
+        # how many accepted drafts the windows have heard of, what they have heard of the last ones,
+        # and how long the notes of commits were then
+        self.heard = self.notes = 0
+        self.told_news: Dict[int, Data] = {}
         # what is asked of who has sat down, until it is answered in one of his windows
         self.first: Optional[Question] = None
         # by how much each edit of the draft has changed the cost when it was made
@@ -154,8 +156,11 @@ class Sitter:
         except BaseException:
             seat.go()
             raise
-        self.planning, self.name, self.heard = planning, name, len(planning.news.accepted)
+        self.planning, self.name = planning, name
+        self.heard = max(0, len(planning.news.accepted) - DRAFTS)
         self.prices.clear()
+        self.told_news.clear()
+        self._new_news(planning)
 
     def _tell_waiting(self, seconds: float) -> None:
         """The windows are told that the desk does not answer; this runs in the seat's thread."""
@@ -278,10 +283,23 @@ class Sitter:
             # nothing was asked: the desk has ended
             planning.seat.read(0)
         is_new = planning.tick()
-        new = planning.news.accepted[self.heard :]
-        self.heard += len(new)
-        news = [news_data(planning, self.frame.wording, one) for one in new]
-        return {"news": news, "others": self._pictures() if new or is_new else []}
+        news = self._new_news(planning)
+        return {"news": news, "others": self._pictures() if news or is_new else []}
+
+    def _new_news(self, planning: Planning) -> List[Data]:
+        """Drafts that were accepted since, and those of which more is known by now: a reason is
+        written behind its commit."""
+        notes, self.notes = self.notes, planning.news.read_notes()
+        first = self.heard if notes == self.notes else max(0, self.heard - DRAFTS)
+        accepted = planning.news.accepted[first:]
+        self.heard = len(planning.news.accepted)
+        found = {
+            one["number"]: one
+            for one in (news_data(planning, self.frame.wording, each) for each in accepted)
+        }
+        new = [one for number, one in found.items() if self.told_news.get(number) != one]
+        self.told_news.update(found)
+        return new
 
     def _news(self, planning: Planning) -> List[Data]:
         """The last drafts that were accepted."""

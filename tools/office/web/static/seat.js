@@ -151,7 +151,13 @@ function rename({ names, accepted }) {
 }
 
 function tellNews(one) {
-  if (app.news.some((known) => known.number === one.number)) return;
+  // who has committed it, and why, may be known a little later
+  const at = app.news.findIndex((known) => known.number === one.number);
+  if (at >= 0) app.news[at] = one;
+  else newsOf(one);
+}
+
+function newsOf(one) {
   app.news.push(one);
   if (one.seat === app.day.seat) return;
   app.unseen.add(one.number);
