@@ -225,6 +225,12 @@ class Whole(Publishing):
         self.sit("day", 0, "open\nmove geo 1 2 A 1 1\ncommit\n")
         self.assertTrue(wait_until(lambda: os.readlink(site).endswith("/2")))
         self.assertIn(MOVED.replace(">", "&gt;"), self.tree()["changes.html"].decode())
+        # what is blocked is published as what is committed
+        self.office("block", day, "room", "B", "1")
+        self.assertTrue(wait_until(lambda: os.readlink(site).endswith("/3")))
+        self.assertNotIn("top", self.tree()["room/B.html"].decode().split("<body")[1])
+        self.sit("day", 0, "open\nplace top A 1 2\ncommit\n")
+        self.assertTrue(wait_until(lambda: os.readlink(site).endswith("/4")))
         self.office("close", day, "--wait", "0")
         self.assertEqual(office.wait(PATIENCE), 0)
         self.assertEqual(follower.wait(PATIENCE), 0)

@@ -20,6 +20,9 @@ EXAMPLES = """a day, and the next one:
   office status monday
   office close monday
   office open tuesday --after monday
+a room is closed, and open again:
+  office block monday room r04 wed --why "heating"
+  office unblock monday room r04
 what was done, and taken back:
   office log monday c0109
   office diff monday tuesday --teacher t005
