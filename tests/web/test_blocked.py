@@ -77,6 +77,9 @@ class Blocked(BrowserTest):
         self.choose(ben, "lift: r04")
         for one in (anna, ben):
             one.sees("r04 is open again on day 5", "#said")
+            one.wait("return document.getElementById('blocked').hidden")
+        for one in (ben, reader):
+            one.wait("return !document.querySelector('#week .blocked-text')")
         for one in (anna, ben, reader):
             self.is_clean(one)
 

@@ -18,7 +18,7 @@ def last_news(planning: Planning, wording: Wording) -> List[Data]:
 
 
 class Heard:
-    """How many accepted drafts the windows of a planner have heard of, and what of the last ones."""
+    """How many drafts the windows of a planner have heard of, and what of the last ones."""
 
     def __init__(self, planning: Planning, wording: Wording) -> None:
         self.planning, self.wording = planning, wording
