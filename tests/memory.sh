@@ -167,7 +167,7 @@ line_of_one() {
 }
 
 try_trials 'the trials' "$trials" 29
-try_trials 'the trials of the program' "$program_trials" 26
+try_trials 'the trials of the program' "$program_trials" 34
 of_trials=$((passed + failed))
 done_without=0
 made_again=0
