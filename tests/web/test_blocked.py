@@ -84,9 +84,9 @@ class Blocked(BrowserTest):
             self.is_clean(one)
 
     def test_draft_goes_on(self):
-        """Rules that change under an open draft: it is made again, what was refused is told with its
-        reason, what was set aside is missing, with where it stood; a reason that is being typed
-        stays."""
+        """Rules that change under an open draft: it is made again, what was refused is told with
+        its reason, what was set aside is missing, with where it stood; a reason that is being
+        typed stays."""
         anna, ben = self.planner(), self.planner("seat 1", "ben")
         self.show(anna, "c0109")
         self.move(anna, FROM, BEST)

@@ -47,7 +47,7 @@ class Hand(BrowserTest):
         self.is_clean(anna)
 
     def test_dragged_before_the_answer(self):
-        """A drag that begins before the office has answered the one before has its turn behind it."""
+        """A drag that begins before the office has answered the one before waits for its turn."""
         anna = self.planner()
         self.show(anna, "c0109")
         self.server.send_signal(signal.SIGSTOP)

@@ -212,9 +212,9 @@ class Sitter:
         return self.planning is not None and self.planning.seat.is_over()
 
     def _step_over(self) -> None:
-        """Goes on in the next part of the day as soon as its desk is there: a draft that was open is
-        made again, what was picked up is put back. What is to be read is so where nothing else is
-        in front."""
+        """Goes on in the next part of the day as soon as its desk is there: a draft that was open
+        is made again, what was picked up is put back. What is to be read is so where nothing else
+        is in front."""
         question = self.begun.step_over()
         assert self.planning is not None
         self.planning.alarm = NOTHING
@@ -319,7 +319,8 @@ class Sitter:
     def _renamed(self) -> Data:
         if self.planning is None:
             return {"others": []}
-        told = {"names": self.frame.told(), "accepted": last_news(self.planning, self.frame.wording)}
+        accepted = last_news(self.planning, self.frame.wording)
+        told = {"names": self.frame.told(), "accepted": accepted}
         return {"others": [(window, {**event, **told}) for window, event in self._pictures()]}
 
     def tell(self, event: Data) -> None:
