@@ -93,6 +93,15 @@ class WebTest(OfficeTest):
         )
         return status, json.loads(text)
 
+    def next_event(self, answer, name):
+        """The next news of a kind."""
+        while True:
+            line = answer.readline()
+            if not line:
+                self.fail(f"no {name} has come")
+            if line.strip() and name in json.loads(line):
+                return json.loads(line)
+
     def raw(self, text, seconds=15):
         """What is answered to these bytes, until the connection is closed."""
         host, port = self.address().split(":")

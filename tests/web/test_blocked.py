@@ -1,5 +1,9 @@
 """What is blocked, in browsers: the key, what is seen of it, and how the seats go on when the rules
 of the day change."""
+import contextlib
+import http.client
+import signal
+
 from served import (
     BOX,
     COMP07,
@@ -7,13 +11,64 @@ from served import (
     DONE,
     EDITS,
     BrowserTest,
+    WebTest,
     cell,
     skip_without_browser,
+    skip_without_tornado,
 )
 
 # a lecture of c0109 in r01, where it is cheapest, and one in r12
 FROM, BEST = (4, 1), (4, 3)
 HELD = "return !!document.querySelector('#week.holding')"
+
+
+@skip_without_tornado
+class Asked(WebTest):
+    def setUp(self):
+        super().setUp()
+        self.open("day", COMP07, "3", "--start", COMP07_SOL)
+        self.server = self.serve("day")
+
+    def test_act_that_comes_too_late(self):
+        """What is asked when the rules have changed, and before the page knows it, is not done; the
+        page hears of the change, and what is asked then is done under the new rules."""
+        lecture = {"course": "c0109", "room": "r01", "at": FROM}
+        self.ask("hello", {"name": "anna"})
+        connection = http.client.HTTPConnection(self.address(), timeout=60)
+        with contextlib.closing(connection):
+            connection.request("GET", "/api/news", headers=dict(self.asking(self.key())))
+            answer = connection.getresponse()
+            self.ask("take_out", {"lecture": lecture})
+            self.assertIn("r04", self.offered(4))
+            for why in ("heating", "paint"):
+                self.server.send_signal(signal.SIGSTOP)
+                words = ["block", self.path("day"), "room", "r04", "5" if why == "heating" else "4"]
+                self.assertEqual(self.office(*words, "--why", why)[0], 0)
+                self.server.send_signal(signal.SIGCONT)
+                self.assertEqual(self.ask("pick_up_missing", {"course": "c0109"})[0], 200)
+                notice = self.next_event(answer, "notice")["notice"]
+                self.assertIn(f": {why} (", notice["text"])
+                self.assertIn("your draft is made again: 1 of 1 edits", notice["text"])
+            self.assertNotIn("r04", self.offered(4) | self.offered(3))
+
+    def offered(self, day):
+        """The rooms that are offered on a day for what is missing of c0109."""
+        held = self.ask("pick_up_missing", {"course": "c0109"})[1]["picture"]["held"]
+        slots = [one for one in held["slots"] if one["at"][0] == day]
+        return {code for one in slots for _, code, _ in one["offers"]}
+
+    def test_block_that_is_asked(self):
+        """What is blocked is chosen of what was told; where nothing can be blocked it is said."""
+        self.ask("hello", {"name": "anna"})
+        self.ask("show", {"view": ["curriculum", "q000"]})
+        found = self.ask("act", {"name": "block", "at": [0, 0]})[1]
+        self.assertEqual(found["notice"]["code"], "nothing to block")
+        self.assertEqual(self.ask("act", {"name": "block", "at": [0, 99]})[0], 400)
+        self.ask("show", {"view": ["room", "r04"]})
+        question = self.ask("act", {"name": "block", "at": [0, 0]})[1]["question"]
+        self.assertIn("block r04 on day 1, period 1", question["choices"][0])
+        asked = {"question": question["number"], "choice": 9}
+        self.assertEqual(self.ask("answer", asked)[0], 400)
 
 
 @skip_without_browser

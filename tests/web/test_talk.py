@@ -251,14 +251,6 @@ class Talk(WebTest):
             told = "committed drafts are on the disk"
             self.assertIn(told, self.next_event(answer, "fault")["fault"])
 
-    def next_event(self, answer, name):
-        while True:
-            line = answer.readline()
-            if not line:
-                self.fail(f"no {name} has come")
-            if line.strip() and name in json.loads(line):
-                return json.loads(line)
-
 
 @skip_without_tornado
 class Small(WebTest):
