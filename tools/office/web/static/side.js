@@ -154,7 +154,9 @@ export function drawMissing({ picture }, acts) {
           el("span", { cls: "grip", "aria-hidden": "true" }, "⠿")
         ),
         el("span", { cls: "line place" }, `${one.count} missing`, name(one.teacher_said)),
-        one.stood.map((place) => el("span", { cls: "line foot" }, "stood on ", name(place))),
+        one.stood.map((place) =>
+          el("span", { cls: "line foot" }, el("span", {}, "stood on ", name(place)))
+        ),
         el("span", { cls: "line foot" }, counted(one.students, "student")),
       ],
       () => acts.place(one.course),
