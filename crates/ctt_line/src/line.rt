@@ -8,17 +8,21 @@ use itoa::Buffer;
 use std::alloc::AllocError;
 
 /// Appends a word.
+#[inline(always)]
+#[tactic(auto, using(std::proofs::lemmas::Fmt::decimal_digit))]
 fn push_word(text: &mut String, word: &Word<'_>) -> Result<(), AllocError>
     ensures { OnOk result (string_bytes text.new ≡ string_bytes text.old ++ word.now) }
 {
     match word.form() {
         Form::Text(word) => text.push_str(word),
+        Form::Number(number) if number < 10 => text.push((b'0' + number as u8) as char),
         Form::Number(number) => text.push_str(Buffer::new().format(number)),
         Form::Amount(amount) => text.push_str(Buffer::new().format(amount)),
     }
 }
 
 /// Appends words, with a blank before each.
+#[inline(always)]
 pub fn push_words(text: &mut String, words: &[Word<'_>]) -> Result<(), AllocError>
     ensures { OnOk result (string_bytes text.new
         ≡ string_bytes text.old ++ words_part words.now) }
