@@ -9,8 +9,8 @@ use crate::marks::Marks;
 use std::alloc::{AllocError, Global};
 use std::marker::Model;
 
-/// A table of bits: which of the numbers below `width` are marked in each row. It has at most 2,000
-/// rows of at most 2,000 numbers. A row occupies whole words of 64 bits, and the rows are
+/// A table of bits: which of the numbers below `width` are marked in each row. It has at most
+/// 20,000 rows of at most 2,000 numbers. A row occupies whole words of 64 bits, and the rows are
 /// contiguous.
 #[derive(Drop)]
 pub struct BitRows {
@@ -41,7 +41,7 @@ fn words_for(width: usize) -> usize
 impl BitRows {
     /// Returns a table without marks. Fails if memory runs out.
     pub fn new(alloc: Global, rows: usize, width: usize) -> Result<Self, AllocError>
-        requires rows { rows ≤ 2000 }
+        requires rows { rows ≤ 20000 }
         requires width { width ≤ 2000 }
         ensures size { IfOk result (λ b. HasSize b rows width) }
         ensures marks { IfOk result (λ b. (row n : ℕ) → is_marked_in b row n ≡ false) }

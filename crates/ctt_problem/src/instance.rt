@@ -1,8 +1,8 @@
 //! An instance of the timetabling problem.
 
-ghost use Rattle.std.specs.Prelude.{◌≡◌, ◌<◌, ◌≤◌, ◌*◌, ◌&&◌, ℕ, length, nat_lt, IfSome};
+ghost use Rattle.std.specs.Prelude.{◌≡◌, ◌<◌, ◌≤◌, ◌*◌, ◌&&◌, ℕ, length, nat_lt};
 ghost use Rattle.std.specs.List.{AllByRecursion as Each};
-ghost use Rattle.ctt_problem.specs.Problem.{IsProblem, course_of, capacity_of, members, course_count, room_count, teacher_count, curriculum_count, slot_count, slot_of, day_of, period_of, clash, is_unavailable, is_barred, has_barred, is_blocked, has_blocked, IsSmall, AreMembers};
+ghost use Rattle.ctt_problem.specs.Problem.{IsProblem, course_of, capacity_of, members, course_count, room_count, teacher_count, curriculum_count, slot_count, slot_of, day_of, period_of, clash, is_unavailable, is_barred, has_barred, IsSmall, AreMembers};
 ghost use Rattle.ctt_problem.specs.Marks.{is_marked};
 ghost use Rattle.ctt_problem.specs.BitRows.{marks_of, HasSize};
 ghost use Rattle.ctt_problem.specs.Named.{IsNamed};
@@ -304,35 +304,6 @@ impl Instance {
         ensures { result ≡ has_barred self.now }
     {
         self.barred.has_marks()
-    }
-
-    /// Returns whether a room is blocked in a slot.
-    pub fn blocked(&self, room: RoomNo, slot: SlotNo) -> bool
-        requires room { room < room_count self.now }
-        requires slot { slot < slot_count self.now }
-        ensures { result ≡ is_blocked self.now room slot }
-    {
-        self.blocked
-            .is_marked(room.get() as usize, slot.get() as usize)
-    }
-
-    /// Blocks the courses in the slots that the first table marks, and the rooms in those that the
-    /// second one marks, and no others. What the text of the instance lists as unavailable stays.
-    pub fn set_blocked(&mut self, closed: BitRows, blocked: BitRows)
-        requires closed { HasSize closed (course_count self.old) (slot_count self.old) }
-        requires blocked { HasSize blocked (room_count self.old) (slot_count self.old) }
-        ensures { self.new
-            ≡ record self.old { closed = marks_of closed; blocked = marks_of blocked } }
-    {
-        self.closed = closed;
-        self.blocked = blocked;
-    }
-
-    /// Returns whether any room is blocked in any slot.
-    pub fn has_blocked(&self) -> bool
-        ensures { result ≡ has_blocked self.now }
-    {
-        self.blocked.has_marks()
     }
 
     /// Returns the slot of a period of a day.

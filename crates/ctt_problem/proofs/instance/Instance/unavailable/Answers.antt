@@ -1,4 +1,4 @@
-use Rattle.std.proofs.Common.{◌≡◌, ◌||◌, ◌∙◌, sym, ap}
+use Rattle.std.proofs.Common.{◌||◌, ◌∙◌, sym, ap}
 use Rattle.ctt_problem.specs.BitRows.{is_marked_in}
 use Rattle.ctt_problem.proofs.SideTables.{unavailable_by}
 use Rattle.ctt_problem.proofs.instance.Instance.unavailable.Goals as goal
