@@ -13,7 +13,7 @@ use Rattle.ctt_edits.specs.declared.call.Call.TheVariants.{Edit as Edits, Look a
 use Rattle.ctt_edits.specs.declared.edit.Edit.{Edit}
 use Rattle.ctt_edits.specs.declared.fault.EditFault.{EditFault}
 use Rattle.ctt_edits.specs.declared.reply.Reply.{Reply}
-use Rattle.ctt_edits.specs.declared.reply.Reply.TheVariants.{Costs, Done, Edits as AreCheapest, Lectures, Missing as AreMissing, Price as Priced, Refused}
+use Rattle.ctt_edits.specs.declared.reply.Reply.TheVariants.{Costs, Done, Edits as AreCheapest, Lectures, Missing as AreMissing, Price as Priced, Refused, Slots as AreOffers}
 use Rattle.ctt_draft.specs.Drafts.{AskedFits, calls_of, whole}
 use Rattle.ctt_draft.specs.Undoing.{done_by, done_edit, edits_done}
 use Rattle.ctt_draft.specs.declared.asked.Asked.{Asked}
@@ -135,6 +135,7 @@ done_fits i a e is fits = by a.call a.reply is fits.0
     by (Edits x) (Priced p) h fit = cc
     by (Edits x) (AreMissing xs) h fit = cc
     by (Edits x) (AreCheapest xs) h fit = cc
+    by (Edits x) (AreOffers xs) h fit = cc
 
 -- the same by other values
 pub remaking_is : (i : Problem) (d e e' : DraftingValue) (old now now' : List ℕ) (again again' edits edits' : ℕ) (all left : List Edit) → e' ≡ e → now' ≡ now → again' ≡ again → edits' ≡ edits

@@ -47,7 +47,7 @@ committed_line number = line (codes "committed" ∷ decimal number ∷ [])
 -- the words with which a line may begin
 abbrev pub help_words : List (List ℕ)
 help_words = codes "abandon" ∷ codes "cheapest" ∷ codes "commit" ∷ codes "cost" ∷ codes "course" ∷ codes "coursecost" ∷ codes "curriculum" ∷ codes "drop" ∷ codes "help" ∷ codes "leave" ∷ codes "missing" ∷ codes "move" ∷ codes "open"
-    ∷ codes "peek" ∷ codes "place" ∷ codes "price" ∷ codes "redo" ∷ codes "refresh" ∷ codes "reroom" ∷ codes "show" ∷ codes "slot" ∷ codes "status" ∷ codes "swap" ∷ codes "teacher" ∷ codes "undo" ∷ []
+    ∷ codes "peek" ∷ codes "place" ∷ codes "price" ∷ codes "redo" ∷ codes "refresh" ∷ codes "reroom" ∷ codes "show" ∷ codes "slot" ∷ codes "slots" ∷ codes "status" ∷ codes "swap" ∷ codes "teacher" ∷ codes "undo" ∷ []
 
 -- the answer to `help`
 abbrev pub help_line : List ℕ

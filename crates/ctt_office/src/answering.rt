@@ -34,7 +34,7 @@ use std::sync::Wait;
 /// The answer to `help`: the words with which a line may begin.
 const HELP: &str =
     "words abandon cheapest commit cost course coursecost curriculum drop help leave missing \
-    move open peek place price redo refresh reroom show slot status swap teacher undo\n";
+    move open peek place price redo refresh reroom show slot slots status swap teacher undo\n";
 
 /// The capacity in bytes that is reserved for the answer to an accepted draft.
 const COMMITTED: usize = 64;

@@ -13,7 +13,9 @@ use Rattle.ctt_problem.proofs.ListLaws.{place_below, bytes_sound}
 use Rattle.ctt_edits.specs.Edits.{EditFits}
 use Rattle.ctt_edits.specs.Looks.{LookFits}
 use Rattle.ctt_edits.specs.Calls.{CallFits}
+use Rattle.ctt_edits.specs.Offers.{pattern_of}
 use Rattle.ctt_edits.specs.Patterns.{FitsIfGiven, IsRoomIfGiven, PatternFits}
+use Rattle.ctt_edits.specs.declared.slot_pattern.SlotPattern.{SlotPattern}
 use Rattle.ctt_script.specs.declared.journal_fault.JournalFault.{JournalFault}
 use Rattle.ctt_script.specs.declared.journal_fault.JournalFault.TheVariants.{BadWord}
 use Rattle.ctt_script.specs.declared.kinds.EditKind.{EditKind}
@@ -22,11 +24,13 @@ use Rattle.ctt_script.specs.declared.kinds.LookKind.{LookKind}
 use Rattle.ctt_script.specs.declared.kinds.LookKind.TheVariants as look
 use Rattle.ctt_script.specs.declared.kinds.PatternKind.{PatternKind}
 use Rattle.ctt_script.specs.declared.kinds.PatternKind.TheVariants as pattern
+use Rattle.ctt_script.specs.declared.kinds.SlotPatternKind.{SlotPatternKind}
+use Rattle.ctt_script.specs.declared.kinds.SlotPatternKind.TheVariants as to_any
 use Rattle.ctt_script.specs.declared.kinds.CallKind.{CallKind}
 use Rattle.ctt_script.specs.declared.kinds.CallKind.TheVariants as kind
 use Rattle.ctt_script.specs.Amounts.{number_below}
 use Rattle.ctt_script.specs.JournalWords.{word, label}
-use Rattle.ctt_script.specs.CallPlaces.{course, room, teacher, curriculum, slot, edit_after, edit_form, any_or, room_choice, slot_after, slot_choice, pattern_after, pattern_form, look_after, look_form, call_after, call_form}
+use Rattle.ctt_script.specs.CallPlaces.{course, room, teacher, curriculum, slot, edit_after, edit_form, any_or, room_choice, slot_after, slot_choice, pattern_after, pattern_form, any_slot, slot_pattern_after, slot_pattern_form, look_after, look_form, call_after, call_form}
 use Rattle.ctt_text.proofs.FormLaws.{Yields, yields_done, yields_bind}
 use Rattle.ctt_text.proofs.PlaceLaws.{yields_word}
 
@@ -171,6 +175,31 @@ module _ (i : Problem) (is : IsProblem i) where
   unfolding pattern_form
   yields_pattern = yields_bind _ (PatternFits i) _ _ (yields_any _ _) (λ k t. yields_pattern_after k)
 
+  yields_any_slot : Yields (λ _. Unit {0}) any_slot
+  unfolding any_slot
+  yields_any_slot = yields_bind (λ _. Unit {0}) (λ _. Unit {0}) _ _ (yields_label (codes "*")) (λ star t. yields_label (codes "*"))
+
+  -- a pattern to any slot
+  abbrev pub SlotPatternFits : SlotPattern → Type 0
+  SlotPatternFits p = PatternFits i (pattern_of p)
+
+  yields_slot_pattern_after : (k : SlotPatternKind) → Yields SlotPatternFits (slot_pattern_after i k)
+  unfolding slot_pattern_after
+  yields_slot_pattern_after to_any.Place =
+      yields_bind _ SlotPatternFits _ _ yields_course (λ c fc. yields_bind _ SlotPatternFits _ _ yields_room_choice (λ r fr. yields_bind (λ _. Unit {0}) SlotPatternFits _ _ yields_any_slot (λ star t.
+      yields_done JournalFault SlotPatternFits _ (fc, tt, fr))))
+  yields_slot_pattern_after to_any.Move =
+      yields_bind _ SlotPatternFits _ _ yields_course (λ c fc. yields_bind _ SlotPatternFits _ _ yields_slot (λ s fs. yields_bind _ SlotPatternFits _ _ yields_room_choice (λ r fr. yields_bind (λ _. Unit {0}) SlotPatternFits _ _ yields_any_slot (λ star t.
+      yields_done JournalFault SlotPatternFits _ (fc, fs, tt, fr)))))
+  yields_slot_pattern_after to_any.Swap =
+      yields_bind _ SlotPatternFits _ _ yields_course (λ c fc. yields_bind _ SlotPatternFits _ _ yields_slot (λ s fs.
+      yields_bind (λ _. Unit {0}) SlotPatternFits _ _ (yields_label (codes "*")) (λ x t. yields_bind (λ _. Unit {0}) SlotPatternFits _ _ yields_any_slot (λ star u.
+      yields_done JournalFault SlotPatternFits _ (fc, fs)))))
+
+  yields_slot_pattern : Yields SlotPatternFits (slot_pattern_form i)
+  unfolding slot_pattern_form
+  yields_slot_pattern = yields_bind _ SlotPatternFits _ _ (yields_any _ _) (λ k t. yields_slot_pattern_after k)
+
   pub yields_look_after : (k : LookKind) → Yields (LookFits i) (look_after i k)
   unfolding look_after
   yields_look_after look.Course = yields_bind _ (LookFits i) _ _ yields_course (λ c f. yields_done JournalFault (LookFits i) _ f)
@@ -184,6 +213,7 @@ module _ (i : Problem) (is : IsProblem i) where
   yields_look_after look.Cheapest =
       yields_bind (λ n. n < 1001) (LookFits i) _ _ (yields_below 1001) (λ n fn. yields_bind _ (LookFits i) _ _ yields_pattern (λ p fp.
       yields_done JournalFault (LookFits i) _ (omega (arith, fn), fp)))
+  yields_look_after look.Slots = yields_bind _ (LookFits i) _ _ yields_slot_pattern (λ p f. yields_done JournalFault (LookFits i) _ f)
 
   pub yields_look : Yields (LookFits i) (look_form i)
   unfolding look_form

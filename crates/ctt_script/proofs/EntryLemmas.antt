@@ -1,7 +1,8 @@
 -- What is parsed as a reply or as a journal fits the instance.
 use Rattle.std.proofs.Common.{◌≡◌, ℕ, ◌≤◌, List, [], ◌∷◌, length, Bool, Option, Some, None, ℤ, pos, refl, sym, subst, ap, ◌∙◌}
-use Rattle.std.specs.Prelude.{nat_lt, nat_le, nat_eq, unsigned_abs, cond, ◌&&◌, zero, suc, true, false}
+use Rattle.std.specs.Prelude.{codes, nat_lt, nat_le, nat_eq, unsigned_abs, cond, ◌&&◌, zero, suc, true, false}
 use Rattle.std.specs.Option.{option_map}
+use Rattle.std.specs.Str.{bytes_eq}
 use Rattle.std.specs.List.{list_all, AllByRecursion as Each}
 use Rattle.std.proofs.lemmas.Bool.{leb-true, and_parts}
 use Rattle.ctt_text.specs.Numbers.{is_digit, is_number, value, number_of}
@@ -18,11 +19,11 @@ use Rattle.ctt_script.specs.declared.kinds.FaultKind.TheVariants as fault
 use Rattle.ctt_script.specs.Amounts.{is_amount, amount_of, price_of, negated}
 use Rattle.ctt_draft.specs.declared.asked.Asked.{Asked}
 use Rattle.ctt_core.specs.declared.journal.JournalEntry.{JournalEntry}
-use Rattle.ctt_edits.specs.Fitting.{FaultFits, IsAmount, AreFew, IsShortReply, IsReply, ShortfallFits, PricedFits}
+use Rattle.ctt_edits.specs.Fitting.{FaultFits, IsAmount, AreFew, IsShortReply, IsReply, ShortfallFits, PricedFits, OfferFits}
 use Rattle.ctt_draft.specs.Drafts.{AskedFits}
 use Rattle.ctt_script.specs.Entries.{IsAsked, IsEntry}
-use Rattle.ctt_script.specs.JournalWords.{label}
-use Rattle.ctt_script.specs.ReplyPlaces.{fault_after, fault_form, lecture, lectures, count, amount, costs, reply_after, reply_form, shortfall, shortfalls, priced, priced_edits}
+use Rattle.ctt_script.specs.JournalWords.{label, mark_or}
+use Rattle.ctt_script.specs.ReplyPlaces.{fault_after, fault_form, lecture, lectures, count, amount, costs, reply_after, reply_form, shortfall, shortfalls, priced, priced_edits, refusal_after, refusal, offer_after, offer_form, offers}
 use Rattle.ctt_script.specs.JournalPlaces.{asked_form, entry_form, journal_form}
 use Rattle.ctt_text.proofs.FormLaws.{Yields, yields_done, yields_bind, yields_list}
 use Rattle.ctt_script.proofs.CallLemmas.{when, yields_meaning, yields_any, yields_course, yields_room, yields_slot, yields_below, yields_call, yields_edit}
@@ -55,6 +56,19 @@ price_small (b ∷ bs) p h = by (nat_eq b 45) (amount_of bs) (amount_of (b ∷ b
     by : (is : Bool) (o u : Option ℕ) → amount_of bs ≡ o → amount_of (b ∷ bs) ≡ u → cond is (option_map negated (amount_of bs)) (option_map pos (amount_of (b ∷ bs))) ≡ Some p → IsAmount (unsigned_abs p)
     by true o u e f h = minus o e (ap (λ x. option_map negated x) (sym e) ∙ h)
     by false o u e f h = plus u f (ap (λ x. option_map pos x) (sym f) ∙ h)
+
+-- a price, or `-`
+abbrev pub IsAmountIfGiven : Option ℤ → Type 0
+IsAmountIfGiven None = Unit {0}
+IsAmountIfGiven (Some p) = IsAmount (unsigned_abs p)
+
+price_choice : (w : List ℕ) (o : Option ℤ) → mark_or (codes "-") price_of w ≡ Some o → IsAmountIfGiven o
+price_choice w o h = by (bytes_eq w (codes "-")) (price_of w) refl h
+  where
+    by : (b : Bool) (m : Option ℤ) → price_of w ≡ m → cond b (Some None) (option_map Some m) ≡ Some o → IsAmountIfGiven o
+    by true m k h = let same : None ≡ o = cc in subst IsAmountIfGiven same tt
+    by false None k h = cc
+    by false (Some p) k h = let same : Some p ≡ o = cc in subst IsAmountIfGiven same (price_small w p k)
 
 yields_amount : Yields IsAmount amount
 unfolding amount
@@ -132,6 +146,31 @@ module _ (i : Problem) (is : IsProblem i) where
       let r = yields_list (priced i) (PricedFits i) yields_priced n words xs fills in
       (r.0, subst (λ k. k ≤ 999999999) (sym r.1) few))
 
+  -- what a slot offers
+  yields_refusal_after : (k : Option FaultKind) → Yields (OfferFits i) (refusal_after i k)
+  unfolding refusal_after
+  yields_refusal_after None = yields_done JournalFault (OfferFits i) _ tt
+  yields_refusal_after (Some k) = yields_bind _ (OfferFits i) _ _ (yields_fault_after k) (λ f h. yields_done JournalFault (OfferFits i) _ h)
+
+  yields_refusal : Yields (OfferFits i) (refusal i)
+  unfolding refusal
+  yields_refusal = yields_bind _ (OfferFits i) _ _ (yields_any _ _) (λ k t. yields_refusal_after k)
+
+  yields_offer_after : (o : Option ℤ) → IsAmountIfGiven o → Yields (OfferFits i) (offer_after i o)
+  unfolding offer_after
+  yields_offer_after None f = yields_refusal
+  yields_offer_after (Some p) f = yields_bind _ (OfferFits i) _ _ (yields_edit i is) (λ e fe. yields_done JournalFault (OfferFits i) _ (fe, f))
+
+  yields_offer : Yields (OfferFits i) (offer_form i)
+  unfolding offer_form
+  yields_offer = yields_bind _ (OfferFits i) _ _ (yields_meaning IsAmountIfGiven (mark_or (codes "-") price_of) None (λ w o h. price_choice w o h)) (λ o f. yields_offer_after o f)
+
+  yields_offers : Yields (λ xs. Each (OfferFits i) xs × AreFew xs) (offers i)
+  unfolding offers
+  yields_offers = yields_bind _ (λ xs. Each (OfferFits i) xs × AreFew xs) _ _ yields_count (λ n few words xs fills.
+      let r = yields_list (offer_form i) (OfferFits i) yields_offer n words xs fills in
+      (r.0, subst (λ k. k ≤ 999999999) (sym r.1) few))
+
   yields_reply_after : (k : ReplyKind) → Yields (IsReply i) (reply_after i k)
   unfolding reply_after
   yields_reply_after reply.Done = yields_done JournalFault (IsReply i) _ (tt, tt)
@@ -141,6 +180,7 @@ module _ (i : Problem) (is : IsProblem i) where
   yields_reply_after reply.Price = yields_bind _ (IsReply i) _ _ (yields_meaning (λ p. IsAmount (unsigned_abs p)) price_of (pos 0) (λ w p h. price_small w p h)) (λ p h. yields_done JournalFault (IsReply i) _ (h, tt))
   yields_reply_after reply.Missing = yields_bind _ (IsReply i) _ _ yields_shortfalls (λ xs h. yields_done JournalFault (IsReply i) _ h)
   yields_reply_after reply.Edits = yields_bind _ (IsReply i) _ _ yields_priced_edits (λ xs h. yields_done JournalFault (IsReply i) _ h)
+  yields_reply_after reply.Slots = yields_bind _ (IsReply i) _ _ yields_offers (λ xs h. yields_done JournalFault (IsReply i) _ h)
 
   yields_reply : Yields (IsReply i) (reply_form i)
   unfolding reply_form

@@ -1,5 +1,5 @@
 -- What is parsed of a journal, and the cause of each fault.
-use Rattle.std.proofs.Common.{◌≡◌, ◌⊎◌, ℕ, List, [], Vec, Global, Option, Some, None, Result, Ok, Err, IfOk, IfErr, MatchResult, inl, inr, ⊎_elim, refl, sym, ap, subst, ◌∙◌}
+use Rattle.std.proofs.Common.{◌≡◌, ◌⊎◌, ℕ, ℤ, List, [], Vec, Global, Option, Some, None, Result, Ok, Err, IfOk, IfErr, MatchResult, inl, inr, ⊎_elim, refl, sym, ap, subst, ◌∙◌}
 use Rattle.std.specs.List.{AllByRecursion as Each}
 use Rattle.std.specs.Str.{IsUtf8}
 use Rattle.ctt_text.specs.Words.{words}
@@ -17,6 +17,8 @@ use Rattle.ctt_script.specs.declared.kinds.EditKind.{EditKind}
 use Rattle.ctt_script.specs.declared.kinds.EditKind.TheVariants as edit
 use Rattle.ctt_script.specs.declared.kinds.PatternKind.{PatternKind}
 use Rattle.ctt_script.specs.declared.kinds.PatternKind.TheVariants as pattern
+use Rattle.ctt_script.specs.declared.kinds.SlotPatternKind.{SlotPatternKind}
+use Rattle.ctt_script.specs.declared.kinds.SlotPatternKind.TheVariants as to_any
 use Rattle.ctt_script.specs.declared.kinds.LookKind.{LookKind}
 use Rattle.ctt_script.specs.declared.kinds.LookKind.TheVariants as look
 use Rattle.ctt_script.specs.declared.kinds.CallKind.{CallKind}
@@ -33,8 +35,8 @@ use Rattle.ctt_edits.specs.declared.call.Call.{Call}
 use Rattle.ctt_core.specs.Entries.{EntryFits}
 use Rattle.ctt_script.specs.Entries.{IsShort, IsEntry}
 use Rattle.ctt_script.specs.JournalWords.{word, missing, reads, wants_memory}
-use Rattle.ctt_script.specs.CallPlaces.{course, room, teacher, curriculum, slot, edit_after, edit_form, look_after, call_after, call_form, room_choice, slot_after, slot_choice, pattern_after, pattern_form}
-use Rattle.ctt_script.specs.ReplyPlaces.{fault_after, fault_form, lecture, lectures, count, amount, costs, reply_after, reply_form, shortfall, shortfalls, priced, priced_edits}
+use Rattle.ctt_script.specs.CallPlaces.{course, room, teacher, curriculum, slot, edit_after, edit_form, look_after, call_after, call_form, room_choice, slot_after, slot_choice, pattern_after, pattern_form, any_slot, slot_pattern_after, slot_pattern_form}
+use Rattle.ctt_script.specs.ReplyPlaces.{fault_after, fault_form, lecture, lectures, count, amount, costs, reply_after, reply_form, shortfall, shortfalls, priced, priced_edits, refusal_after, refusal, offer_after, offer_form, offers}
 use Rattle.ctt_script.specs.JournalPlaces.{asked_form, entry_form, journal_form}
 use Rattle.ctt_script.specs.JournalText.{JournalSpells, JournalBreaksAt, journal_answer, IsJournalCauseOf}
 use Rattle.ctt_script.proofs.CallLemmas.{yields_call}
@@ -109,8 +111,18 @@ names_pattern_after i pattern.Move = names_bind _ _ (names_course i) (λ c. name
 names_pattern_after i pattern.Swap = names_bind _ _ (names_course i) (λ c. names_bind _ _ (names_slot i) (λ s. names_bind _ _ (names_word _ _) (λ x. names_bind _ _ (names_word _ _) (λ y. names_bind _ _ (names_word _ _) (λ z. tt)))))
 names_pattern_after i pattern.Reroom = names_bind _ _ (names_course i) (λ c. names_bind _ _ (names_room_choice i) (λ r. names_bind _ _ (names_slot i) (λ s. tt)))
 
+names_any_slot : Names any_slot
+unfolding any_slot fixed
+names_any_slot = names_bind _ _ (names_word _ _) (λ star. names_word _ _)
+
+names_slot_pattern_after : (i : Problem) (k : SlotPatternKind) → Names (slot_pattern_after i k)
+unfolding slot_pattern_after fixed
+names_slot_pattern_after i to_any.Place = names_bind _ _ (names_course i) (λ c. names_bind _ _ (names_room_choice i) (λ r. names_bind _ _ names_any_slot (λ star. tt)))
+names_slot_pattern_after i to_any.Move = names_bind _ _ (names_course i) (λ c. names_bind _ _ (names_slot i) (λ s. names_bind _ _ (names_room_choice i) (λ r. names_bind _ _ names_any_slot (λ star. tt))))
+names_slot_pattern_after i to_any.Swap = names_bind _ _ (names_course i) (λ c. names_bind _ _ (names_slot i) (λ s. names_bind _ _ (names_word _ _) (λ x. names_bind _ _ names_any_slot (λ star. tt))))
+
 names_look_after : (i : Problem) (k : LookKind) → Names (look_after i k)
-unfolding look_after edit_form pattern_form teacher curriculum known_name
+unfolding look_after edit_form pattern_form slot_pattern_form teacher curriculum known_name
 names_look_after i look.Course = names_bind _ _ (names_course i) (λ c. tt)
 names_look_after i look.Slot = names_bind _ _ (names_slot i) (λ s. tt)
 names_look_after i look.Teacher = names_bind _ _ (names_word _ _) (λ h. tt)
@@ -120,6 +132,7 @@ names_look_after i look.Cost = tt
 names_look_after i look.Price = names_bind _ _ (names_bind _ _ (names_word _ _) (λ k. names_edit_after i k)) (λ e. tt)
 names_look_after i look.Missing = tt
 names_look_after i look.Cheapest = names_bind _ _ (names_word _ _) (λ n. names_bind _ _ (names_bind _ _ (names_word _ _) (λ k. names_pattern_after i k)) (λ p. tt))
+names_look_after i look.Slots = names_bind _ _ (names_bind _ _ (names_word _ _) (λ k. names_slot_pattern_after i k)) (λ p. tt)
 
 names_call : (i : Problem) → Names (call_form i)
 unfolding call_form call_after
@@ -142,8 +155,22 @@ names_fault_after i fault.Blocked = tt
 names_fault_after i fault.Clash = names_bind _ _ (names_course i) (λ c. tt)
 names_fault_after i fault.RoomTaken = names_bind _ _ (names_course i) (λ c. tt)
 
+names_refusal_after : (i : Problem) (k : Option FaultKind) → Names (refusal_after i k)
+unfolding refusal_after
+names_refusal_after i None = tt
+names_refusal_after i (Some k) = names_bind _ _ (names_fault_after i k) (λ f. tt)
+
+names_offer_after : (i : Problem) (o : Option ℤ) → Names (offer_after i o)
+unfolding offer_after refusal
+names_offer_after i None = names_bind _ _ (names_word _ _) (λ k. names_refusal_after i k)
+names_offer_after i (Some p) = names_bind _ _ (names_edit i) (λ e. tt)
+
+names_offer : (i : Problem) → Names (offer_form i)
+unfolding offer_form
+names_offer i = names_bind _ _ (names_word _ _) (λ o. names_offer_after i o)
+
 names_reply_after : (i : Problem) (k : ReplyKind) → Names (reply_after i k)
-unfolding reply_after fault_form lectures count number lecture costs amount shortfalls shortfall priced_edits priced
+unfolding reply_after fault_form lectures count number lecture costs amount shortfalls shortfall priced_edits priced offers
 names_reply_after i reply.Done = tt
 names_reply_after i reply.Refused = names_bind _ _ (names_bind _ _ (names_word _ _) (λ k. names_fault_after i k)) (λ f. tt)
 names_reply_after i reply.Lectures = names_bind _ _ (names_bind _ _ (names_word _ _) (λ n. names_list (lecture i) n (names_bind _ _ (names_course i) (λ c. names_bind _ _ (names_room i) (λ r. names_bind _ _ (names_slot i) (λ s. tt)))))) (λ ls. tt)
@@ -151,6 +178,7 @@ names_reply_after i reply.Costs = names_bind _ _ (names_bind _ _ (names_word _ _
 names_reply_after i reply.Price = names_bind _ _ (names_word _ _) (λ p. tt)
 names_reply_after i reply.Missing = names_bind _ _ (names_bind _ _ (names_word _ _) (λ n. names_list (shortfall i) n (names_bind _ _ (names_course i) (λ c. names_bind _ _ (names_word _ _) (λ m. tt))))) (λ xs. tt)
 names_reply_after i reply.Edits = names_bind _ _ (names_bind _ _ (names_word _ _) (λ n. names_list (priced i) n (names_bind _ _ (names_word _ _) (λ p. names_bind _ _ (names_edit i) (λ e. tt))))) (λ xs. tt)
+names_reply_after i reply.Slots = names_bind _ _ (names_bind _ _ (names_word _ _) (λ n. names_list (offer_form i) n (names_offer i))) (λ xs. tt)
 
 names_asked : (i : Problem) → Names (asked_form i)
 unfolding asked_form reply_form

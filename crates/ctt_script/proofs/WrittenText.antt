@@ -14,9 +14,12 @@ use Rattle.ctt_text.proofs.WrittenLaws.{decimal_word, word_first, space_blank, l
 use Rattle.ctt_edits.specs.declared.edit.Edit.{Edit}
 use Rattle.ctt_edits.specs.declared.edit.Edit.TheVariants.{Place, Move, Swap, Reroom, Drop}
 use Rattle.ctt_edits.specs.declared.looks.Look.{Look}
-use Rattle.ctt_edits.specs.declared.looks.Look.TheVariants.{Course, Slot, Teacher, Curriculum, CourseCost, Cost, Price, Missing, Cheapest}
+use Rattle.ctt_edits.specs.declared.looks.Look.TheVariants.{Course, Slot, Teacher, Curriculum, CourseCost, Cost, Price, Missing, Cheapest, Slots}
 use Rattle.ctt_edits.specs.declared.pattern.Pattern.{Pattern}
 use Rattle.ctt_edits.specs.declared.pattern.Pattern.TheVariants.{Place as AnyPlace, Move as AnyMove, Swap as AnySwap, Reroom as AnyReroom}
+use Rattle.ctt_edits.specs.Offers.{pattern_of}
+use Rattle.ctt_edits.specs.declared.offer.Offer.{Offer}
+use Rattle.ctt_edits.specs.declared.offer.Offer.TheVariants as offer
 use Rattle.ctt_edits.specs.declared.priced_edit.PricedEdit.{PricedEdit}
 use Rattle.ctt_edits.specs.declared.shortfall.Shortfall.{Shortfall}
 use Rattle.ctt_edits.specs.Patterns.{FitsIfGiven, IsRoomIfGiven, PatternFits}
@@ -27,16 +30,16 @@ use Rattle.ctt_edits.specs.declared.fault.EditFault.TheVariants.{NotPlaced, Same
 use Rattle.ctt_edits.specs.Edits.{EditFits}
 use Rattle.ctt_edits.specs.Looks.{LookFits}
 use Rattle.ctt_edits.specs.declared.reply.Reply.{Reply}
-use Rattle.ctt_edits.specs.declared.reply.Reply.TheVariants.{Done, Refused, Lectures, Costs, Price as Priced, Missing as AreMissing, Edits as AreCheapest}
+use Rattle.ctt_edits.specs.declared.reply.Reply.TheVariants.{Done, Refused, Lectures, Costs, Price as Priced, Missing as AreMissing, Edits as AreCheapest, Slots as AreOffers}
 use Rattle.ctt_edits.specs.Calls.{CallFits}
 use Rattle.ctt_draft.specs.declared.asked.Asked.{Asked}
 use Rattle.ctt_core.specs.declared.journal.JournalEntry.{JournalEntry}
-use Rattle.ctt_edits.specs.Fitting.{FaultFits, IsAmount, ShortfallFits, PricedFits, ReplyFits, AreFew, IsShortReply}
+use Rattle.ctt_edits.specs.Fitting.{FaultFits, IsAmount, ShortfallFits, PricedFits, OfferFits, ReplyFits, AreFew, IsShortReply}
 use Rattle.ctt_draft.specs.Drafts.{AskedFits}
 use Rattle.ctt_core.specs.Entries.{EntryFits}
 use Rattle.ctt_script.specs.Entries.{IsShort, IsAsked, IsEntry}
 use Rattle.ctt_script.specs.JournalText.{JournalSpells}
-use Rattle.ctt_script.specs.WrittenWords.{course_word, room_word, day_word, period_word, edit_words, room_choice_word, day_choice_word, period_choice_word, pattern_words, look_words, call_words, fault_words, lecture_words, shortfall_words, priced_words, reply_words, asked_words, entry_words, journal_words}
+use Rattle.ctt_script.specs.WrittenWords.{course_word, room_word, day_word, period_word, edit_words, room_choice_word, day_choice_word, period_choice_word, pattern_words, look_words, call_words, fault_words, lecture_words, shortfall_words, priced_words, offer_words, reply_words, asked_words, entry_words, journal_words}
 use Rattle.ctt_line.specs.Lines.{line, rest_of_line, words_part}
 use Rattle.ctt_script.specs.WrittenText.{asked_text, entry_text, journal_text}
 use Rattle.ctt_script.proofs.WrittenWords.{journal_fills}
@@ -198,6 +201,7 @@ module _ (i : Problem) (is : IsProblem i) (named : IsNamed i) where
   look_are (Price e) f = (is_solid (codes "price") refl, edit_are e f)
   look_are Missing f = (is_solid (codes "missing") refl, tt)
   look_are (Cheapest n p) f = (is_solid (codes "cheapest") refl, (count_word n (omega (arith, f.0)), pattern_are p f.1))
+  look_are (Slots p) f = (is_solid (codes "slots") refl, pattern_are (pattern_of p) f)
 
   fault_are : (x : EditFault) → FaultFits i x → AreWords (fault_words i x)
   unfolding is_blank solid
@@ -228,6 +232,16 @@ module _ (i : Problem) (is : IsProblem i) (named : IsNamed i) where
   priced_are [] f = tt
   priced_are (x ∷ xs) f = (price_word x.price f.0.1, both_are (edit_words i x.edit) (flat_map (priced_words i) xs) (edit_are x.edit f.0.0) (priced_are xs f.1))
 
+  offer_are : (x : Offer) → OfferFits i x → AreWords (offer_words i x)
+  unfolding is_blank solid
+  offer_are (offer.Priced p) f = (price_word p.price f.1, edit_are p.edit f.0)
+  offer_are (offer.Refused x) f = (is_solid (codes "-") refl, fault_are x f)
+  offer_are offer.Nothing f = (is_solid (codes "-") refl, (is_solid (codes "none") refl, tt))
+
+  offers_are : (xs : List Offer) → Each (OfferFits i) xs → AreWords (flat_map (offer_words i) xs)
+  offers_are [] f = tt
+  offers_are (x ∷ xs) f = both_are (offer_words i x) (flat_map (offer_words i) xs) (offer_are x f.0) (offers_are xs f.1)
+
   reply_are : (t : Reply) → IsShortReply t → ReplyFits i t → AreWords (reply_words i t)
   unfolding is_blank solid
   reply_are Done short f = (is_solid (codes "done") refl, tt)
@@ -237,6 +251,7 @@ module _ (i : Problem) (is : IsProblem i) (named : IsNamed i) where
   reply_are (Priced p) short f = (is_solid (codes "price") refl, (price_word p f, tt))
   reply_are (AreMissing xs) short f = (is_solid (codes "missing") refl, (count_word (length xs) short, shortfalls_are xs f))
   reply_are (AreCheapest xs) short f = (is_solid (codes "prices") refl, (count_word (length xs) short, priced_are xs f))
+  reply_are (AreOffers xs) short f = (is_solid (codes "slots") refl, (count_word (length xs) short, offers_are xs f))
 
   -- no call and no reply is without words
   some_edit : (e : Edit) → edit_words i e ≡ [] → ⊥
@@ -256,6 +271,7 @@ module _ (i : Problem) (is : IsProblem i) (named : IsNamed i) where
   some_look (Price e) h = cc
   some_look Missing h = cc
   some_look (Cheapest n p) h = cc
+  some_look (Slots p) h = cc
 
   some_reply : (t : Reply) → reply_words i t ≡ [] → ⊥
   some_reply Done h = cc
@@ -265,6 +281,7 @@ module _ (i : Problem) (is : IsProblem i) (named : IsNamed i) where
   some_reply (Priced p) h = cc
   some_reply (AreMissing xs) h = cc
   some_reply (AreCheapest xs) h = cc
+  some_reply (AreOffers xs) h = cc
 
   -- the words of a line that is a call or a reply
   pub call_line : (c : Call) → CallFits i c → (rest : List ℕ) → words (line (call_words i c) ++ rest) ≡ call_words i c ++ words rest

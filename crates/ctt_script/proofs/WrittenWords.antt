@@ -1,5 +1,5 @@
 -- The words written for a call, a reply or a journal match the grammar and give it back.
-use Rattle.std.proofs.Common.{◌≡◌, ℕ, suc, ◌^◌, ◌<◌, ◌≤◌, List, [], ◌∷◌, length, flat_map, true, false, Option, Some, None, ℤ, pos, negsuc, refl, sym, ap, subst, arith}
+use Rattle.std.proofs.Common.{◌≡◌, ℕ, suc, ◌^◌, ◌<◌, ◌≤◌, List, [], ◌∷◌, length, flat_map, Bool, true, false, Option, Some, None, ℤ, pos, negsuc, refl, sym, ap, subst, ◌∙◌, arith}
 use Rattle.std.specs.Prelude.{codes, nat_lt, nat_le, nat_eq, slice_index_or, unsigned_abs}
 use Rattle.std.specs.List.{list_all, AllByRecursion as Each}
 use Rattle.std.specs.Option.{option_map}
@@ -23,9 +23,14 @@ use Rattle.ctt_rules.specs.declared.cost.Cost.{Cost as Cost_}
 use Rattle.ctt_edits.specs.declared.edit.Edit.{Edit}
 use Rattle.ctt_edits.specs.declared.edit.Edit.TheVariants.{Place, Move, Swap, Reroom, Drop}
 use Rattle.ctt_edits.specs.declared.looks.Look.{Look}
-use Rattle.ctt_edits.specs.declared.looks.Look.TheVariants.{Course, Slot, Teacher, Curriculum, CourseCost, Cost, Price, Missing, Cheapest}
+use Rattle.ctt_edits.specs.declared.looks.Look.TheVariants.{Course, Slot, Teacher, Curriculum, CourseCost, Cost, Price, Missing, Cheapest, Slots}
 use Rattle.ctt_edits.specs.declared.pattern.Pattern.{Pattern}
 use Rattle.ctt_edits.specs.declared.pattern.Pattern.TheVariants.{Place as AnyPlace, Move as AnyMove, Swap as AnySwap, Reroom as AnyReroom}
+use Rattle.ctt_edits.specs.Offers.{pattern_of}
+use Rattle.ctt_edits.specs.declared.slot_pattern.SlotPattern.{SlotPattern}
+use Rattle.ctt_edits.specs.declared.slot_pattern.SlotPattern.TheVariants.{Place as ToAnyPlace, Move as ToAnyMove, Swap as ToAnySwap}
+use Rattle.ctt_edits.specs.declared.offer.Offer.{Offer}
+use Rattle.ctt_edits.specs.declared.offer.Offer.TheVariants as offer
 use Rattle.ctt_edits.specs.declared.priced_edit.PricedEdit.{PricedEdit}
 use Rattle.ctt_edits.specs.declared.shortfall.Shortfall.{Shortfall}
 use Rattle.ctt_edits.specs.Patterns.{FitsIfGiven, IsRoomIfGiven, PatternFits}
@@ -36,29 +41,32 @@ use Rattle.ctt_edits.specs.declared.fault.EditFault.TheVariants.{NotPlaced, Same
 use Rattle.ctt_edits.specs.Edits.{EditFits}
 use Rattle.ctt_edits.specs.Looks.{LookFits}
 use Rattle.ctt_edits.specs.declared.reply.Reply.{Reply}
-use Rattle.ctt_edits.specs.declared.reply.Reply.TheVariants.{Done, Refused, Lectures, Costs, Price as Priced, Missing as AreMissing, Edits as AreCheapest}
+use Rattle.ctt_edits.specs.declared.reply.Reply.TheVariants.{Done, Refused, Lectures, Costs, Price as Priced, Missing as AreMissing, Edits as AreCheapest, Slots as AreOffers}
 use Rattle.ctt_edits.specs.Calls.{CallFits}
 use Rattle.ctt_script.specs.declared.journal_fault.JournalFault.{JournalFault}
 use Rattle.ctt_script.specs.declared.journal_fault.JournalFault.TheVariants.{BadWord}
 use Rattle.ctt_script.specs.declared.kinds.EditKind.{EditKind}
 use Rattle.ctt_script.specs.declared.kinds.LookKind.{LookKind}
+use Rattle.ctt_script.specs.declared.kinds.FaultKind.{FaultKind}
+use Rattle.ctt_script.specs.declared.kinds.FaultKind.TheVariants as fault
 use Rattle.ctt_script.specs.declared.kinds.CallKind.TheVariants as kind
 use Rattle.ctt_script.specs.declared.kinds.EditKind.TheVariants as edit
 use Rattle.ctt_script.specs.declared.kinds.LookKind.TheVariants as look
 use Rattle.ctt_script.specs.Amounts.{amount_of, price_of, negated, number_below}
-use Rattle.ctt_script.specs.Kinds.{edit_kind, pattern_kind, look_kind, call_kind, reply_kind, fault_kind}
+use Rattle.ctt_script.specs.Kinds.{edit_kind, pattern_kind, slot_pattern_kind, look_kind, call_kind, reply_kind, fault_kind}
 use Rattle.ctt_draft.specs.declared.asked.Asked.{Asked}
 use Rattle.ctt_core.specs.declared.journal.JournalEntry.{JournalEntry}
-use Rattle.ctt_edits.specs.Fitting.{FaultFits, IsAmount, ShortfallFits, PricedFits, ReplyFits, AreFew, IsShortReply}
+use Rattle.ctt_edits.specs.Fitting.{FaultFits, IsAmount, ShortfallFits, PricedFits, OfferFits, ReplyFits, AreFew, IsShortReply}
 use Rattle.ctt_draft.specs.Drafts.{AskedFits}
 use Rattle.ctt_core.specs.Entries.{EntryFits}
 use Rattle.ctt_script.specs.Entries.{IsShort, IsAsked, IsEntry}
-use Rattle.ctt_script.specs.JournalWords.{word, label}
-use Rattle.ctt_script.specs.CallPlaces.{course, room, teacher, curriculum, slot, edit_after, edit_form, any_or, room_choice, slot_after, slot_choice, pattern_after, pattern_form, look_after, look_form, call_after, call_form}
-use Rattle.ctt_script.specs.ReplyPlaces.{fault_after, fault_form, lecture, lectures, count, amount, costs, shortfall, shortfalls, priced, priced_edits, reply_after, reply_form}
+use Rattle.ctt_script.specs.JournalWords.{word, mark_or, label}
+use Rattle.ctt_script.specs.CallPlaces.{course, room, teacher, curriculum, slot, edit_after, edit_form, any_or, room_choice, slot_after, slot_choice, pattern_after, pattern_form, any_slot, slot_pattern_after, slot_pattern_form, look_after, look_form, call_after, call_form}
+use Rattle.ctt_script.specs.ReplyPlaces.{fault_after, fault_form, lecture, lectures, count, amount, costs, shortfall, shortfalls, priced, priced_edits, refusal_after, refusal, offer_after, offer_form, offers, reply_after, reply_form}
 use Rattle.ctt_script.specs.JournalPlaces.{asked_form, entry_form, journal_form}
-use Rattle.ctt_script.specs.WrittenWords.{course_word, room_word, day_word, period_word, edit_words, room_choice_word, day_choice_word, period_choice_word, pattern_words, look_words, call_words, fault_words, lecture_words, shortfall_words, priced_words, reply_words, asked_words, entry_words, journal_words}
+use Rattle.ctt_script.specs.WrittenWords.{course_word, room_word, day_word, period_word, edit_words, room_choice_word, day_choice_word, period_choice_word, pattern_words, look_words, call_words, fault_words, lecture_words, shortfall_words, priced_words, offer_words, reply_words, asked_words, entry_words, journal_words}
 use Rattle.ctt_text.proofs.PlaceLaws.{then_fills}
+use Rattle.ctt_problem.proofs.ListLaws.{bytes_sound}
 
 -- numbers in decimal
 pub count_says : (n : ℕ) → n ≤ 999999999 → number_of (decimal n) ≡ Some n
@@ -119,24 +127,24 @@ after_word : {A B : Type 0} (meaning : List ℕ → Option A) (otherwise : A) (g
 unfolding known one ◌>>=◌
 after_word meaning otherwise g w ws a b h fills = (rw h at fills).1
 
--- what is not left open
-any_given : {A : Type 0} (meaning : List ℕ → Option A) (w : List ℕ) (a : A) → bytes_eq w (codes "*") ≡ false → meaning w ≡ Some a → any_or meaning w ≡ Some (Some a)
-any_given meaning w a other h = rw (other, h) refl
+-- a word other than the mark
+not_mark : {A : Type 0} (mark : List ℕ) (meaning : List ℕ → Option A) (w : List ℕ) (a : A) → bytes_eq w mark ≡ false → meaning w ≡ Some a → mark_or mark meaning w ≡ Some (Some a)
+not_mark mark meaning w a other h = rw (other, h) refl
 
--- digits are not `*`
-no_star : (ds : List ℕ) → list_all is_digit ds ≡ true → bytes_eq ds (codes "*") ≡ false
-no_star [] digits = refl
-no_star (b ∷ bs) digits =
-    let digit : is_digit b ≡ true = (and_parts (is_digit b) (list_all is_digit bs) digits).0 in
-    let other : nat_eq b 42 ≡ false = grind (arith, nat_tests) in
-    rw other refl
+-- a word with a meaning, if the mark has none
+has_meaning : {A : Type 0} (mark : List ℕ) (meaning : List ℕ → Option A) (w : List ℕ) (a : A) → meaning mark ≡ None → meaning w ≡ Some a → mark_or mark meaning w ≡ Some (Some a)
+has_meaning {A} mark meaning w a none h = by (bytes_eq w mark) refl
+  where
+    by : (b : Bool) → bytes_eq w mark ≡ b → mark_or mark meaning w ≡ Some (Some a)
+    by true e = let no : None ≡ Some a = sym none ∙ ap meaning (sym (bytes_sound w mark e)) ∙ h in cc
+    by false e = not_mark mark meaning w a e h
 
 module _ (i : Problem) (is : IsProblem i) (named : IsNamed i) where
   module _ {B : Type 0} where
     room_choice_then : (g : Option ℕ → Form JournalFault B) (r : Option ℕ) (ws : List (List ℕ)) (b : B) → IsRoomIfGiven i r → Fills (g r) ws b → Fills (room_choice i >>= g) (room_choice_word i r ∷ ws) b
     unfolding room_choice
     room_choice_then g None ws b f k = word_then (any_or (number_in i.room_names)) None g (codes "*") ws None b refl k
-    room_choice_then g (Some r) ws b f k = word_then (any_or (number_in i.room_names)) None g (room_word i r) ws (Some r) b (any_given (number_in i.room_names) (room_word i r) r f.1 (name_says i.room_names r named.rooms.0 (subst (λ n. r < n) (sym is.rooms_named) f.0))) k
+    room_choice_then g (Some r) ws b f k = word_then (any_or (number_in i.room_names)) None g (room_word i r) ws (Some r) b (not_mark (codes "*") (number_in i.room_names) (room_word i r) r f.1 (name_says i.room_names r named.rooms.0 (subst (λ n. r < n) (sym is.rooms_named) f.0))) k
 
     course_then : (g : ℕ → Form JournalFault B) (c : ℕ) (ws : List (List ℕ)) (b : B) → c < course_count i → Fills (g c) ws b → Fills (course i >>= g) (course_word i c ∷ ws) b
     unfolding course known_name
@@ -178,7 +186,7 @@ module _ (i : Problem) (is : IsProblem i) (named : IsNamed i) where
   slot_choice_fills None f = word_then (any_or (number_below i.days)) None _ (codes "*") _ None None refl (label_then (codes "*") _ [] None refl refl)
   slot_choice_fills (Some s) f =
       let at = split i is named s f in
-      word_then (any_or (number_below i.days)) None _ (day_word i s) _ (Some (day_of i s)) (Some s) (any_given (number_below i.days) (day_word i s) (day_of i s) (no_star (day_word i s) (decimal_digits (day_of i s) (omega (arith, at.small_day)))) (below_says i.days (day_of i s) at.day at.small_day))
+      word_then (any_or (number_below i.days)) None _ (day_word i s) _ (Some (day_of i s)) (Some s) (has_meaning (codes "*") (number_below i.days) (day_word i s) (day_of i s) refl (below_says i.days (day_of i s) at.day at.small_day))
       (word_then (number_below i.periods) 0 _ (period_word i s) [] (period_of i s) (Some s) (below_says i.periods (period_of i s) at.period at.small_period)
       (ap (λ n. Some n) (div-add-mod' s i.periods)))
 
@@ -192,6 +200,19 @@ module _ (i : Problem) (is : IsProblem i) (named : IsNamed i) where
   pattern_fills (AnySwap c s) f = word_then pattern_kind _ _ _ _ _ _ refl (course_then _ c _ _ f.0 (slot_then _ s _ _ f.1 (label_then (codes "*") _ _ _ refl (label_then (codes "*") _ _ _ refl (label_then (codes "*") _ _ _ refl refl)))))
   pattern_fills (AnyReroom c s r) f = word_then pattern_kind _ _ _ _ _ _ refl (course_then _ c _ _ f.0 (room_choice_then _ r _ _ f.2 (slot_then _ s _ _ f.1 refl)))
 
+  any_slot_then : {B : Type 0} (g : Unit {0} → Form JournalFault B) (ws : List (List ℕ)) (b : B) → Fills (g tt) ws b → Fills (any_slot >>= g) (codes "*" ∷ codes "*" ∷ ws) b
+  any_slot_then g ws b k = fills_both any_slot g (codes "*" ∷ codes "*" ∷ []) ws tt b stars k
+    where
+      stars : Fills any_slot (codes "*" ∷ codes "*" ∷ []) tt
+      unfolding any_slot fixed known one ◌>>=◌
+      stars = (refl, (refl, refl))
+
+  slot_pattern_fills : (p : SlotPattern) → PatternFits i (pattern_of p) → Fills (slot_pattern_form i) (pattern_words i (pattern_of p)) p
+  unfolding slot_pattern_form slot_pattern_after slot_pattern_kind
+  slot_pattern_fills (ToAnyPlace c r) f = word_then slot_pattern_kind _ _ _ _ _ _ refl (course_then _ c _ _ f.0 (room_choice_then _ r _ _ f.2 (any_slot_then _ [] _ refl)))
+  slot_pattern_fills (ToAnyMove c s r) f = word_then slot_pattern_kind _ _ _ _ _ _ refl (course_then _ c _ _ f.0 (slot_then _ s _ _ f.1 (room_choice_then _ r _ _ f.3 (any_slot_then _ [] _ refl))))
+  slot_pattern_fills (ToAnySwap c s) f = word_then slot_pattern_kind _ _ _ _ _ _ refl (course_then _ c _ _ f.0 (slot_then _ s _ _ f.1 (label_then (codes "*") _ _ _ refl (any_slot_then _ [] _ refl))))
+
   pub look_fills : (l : Look) → LookFits i l → Fills (look_form i) (look_words i l) l
   unfolding look_form look_after look_kind
   look_fills (Course c) f = word_then look_kind _ _ _ _ _ _ refl (course_then _ c _ _ f refl)
@@ -203,6 +224,7 @@ module _ (i : Problem) (is : IsProblem i) (named : IsNamed i) where
   look_fills (Price e) f = word_then look_kind _ _ _ _ _ _ refl (fills_map (edit_form i) Price (edit_words i e) e (edit_fills e f))
   look_fills Missing f = word_then look_kind _ _ _ _ _ _ refl refl
   look_fills (Cheapest n p) f = word_then look_kind _ _ _ _ _ _ refl (word_then (number_below 1001) 0 _ (decimal n) _ n _ (below_says 1001 n (omega (arith, f.0)) (omega (arith, f.0))) (fills_map (pattern_form i) (λ q. Cheapest n q) (pattern_words i p) p (pattern_fills p f.1)))
+  look_fills (Slots p) f = word_then look_kind _ _ _ _ _ _ refl (fills_map (slot_pattern_form i) Slots (pattern_words i (pattern_of p)) p (slot_pattern_fills p f))
 
   -- an edit or a look, as a call
   call_edit : (k : EditKind) (w : List ℕ) (ws : List (List ℕ)) (e : Edit) → edit_kind w ≡ Some k → call_kind w ≡ Some (kind.Edit k) → Fills (edit_form i) (w ∷ ws) e → Fills (call_form i) (w ∷ ws) (Edits e)
@@ -229,6 +251,7 @@ module _ (i : Problem) (is : IsProblem i) (named : IsNamed i) where
   call_fills (Looks (Price e)) f = call_look look.Price _ _ _ refl refl (look_fills (Price e) f)
   call_fills (Looks Missing) f = call_look look.Missing _ _ _ refl refl (look_fills Missing f)
   call_fills (Looks (Cheapest n p)) f = call_look look.Cheapest _ _ _ refl refl (look_fills (Cheapest n p) f)
+  call_fills (Looks (Slots p)) f = call_look look.Slots _ _ _ refl refl (look_fills (Slots p) f)
 
   fault_fills : (x : EditFault) → FaultFits i x → Fills (fault_form i) (fault_words i x) x
   unfolding fault_form fault_after fault_kind
@@ -271,6 +294,40 @@ module _ (i : Problem) (is : IsProblem i) (named : IsNamed i) where
   unfolding priced_edits
   priced_edits_fills xs few f = count_then _ (length xs) _ xs few (list_fills (priced i) (PricedFits i) (priced_words i) priced_fills xs f)
 
+  -- a fault after `-`
+  refusal_by : (k : FaultKind) (w : List ℕ) (ws : List (List ℕ)) (x : EditFault) → fault_kind w ≡ Some k → fault_kind (codes "none") ≡ None → Fills (fault_form i) (w ∷ ws) x → Fills (refusal i) (w ∷ ws) (offer.Refused x)
+  unfolding refusal refusal_after fault_form
+  refusal_by k w ws x h none fills = word_then (mark_or (codes "none") fault_kind) None _ w ws (Some k) (offer.Refused x) (has_meaning (codes "none") fault_kind w k none h)
+      (fills_map (fault_after i k) offer.Refused ws x (after_word fault_kind fault.NotPlaced (fault_after i) w ws k x h fills))
+
+  refusal_fills : (x : EditFault) → FaultFits i x → Fills (refusal i) (fault_words i x) (offer.Refused x)
+  unfolding fault_kind
+  refusal_fills NotPlaced f = refusal_by fault.NotPlaced _ _ _ refl refl (fault_fills NotPlaced f)
+  refusal_fills SameSlot f = refusal_by fault.SameSlot _ _ _ refl refl (fault_fills SameSlot f)
+  refusal_fills SameCourse f = refusal_by fault.SameCourse _ _ _ refl refl (fault_fills SameCourse f)
+  refusal_fills AlreadyThere f = refusal_by fault.AlreadyThere _ _ _ refl refl (fault_fills AlreadyThere f)
+  refusal_fills CourseFull f = refusal_by fault.CourseFull _ _ _ refl refl (fault_fills CourseFull f)
+  refusal_fills Unavailable f = refusal_by fault.Unavailable _ _ _ refl refl (fault_fills Unavailable f)
+  refusal_fills Barred f = refusal_by fault.Barred _ _ _ refl refl (fault_fills Barred f)
+  refusal_fills Blocked f = refusal_by fault.Blocked _ _ _ refl refl (fault_fills Blocked f)
+  refusal_fills (Clash c) f = refusal_by fault.Clash _ _ _ refl refl (fault_fills (Clash c) f)
+  refusal_fills (RoomTaken c) f = refusal_by fault.RoomTaken _ _ _ refl refl (fault_fills (RoomTaken c) f)
+
+  offer_fills : (x : Offer) → OfferFits i x → Fills (offer_form i) (offer_words i x) x
+  unfolding offer_form offer_after
+  offer_fills (offer.Priced p) f = word_then (mark_or (codes "-") price_of) None _ (signed_decimal p.price) _ (Some p.price) _ (has_meaning (codes "-") price_of (signed_decimal p.price) p.price refl (price_says p.price f.1))
+      (fills_map (edit_form i) (λ e. offer.Priced (record { edit = e; price = p.price })) (edit_words i p.edit) p.edit (edit_fills p.edit f.0))
+  offer_fills (offer.Refused x) f = word_then (mark_or (codes "-") price_of) None _ (codes "-") _ None _ refl (refusal_fills x f)
+  offer_fills offer.Nothing f = word_then (mark_or (codes "-") price_of) None _ (codes "-") _ None _ refl none
+    where
+      none : Fills (refusal i) (codes "none" ∷ []) offer.Nothing
+      unfolding refusal refusal_after
+      none = word_then (mark_or (codes "none") fault_kind) None _ (codes "none") [] None _ refl refl
+
+  offers_fills : (xs : List Offer) → AreFew xs → Each (OfferFits i) xs → Fills (offers i) (decimal (length xs) ∷ flat_map (offer_words i) xs) xs
+  unfolding offers
+  offers_fills xs few f = count_then _ (length xs) _ xs few (list_fills (offer_form i) (OfferFits i) (offer_words i) offer_fills xs f)
+
   pub reply_fills : (t : Reply) → IsShortReply t → ReplyFits i t → Fills (reply_form i) (reply_words i t) t
   unfolding reply_form reply_after reply_kind
   reply_fills Done short f = word_then reply_kind _ _ _ _ _ _ refl refl
@@ -280,6 +337,7 @@ module _ (i : Problem) (is : IsProblem i) (named : IsNamed i) where
   reply_fills (Priced p) short f = word_then reply_kind _ _ _ _ _ _ refl (word_then price_of _ _ (signed_decimal p) [] p _ (price_says p f) refl)
   reply_fills (AreMissing xs) short f = word_then reply_kind _ _ _ _ _ _ refl (fills_map (shortfalls i) AreMissing _ xs (shortfalls_fills xs short f))
   reply_fills (AreCheapest xs) short f = word_then reply_kind _ _ _ _ _ _ refl (fills_map (priced_edits i) AreCheapest _ xs (priced_edits_fills xs short f))
+  reply_fills (AreOffers xs) short f = word_then reply_kind _ _ _ _ _ _ refl (fills_map (offers i) AreOffers _ xs (offers_fills xs short f))
 
   asked_fills : (s : Asked) → IsAsked i s → Fills (asked_form i) (asked_words i s) s
   unfolding asked_form

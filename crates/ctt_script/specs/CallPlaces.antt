@@ -1,15 +1,15 @@
 -- The grammar of calls.
-use Rattle.std.specs.Prelude.{ℕ, List, Option, Some, None, if◌then◌else◌, codes}
-use Rattle.std.specs.Str.{bytes_eq}
-use Rattle.std.specs.Option.{option_map}
+use Rattle.std.specs.Prelude.{ℕ, List, Option, Some, None, codes}
 use Rattle.ctt_problem.specs.Problem.{Problem, number_in, slot_of}
 use Rattle.ctt_text.specs.Forms.{Form, done, ◌>>=◌}
 use Rattle.ctt_edits.specs.declared.edit.Edit.{Edit}
 use Rattle.ctt_edits.specs.declared.edit.Edit.TheVariants.{Place, Move, Swap, Reroom, Drop}
 use Rattle.ctt_edits.specs.declared.looks.Look.{Look}
-use Rattle.ctt_edits.specs.declared.looks.Look.TheVariants.{Course, Slot, Teacher, Curriculum, CourseCost, Cost, Price, Missing, Cheapest}
+use Rattle.ctt_edits.specs.declared.looks.Look.TheVariants.{Course, Slot, Teacher, Curriculum, CourseCost, Cost, Price, Missing, Cheapest, Slots}
 use Rattle.ctt_edits.specs.declared.pattern.Pattern.{Pattern}
 use Rattle.ctt_edits.specs.declared.pattern.Pattern.TheVariants.{Place as AnyPlace, Move as AnyMove, Swap as AnySwap, Reroom as AnyReroom}
+use Rattle.ctt_edits.specs.declared.slot_pattern.SlotPattern.{SlotPattern}
+use Rattle.ctt_edits.specs.declared.slot_pattern.SlotPattern.TheVariants.{Place as ToAnyPlace, Move as ToAnyMove, Swap as ToAnySwap}
 use Rattle.ctt_edits.specs.declared.call.Call.{Call}
 use Rattle.ctt_edits.specs.declared.call.Call.TheVariants.{Look as Looks, Edit as Edits}
 use Rattle.ctt_script.specs.declared.journal_fault.JournalFault.{JournalFault}
@@ -19,11 +19,13 @@ use Rattle.ctt_script.specs.declared.kinds.LookKind.{LookKind}
 use Rattle.ctt_script.specs.declared.kinds.LookKind.TheVariants as look
 use Rattle.ctt_script.specs.declared.kinds.PatternKind.{PatternKind}
 use Rattle.ctt_script.specs.declared.kinds.PatternKind.TheVariants as pattern
+use Rattle.ctt_script.specs.declared.kinds.SlotPatternKind.{SlotPatternKind}
+use Rattle.ctt_script.specs.declared.kinds.SlotPatternKind.TheVariants as to_any
 use Rattle.ctt_script.specs.declared.kinds.CallKind.{CallKind}
 use Rattle.ctt_script.specs.declared.kinds.CallKind.TheVariants as kind
 use Rattle.ctt_script.specs.Amounts.{number_below}
-use Rattle.ctt_script.specs.Kinds.{edit_kind, pattern_kind, look_kind, call_kind}
-use Rattle.ctt_script.specs.JournalWords.{word, name, label}
+use Rattle.ctt_script.specs.Kinds.{edit_kind, pattern_kind, slot_pattern_kind, look_kind, call_kind}
+use Rattle.ctt_script.specs.JournalWords.{word, mark_or, name, label}
 
 -- names in the instance, each parsed to its number
 unfoldable pub course : Problem → Form JournalFault ℕ
@@ -82,7 +84,7 @@ edit_form i = do
 
 -- `Some None` for `*`, which stands for any, or else what the word means
 abbrev pub any_or : {A : Type 0} → (List ℕ → Option A) → List ℕ → Option (Option A)
-any_or meaning w = if bytes_eq w (codes "*") then Some None else option_map Some (meaning w)
+any_or meaning w = mark_or (codes "*") meaning w
 
 -- a room, or `*` for any
 unfoldable pub room_choice : Problem → Form JournalFault (Option ℕ)
@@ -135,6 +137,38 @@ pattern_form i = do
   kind ← word pattern_kind pattern.Place
   pattern_after i kind
 
+-- `* *` for any slot
+unfoldable pub any_slot : Form JournalFault Unit
+any_slot = do
+  day_star ← label (codes "*")
+  label (codes "*")
+
+-- what follows the keyword of a pattern that leads to any slot
+unfoldable pub slot_pattern_after : Problem → SlotPatternKind → Form JournalFault SlotPattern
+slot_pattern_after i to_any.Place = do
+  c ← course i
+  r ← room_choice i
+  star ← any_slot
+  done (ToAnyPlace c r)
+slot_pattern_after i to_any.Move = do
+  c ← course i
+  s ← slot i
+  r ← room_choice i
+  star ← any_slot
+  done (ToAnyMove c s r)
+slot_pattern_after i to_any.Swap = do
+  c ← course i
+  s ← slot i
+  course_star ← label (codes "*")
+  star ← any_slot
+  done (ToAnySwap c s)
+
+-- a pattern that leads to any slot
+unfoldable pub slot_pattern_form : Problem → Form JournalFault SlotPattern
+slot_pattern_form i = do
+  kind ← word slot_pattern_kind to_any.Place
+  slot_pattern_after i kind
+
 -- what follows the keyword of a look
 unfoldable pub look_after : Problem → LookKind → Form JournalFault Look
 look_after i look.Course = do
@@ -161,6 +195,9 @@ look_after i look.Cheapest = do
   n ← word (number_below 1001) 0
   p ← pattern_form i
   done (Cheapest n p)
+look_after i look.Slots = do
+  p ← slot_pattern_form i
+  done (Slots p)
 
 -- a look
 unfoldable pub look_form : Problem → Form JournalFault Look

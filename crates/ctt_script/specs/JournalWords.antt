@@ -1,5 +1,7 @@
 -- The single words of the grammar of journals. Each word that is not allowed has the same fault.
-use Rattle.std.specs.Prelude.{ℕ, List, Bool, true, false, Option, Result}
+use Rattle.std.specs.Prelude.{ℕ, List, Bool, true, false, Option, Some, None, Result, if◌then◌else◌}
+use Rattle.std.specs.Option.{option_map}
+use Rattle.std.specs.Str.{bytes_eq}
 use Rattle.ctt_text.specs.Left.{Left}
 use Rattle.ctt_text.specs.Forms.{Form}
 use Rattle.ctt_text.specs.Places.{known, known_name, fixed}
@@ -10,6 +12,10 @@ use Rattle.ctt_script.specs.declared.journal_fault.JournalFault.TheVariants.{Mis
 -- one word, parsed to its meaning; a word without a meaning is not allowed
 abbrev pub word : {A : Type 0} → (List ℕ → Option A) → A → Form JournalFault A
 word meaning otherwise = known BadWord meaning otherwise
+
+-- `Some None` for this mark, or else what the word means
+abbrev pub mark_or : {A : Type 0} → List ℕ → (List ℕ → Option A) → List ℕ → Option (Option A)
+mark_or mark meaning w = if bytes_eq w mark then Some None else option_map Some (meaning w)
 
 -- one of these names, parsed to its position
 abbrev pub name : List (List ℕ) → Form JournalFault ℕ

@@ -5,15 +5,17 @@ use Rattle.std.specs.Option.{option_map}
 use Rattle.ctt_script.specs.declared.kinds.EditKind.{EditKind}
 use Rattle.ctt_script.specs.declared.kinds.EditKind.TheVariants.{Place, Move, Swap, Reroom, Drop}
 use Rattle.ctt_script.specs.declared.kinds.LookKind.{LookKind}
-use Rattle.ctt_script.specs.declared.kinds.LookKind.TheVariants.{Course, Slot, Teacher, Curriculum, CourseCost, Cost, Price, Missing, Cheapest}
+use Rattle.ctt_script.specs.declared.kinds.LookKind.TheVariants.{Course, Slot, Teacher, Curriculum, CourseCost, Cost, Price, Missing, Cheapest, Slots}
 use Rattle.ctt_script.specs.declared.kinds.PatternKind.{PatternKind}
 use Rattle.ctt_script.specs.declared.kinds.PatternKind.TheVariants as pattern
+use Rattle.ctt_script.specs.declared.kinds.SlotPatternKind.{SlotPatternKind}
+use Rattle.ctt_script.specs.declared.kinds.SlotPatternKind.TheVariants as to_any
 use Rattle.ctt_script.specs.declared.kinds.CallKind.{CallKind}
 use Rattle.ctt_script.specs.declared.kinds.CallKind.TheVariants.{Edit, Look}
 use Rattle.ctt_script.specs.declared.kinds.StepKind.{StepKind}
 use Rattle.ctt_script.specs.declared.kinds.StepKind.TheVariants.{Open, Commit, Refresh, Abandon, Peek, Status, Ask}
 use Rattle.ctt_script.specs.declared.kinds.ReplyKind.{ReplyKind}
-use Rattle.ctt_script.specs.declared.kinds.ReplyKind.TheVariants.{Done, Refused, Lectures, Costs, Price as Priced, Missing as AreMissing, Edits as AreCheapest}
+use Rattle.ctt_script.specs.declared.kinds.ReplyKind.TheVariants.{Done, Refused, Lectures, Costs, Price as Priced, Missing as AreMissing, Edits as AreCheapest, Slots as AreOffers}
 use Rattle.ctt_script.specs.declared.kinds.FaultKind.{FaultKind}
 use Rattle.ctt_script.specs.declared.kinds.FaultKind.TheVariants.{NotPlaced, SameSlot, SameCourse, AlreadyThere, CourseFull, Unavailable, Barred, Blocked, Clash, RoomTaken}
 
@@ -38,6 +40,7 @@ look_kind word =
     else if bytes_eq word (codes "price") then Some Price
     else if bytes_eq word (codes "missing") then Some Missing
     else if bytes_eq word (codes "cheapest") then Some Cheapest
+    else if bytes_eq word (codes "slots") then Some Slots
     else None
 
 unfoldable pub pattern_kind : List ℕ → Option PatternKind
@@ -46,6 +49,13 @@ pattern_kind word =
     else if bytes_eq word (codes "move") then Some pattern.Move
     else if bytes_eq word (codes "swap") then Some pattern.Swap
     else if bytes_eq word (codes "reroom") then Some pattern.Reroom
+    else None
+
+unfoldable pub slot_pattern_kind : List ℕ → Option SlotPatternKind
+slot_pattern_kind word =
+    if bytes_eq word (codes "place") then Some to_any.Place
+    else if bytes_eq word (codes "move") then Some to_any.Move
+    else if bytes_eq word (codes "swap") then Some to_any.Swap
     else None
 
 -- an edit, or else a look
@@ -75,6 +85,7 @@ reply_kind word =
     else if bytes_eq word (codes "price") then Some Priced
     else if bytes_eq word (codes "missing") then Some AreMissing
     else if bytes_eq word (codes "prices") then Some AreCheapest
+    else if bytes_eq word (codes "slots") then Some AreOffers
     else None
 
 unfoldable pub fault_kind : List ℕ → Option FaultKind

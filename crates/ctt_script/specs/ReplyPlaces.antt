@@ -1,5 +1,5 @@
 -- The grammar of replies.
-use Rattle.std.specs.Prelude.{ℕ, List, pos}
+use Rattle.std.specs.Prelude.{ℕ, List, Option, Some, None, ℤ, pos, codes}
 use Rattle.ctt_problem.specs.Problem.{Problem}
 use Rattle.ctt_problem.specs.declared.placed.Placed.{Placed}
 use Rattle.ctt_text.specs.Places.{number}
@@ -7,10 +7,12 @@ use Rattle.ctt_text.specs.Forms.{Form, done, ◌>>=◌, list_of}
 use Rattle.ctt_rules.specs.declared.cost.Cost.{Cost}
 use Rattle.ctt_edits.specs.declared.fault.EditFault.{EditFault}
 use Rattle.ctt_edits.specs.declared.fault.EditFault.TheVariants.{NotPlaced, SameSlot, SameCourse, AlreadyThere, CourseFull, Unavailable, Barred, Blocked, Clash, RoomTaken}
+use Rattle.ctt_edits.specs.declared.offer.Offer.{Offer}
+use Rattle.ctt_edits.specs.declared.offer.Offer.TheVariants as offer
 use Rattle.ctt_edits.specs.declared.priced_edit.PricedEdit.{PricedEdit}
 use Rattle.ctt_edits.specs.declared.shortfall.Shortfall.{Shortfall}
 use Rattle.ctt_edits.specs.declared.reply.Reply.{Reply}
-use Rattle.ctt_edits.specs.declared.reply.Reply.TheVariants.{Done, Refused, Lectures, Costs, Price as Priced, Missing as AreMissing, Edits as AreCheapest}
+use Rattle.ctt_edits.specs.declared.reply.Reply.TheVariants.{Done, Refused, Lectures, Costs, Price as Priced, Missing as AreMissing, Edits as AreCheapest, Slots as AreOffers}
 use Rattle.ctt_script.specs.declared.journal_fault.JournalFault.{JournalFault}
 use Rattle.ctt_script.specs.declared.journal_fault.JournalFault.TheVariants.{BadWord}
 use Rattle.ctt_script.specs.declared.kinds.ReplyKind.{ReplyKind}
@@ -19,7 +21,7 @@ use Rattle.ctt_script.specs.declared.kinds.FaultKind.{FaultKind}
 use Rattle.ctt_script.specs.declared.kinds.FaultKind.TheVariants as fault
 use Rattle.ctt_script.specs.Amounts.{amount_of, price_of}
 use Rattle.ctt_script.specs.Kinds.{reply_kind, fault_kind}
-use Rattle.ctt_script.specs.JournalWords.{word}
+use Rattle.ctt_script.specs.JournalWords.{word, mark_or}
 use Rattle.ctt_script.specs.CallPlaces.{course, room, slot, edit_form}
 
 -- what follows the keyword of a fault
@@ -101,6 +103,37 @@ priced_edits i = do
   n ← count
   list_of (priced i) n
 
+-- what follows `-`: a fault, or `none`
+unfoldable pub refusal_after : Problem → Option FaultKind → Form JournalFault Offer
+refusal_after i None = done offer.Nothing
+refusal_after i (Some kind) = do
+  f ← fault_after i kind
+  done (offer.Refused f)
+
+unfoldable pub refusal : Problem → Form JournalFault Offer
+refusal i = do
+  kind ← word (mark_or (codes "none") fault_kind) None
+  refusal_after i kind
+
+-- what follows the price, or `-`
+unfoldable pub offer_after : Problem → Option ℤ → Form JournalFault Offer
+offer_after i None = refusal i
+offer_after i (Some p) = do
+  e ← edit_form i
+  done (offer.Priced (record { edit = e; price = p }))
+
+-- what a slot offers: a price and its edit, or `-` and why there is none
+unfoldable pub offer_form : Problem → Form JournalFault Offer
+offer_form i = do
+  p ← word (mark_or (codes "-") price_of) None
+  offer_after i p
+
+-- a count, and what each of that many slots offers
+unfoldable pub offers : Problem → Form JournalFault (List Offer)
+offers i = do
+  n ← count
+  list_of (offer_form i) n
+
 -- what follows the keyword of a reply
 unfoldable pub reply_after : Problem → ReplyKind → Form JournalFault Reply
 reply_after i reply.Done = done Done
@@ -122,6 +155,9 @@ reply_after i reply.Missing = do
 reply_after i reply.Edits = do
   xs ← priced_edits i
   done (AreCheapest xs)
+reply_after i reply.Slots = do
+  xs ← offers i
+  done (AreOffers xs)
 
 -- a reply
 unfoldable pub reply_form : Problem → Form JournalFault Reply

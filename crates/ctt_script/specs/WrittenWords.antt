@@ -7,9 +7,12 @@ use Rattle.ctt_rules.specs.declared.cost.Cost.{Cost}
 use Rattle.ctt_edits.specs.declared.edit.Edit.{Edit}
 use Rattle.ctt_edits.specs.declared.edit.Edit.TheVariants.{Place, Move, Swap, Reroom, Drop}
 use Rattle.ctt_edits.specs.declared.looks.Look.{Look}
-use Rattle.ctt_edits.specs.declared.looks.Look.TheVariants.{Course, Slot, Teacher, Curriculum, CourseCost, Cost as CostLook, Price, Missing, Cheapest}
+use Rattle.ctt_edits.specs.declared.looks.Look.TheVariants.{Course, Slot, Teacher, Curriculum, CourseCost, Cost as CostLook, Price, Missing, Cheapest, Slots}
 use Rattle.ctt_edits.specs.declared.pattern.Pattern.{Pattern}
 use Rattle.ctt_edits.specs.declared.pattern.Pattern.TheVariants.{Place as AnyPlace, Move as AnyMove, Swap as AnySwap, Reroom as AnyReroom}
+use Rattle.ctt_edits.specs.Offers.{pattern_of}
+use Rattle.ctt_edits.specs.declared.offer.Offer.{Offer}
+use Rattle.ctt_edits.specs.declared.offer.Offer.TheVariants as offer
 use Rattle.ctt_edits.specs.declared.priced_edit.PricedEdit.{PricedEdit}
 use Rattle.ctt_edits.specs.declared.shortfall.Shortfall.{Shortfall}
 use Rattle.ctt_edits.specs.declared.call.Call.{Call}
@@ -17,7 +20,7 @@ use Rattle.ctt_edits.specs.declared.call.Call.TheVariants.{Look as Looks, Edit a
 use Rattle.ctt_edits.specs.declared.fault.EditFault.{EditFault}
 use Rattle.ctt_edits.specs.declared.fault.EditFault.TheVariants.{NotPlaced, SameSlot, SameCourse, AlreadyThere, CourseFull, Unavailable, Barred, Blocked, Clash, RoomTaken}
 use Rattle.ctt_edits.specs.declared.reply.Reply.{Reply}
-use Rattle.ctt_edits.specs.declared.reply.Reply.TheVariants.{Done, Refused, Lectures, Costs, Price as Priced, Missing as AreMissing, Edits as AreCheapest}
+use Rattle.ctt_edits.specs.declared.reply.Reply.TheVariants.{Done, Refused, Lectures, Costs, Price as Priced, Missing as AreMissing, Edits as AreCheapest, Slots as AreOffers}
 use Rattle.ctt_draft.specs.declared.asked.Asked.{Asked}
 use Rattle.ctt_core.specs.declared.journal.JournalEntry.{JournalEntry}
 
@@ -70,6 +73,7 @@ look_words i CostLook = codes "cost" ∷ []
 look_words i (Price e) = codes "price" ∷ edit_words i e
 look_words i Missing = codes "missing" ∷ []
 look_words i (Cheapest n p) = codes "cheapest" ∷ decimal n ∷ pattern_words i p
+look_words i (Slots p) = codes "slots" ∷ pattern_words i (pattern_of p)
 
 abbrev pub call_words : Problem → Call → List (List ℕ)
 call_words i (Looks l) = look_words i l
@@ -99,6 +103,12 @@ shortfall_words i s = course_word i s.course ∷ decimal s.missing ∷ []
 abbrev pub priced_words : Problem → PricedEdit → List (List ℕ)
 priced_words i p = signed_decimal p.price ∷ edit_words i p.edit
 
+-- the cheapest edit to a slot with its price, or `-` and why there is none
+abbrev pub offer_words : Problem → Offer → List (List ℕ)
+offer_words i (offer.Priced p) = priced_words i p
+offer_words i (offer.Refused f) = codes "-" ∷ fault_words i f
+offer_words i offer.Nothing = codes "-" ∷ codes "none" ∷ []
+
 abbrev pub reply_words : Problem → Reply → List (List ℕ)
 reply_words i Done = codes "done" ∷ []
 reply_words i (Refused f) = codes "refused" ∷ fault_words i f
@@ -107,6 +117,7 @@ reply_words i (Costs c) = cost_words c
 reply_words i (Priced p) = codes "price" ∷ signed_decimal p ∷ []
 reply_words i (AreMissing xs) = codes "missing" ∷ decimal (length xs) ∷ flat_map (shortfall_words i) xs
 reply_words i (AreCheapest xs) = codes "prices" ∷ decimal (length xs) ∷ flat_map (priced_words i) xs
+reply_words i (AreOffers xs) = codes "slots" ∷ decimal (length xs) ∷ flat_map (offer_words i) xs
 
 abbrev pub asked_words : Problem → Asked → List (List ℕ)
 asked_words i s = call_words i s.call ++ reply_words i s.reply

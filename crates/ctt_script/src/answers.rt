@@ -59,6 +59,7 @@ pub(crate) fn write_reply(
         Reply::Price(price) => push_line(text, two("price", Word::amount(*price)).as_slice()),
         Reply::Missing(courses) => write_items(text, "missing", instance, courses.as_slice()),
         Reply::Edits(edits) => write_items(text, "prices", instance, edits.as_slice()),
+        Reply::Slots(offers) => write_items(text, "slots", instance, offers.as_slice()),
     }
 }
 

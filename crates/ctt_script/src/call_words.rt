@@ -270,6 +270,10 @@ fn words_of_look<'i>(instance: &'i Instance, look: &Look) -> Words<'i>
             );
             after(Word::text("cheapest"), words)
         }
+        Look::Slots(pattern) => after(
+            Word::text("slots"),
+            words_of_pattern(instance, &pattern.pattern()),
+        ),
     }
 }
 

@@ -7,7 +7,7 @@ ghost use Rattle.ctt_script.specs.declared.kinds.LookKind.TheVariants as look;
 
 use crate::journal_fault::JournalFault;
 use crate::kinds::{CallKind, EditKind, LookKind};
-use crate::patterns::read_pattern;
+use crate::patterns::{read_pattern, read_slot_pattern};
 use crate::places::{
     read_call_kind, read_course, read_curriculum, read_edit_kind, read_look_kind,
     read_number_below, read_room, read_slot, read_teacher,
@@ -135,6 +135,7 @@ fn read_look_after(
         LookKind::Price => Look::Price(read_edit(reader, instance)?),
         LookKind::Missing => Look::Missing,
         LookKind::Cheapest => read_cheapest(reader, instance)?,
+        LookKind::Slots => Look::Slots(read_slot_pattern(reader, instance)?),
     })
 }
 

@@ -1,12 +1,13 @@
 //! The items of the lists in replies.
 
 use crate::call_words::{Words, after, course, day, period, room, two, words_of_edit};
+use crate::reply_words::words_of_fault;
 use arrayvec::ArrayVec;
-use ctt_edits::{PricedEdit, Shortfall};
+use ctt_edits::{Offer, PricedEdit, Shortfall};
 use ctt_line::Word;
 use ctt_text::{Instance, Placed};
 
-/// An item of a list in a reply: a lecture, a shortfall or a priced edit.
+/// An item of a list in a reply: a lecture, a shortfall, a priced edit, or what a slot offers.
 pub(crate) trait Item {
     ghost use Rattle.std.specs.Prelude.{◌≡◌, List, ℕ};
     ghost use Rattle.ctt_problem.specs.Problem.{Problem};
@@ -70,5 +71,22 @@ impl Item for PricedEdit {
             Word::amount(self.price),
             words_of_edit(instance, &self.edit),
         )
+    }
+}
+
+impl Item for Offer {
+    ghost use Rattle.ctt_edits.specs.Fitting.{OfferFits};
+    ghost use Rattle.ctt_script.specs.WrittenWords.{offer_words};
+
+    ghost fits = { OfferFits };
+
+    ghost words = { offer_words };
+
+    fn words<'i>(&self, instance: &'i Instance) -> Words<'i> {
+        match self {
+            Offer::Priced(priced) => priced.words(instance),
+            Offer::Refused(fault) => after(Word::text("-"), words_of_fault(instance, fault)),
+            Offer::Nothing => two("-", Word::text("none")),
+        }
     }
 }

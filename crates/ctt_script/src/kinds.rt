@@ -2,7 +2,7 @@
 
 ghost use Rattle.std.specs.Prelude.{◌≡◌};
 ghost use Rattle.std.specs.Str.{bytes_eq};
-ghost use Rattle.ctt_script.specs.Kinds.{edit_kind, pattern_kind, look_kind, call_kind, step_kind, reply_kind, fault_kind};
+ghost use Rattle.ctt_script.specs.Kinds.{edit_kind, pattern_kind, slot_pattern_kind, look_kind, call_kind, step_kind, reply_kind, fault_kind};
 
 /// The kind of an edit.
 #[derive(Clone, Copy)]
@@ -26,6 +26,7 @@ pub(crate) enum LookKind {
     Price,
     Missing,
     Cheapest,
+    Slots,
 }
 
 /// The kind of an edit pattern.
@@ -35,6 +36,14 @@ pub(crate) enum PatternKind {
     Move,
     Swap,
     Reroom,
+}
+
+/// The kind of an edit pattern that leads to any slot.
+#[derive(Clone, Copy)]
+pub(crate) enum SlotPatternKind {
+    Place,
+    Move,
+    Swap,
 }
 
 /// The kind of a call.
@@ -66,6 +75,7 @@ pub(crate) enum ReplyKind {
     Price,
     Missing,
     Edits,
+    Slots,
 }
 
 /// The kind of an edit's fault.
@@ -147,6 +157,8 @@ pub(crate) fn look_kind(word: &str) -> Option<LookKind>
         Some(LookKind::Missing)
     } else if is_word(word, "cheapest") {
         Some(LookKind::Cheapest)
+    } else if is_word(word, "slots") {
+        Some(LookKind::Slots)
     } else {
         None
     }
@@ -165,6 +177,22 @@ pub(crate) fn pattern_kind(word: &str) -> Option<PatternKind>
         Some(PatternKind::Swap)
     } else if is_word(word, "reroom") {
         Some(PatternKind::Reroom)
+    } else {
+        None
+    }
+}
+
+/// Returns the kind of edit pattern to any slot that a keyword stands for.
+#[tactic(auto, unfolding(crate::specs::Kinds::slot_pattern_kind))]
+pub(crate) fn slot_pattern_kind(word: &str) -> Option<SlotPatternKind>
+    ensures { result ≡ slot_pattern_kind word.now }
+{
+    if is_word(word, "place") {
+        Some(SlotPatternKind::Place)
+    } else if is_word(word, "move") {
+        Some(SlotPatternKind::Move)
+    } else if is_word(word, "swap") {
+        Some(SlotPatternKind::Swap)
     } else {
         None
     }
@@ -223,6 +251,8 @@ pub(crate) fn reply_kind(word: &str) -> Option<ReplyKind>
         Some(ReplyKind::Missing)
     } else if is_word(word, "prices") {
         Some(ReplyKind::Edits)
+    } else if is_word(word, "slots") {
+        Some(ReplyKind::Slots)
     } else {
         None
     }

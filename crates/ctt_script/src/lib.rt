@@ -12,6 +12,7 @@ mod journal_fault;
 mod kinds;
 pub mod laws;
 mod lines;
+mod offers;
 mod patterns;
 mod places;
 mod replies;

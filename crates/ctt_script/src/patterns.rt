@@ -4,16 +4,18 @@ ghost use Rattle.std.specs.Prelude.{◌≡◌, ◌<◌, IfOk, IfSome, None, code
 ghost use Rattle.ctt_problem.specs.Problem.{number_in};
 ghost use Rattle.ctt_script.specs.Amounts.{number_below};
 ghost use Rattle.ctt_script.specs.JournalWords.{word, label, reads, IsRead};
-ghost use Rattle.ctt_script.specs.CallPlaces.{any_or, room_choice, slot_after, slot_choice, pattern_after, pattern_form};
+ghost use Rattle.ctt_script.specs.CallPlaces.{any_or, room_choice, slot_after, slot_choice, pattern_after, pattern_form, any_slot, slot_pattern_after, slot_pattern_form};
 ghost use Rattle.ctt_script.specs.declared.kinds.PatternKind.TheVariants as pattern;
+ghost use Rattle.ctt_script.specs.declared.kinds.SlotPatternKind.TheVariants as to_any;
 
 use crate::amounts::number_below;
 use crate::journal_fault::JournalFault;
-use crate::kinds::{PatternKind, is_word};
+use crate::kinds::{PatternKind, SlotPatternKind, is_word};
 use crate::places::{
-    read_course, read_label, read_number_below, read_pattern_kind, read_slot, read_word,
+    read_course, read_label, read_number_below, read_pattern_kind, read_slot,
+    read_slot_pattern_kind, read_word,
 };
-use ctt_edits::Pattern;
+use ctt_edits::{Pattern, SlotPattern};
 use ctt_text::{Instance, Reader, RoomNo, SlotNo};
 
 /// Returns the room that a word names, or `Some(None)` for `*`, which stands for any room.
@@ -180,4 +182,90 @@ pub(crate) fn read_pattern(
 {
     let kind = read_pattern_kind(reader)?;
     read_pattern_after(reader, instance, kind)
+}
+
+/// Parses `* *`, which stands for any slot.
+#[tactic(auto, using(crate::proofs::JournalSteps::read_bind), unfolding(crate::specs::CallPlaces::any_slot))]
+fn read_any_slot(reader: &mut Reader) -> Result<(), JournalFault>
+    ensures { IsRead (λ _. (tt, reader.new)) result (reads any_slot reader.old) }
+{
+    read_label(reader, "*")?;
+    read_label(reader, "*")
+}
+
+/// Parses what follows `place` in a pattern to any slot: a course, a room or `*`, and `* *`.
+#[tactic(auto, using(crate::proofs::JournalSteps::read_bind, crate::proofs::JournalSteps::read_done), unfolding(crate::specs::CallPlaces::slot_pattern_after))]
+fn read_place_anywhere(
+    reader: &mut Reader,
+    instance: &Instance,
+) -> Result<SlotPattern, JournalFault>
+    ensures { IsRead (λ pattern. (pattern, reader.new)) result
+        (reads (slot_pattern_after instance.now to_any.Place) reader.old) }
+{
+    let course = read_course(reader, instance)?;
+    let room = read_room_choice(reader, instance)?;
+    read_any_slot(reader)?;
+    Ok(SlotPattern::Place(course, room))
+}
+
+/// Parses what follows `move` in a pattern to any slot: a course, its slot, a room or `*`, and
+/// `* *`.
+#[tactic(auto, using(crate::proofs::JournalSteps::read_bind, crate::proofs::JournalSteps::read_done), unfolding(crate::specs::CallPlaces::slot_pattern_after))]
+fn read_move_anywhere(
+    reader: &mut Reader,
+    instance: &Instance,
+) -> Result<SlotPattern, JournalFault>
+    ensures { IsRead (λ pattern. (pattern, reader.new)) result
+        (reads (slot_pattern_after instance.now to_any.Move) reader.old) }
+{
+    let course = read_course(reader, instance)?;
+    let slot = read_slot(reader, instance)?;
+    let room = read_room_choice(reader, instance)?;
+    read_any_slot(reader)?;
+    Ok(SlotPattern::Move(course, slot, room))
+}
+
+/// Parses what follows `swap` in a pattern to any slot: a course, its slot, and `* * *`.
+#[tactic(auto, using(crate::proofs::JournalSteps::read_bind, crate::proofs::JournalSteps::read_done), unfolding(crate::specs::CallPlaces::slot_pattern_after))]
+fn read_swap_anywhere(
+    reader: &mut Reader,
+    instance: &Instance,
+) -> Result<SlotPattern, JournalFault>
+    ensures { IsRead (λ pattern. (pattern, reader.new)) result
+        (reads (slot_pattern_after instance.now to_any.Swap) reader.old) }
+{
+    let course = read_course(reader, instance)?;
+    let slot = read_slot(reader, instance)?;
+    read_label(reader, "*")?;
+    read_any_slot(reader)?;
+    Ok(SlotPattern::Swap(course, slot))
+}
+
+/// Parses what follows the keyword of a pattern to any slot.
+fn read_slot_pattern_after(
+    reader: &mut Reader,
+    instance: &Instance,
+    kind: SlotPatternKind,
+) -> Result<SlotPattern, JournalFault>
+    ensures { IsRead (λ pattern. (pattern, reader.new)) result
+        (reads (slot_pattern_after instance.now kind) reader.old) }
+{
+    match kind {
+        SlotPatternKind::Place => read_place_anywhere(reader, instance),
+        SlotPatternKind::Move => read_move_anywhere(reader, instance),
+        SlotPatternKind::Swap => read_swap_anywhere(reader, instance),
+    }
+}
+
+/// Parses an edit pattern that leads to any slot.
+#[tactic(auto, using(crate::proofs::JournalSteps::read_bind), unfolding(crate::specs::CallPlaces::slot_pattern_form))]
+pub(crate) fn read_slot_pattern(
+    reader: &mut Reader,
+    instance: &Instance,
+) -> Result<SlotPattern, JournalFault>
+    ensures { IsRead (λ pattern. (pattern, reader.new)) result
+        (reads (slot_pattern_form instance.now) reader.old) }
+{
+    let kind = read_slot_pattern_kind(reader)?;
+    read_slot_pattern_after(reader, instance, kind)
 }

@@ -4,12 +4,13 @@ ghost use Rattle.std.specs.Prelude.{◌<◌, IfOk, pos};
 ghost use Rattle.ctt_text.specs.Reading.{word_at};
 ghost use Rattle.ctt_script.specs.Amounts.{price_of, number_below};
 ghost use Rattle.ctt_script.specs.JournalWords.{word, label, missing, reads, IsRead};
-ghost use Rattle.ctt_script.specs.Kinds.{edit_kind, pattern_kind, look_kind, call_kind, reply_kind, fault_kind};
+ghost use Rattle.ctt_script.specs.Kinds.{edit_kind, pattern_kind, slot_pattern_kind, look_kind, call_kind, reply_kind, fault_kind};
 ghost use Rattle.ctt_script.specs.CallPlaces.{course, room, teacher, curriculum, slot};
 ghost use Rattle.ctt_script.specs.ReplyPlaces.{count, amount};
 ghost use Rattle.ctt_script.specs.declared.kinds.EditKind.TheVariants as edit;
 ghost use Rattle.ctt_script.specs.declared.kinds.LookKind.TheVariants as look;
 ghost use Rattle.ctt_script.specs.declared.kinds.PatternKind.TheVariants as pattern;
+ghost use Rattle.ctt_script.specs.declared.kinds.SlotPatternKind.TheVariants as to_any;
 ghost use Rattle.ctt_script.specs.declared.kinds.CallKind.TheVariants as kind;
 ghost use Rattle.ctt_script.specs.declared.kinds.ReplyKind.TheVariants as reply;
 ghost use Rattle.ctt_script.specs.declared.kinds.FaultKind.TheVariants as fault;
@@ -17,8 +18,8 @@ ghost use Rattle.ctt_script.specs.declared.kinds.FaultKind.TheVariants as fault;
 use crate::amounts::{amount, price};
 use crate::journal_fault::JournalFault;
 use crate::kinds::{
-    CallKind, EditKind, FaultKind, LookKind, PatternKind, ReplyKind, call_kind, edit_kind,
-    fault_kind, look_kind, pattern_kind, reply_kind,
+    CallKind, EditKind, FaultKind, LookKind, PatternKind, ReplyKind, SlotPatternKind, call_kind,
+    edit_kind, fault_kind, look_kind, pattern_kind, reply_kind, slot_pattern_kind,
 };
 use ctt_text::{
     CourseNo, CurriculumNo, Instance, Reader, RoomNo, SlotNo, TeacherNo, next_course, next_fixed,
@@ -176,6 +177,17 @@ pub(crate) fn read_pattern_kind(reader: &mut Reader) -> Result<PatternKind, Jour
     let at = reader.next();
     let word = read_word(reader)?;
     pattern_kind(word).ok_or(JournalFault::BadWord(at))
+}
+
+/// Parses the keyword of an edit pattern that leads to any slot.
+#[tactic(auto, using(crate::proofs::JournalSteps::read_word))]
+pub(crate) fn read_slot_pattern_kind(reader: &mut Reader) -> Result<SlotPatternKind, JournalFault>
+    ensures { IsRead (λ kind. (kind, reader.new)) result
+        (reads (word slot_pattern_kind to_any.Place) reader.old) }
+{
+    let at = reader.next();
+    let word = read_word(reader)?;
+    slot_pattern_kind(word).ok_or(JournalFault::BadWord(at))
 }
 
 /// Parses the keyword of a call.

@@ -7,6 +7,7 @@ ghost use Rattle.ctt_script.specs.ReplyPlaces.{fault_after, fault_form, lecture,
 use crate::calls::read_edit;
 use crate::journal_fault::JournalFault;
 use crate::kinds::{FaultKind, ReplyKind};
+use crate::offers::read_offers;
 use crate::places::{
     read_amount, read_count, read_course, read_fault_kind, read_price, read_reply_kind, read_room,
     read_slot,
@@ -18,7 +19,7 @@ use std::alloc::Global;
 
 /// Parses what follows the keyword of a fault.
 #[tactic(auto, using(crate::proofs::JournalSteps::read_bind, crate::proofs::JournalSteps::read_done), unfolding(crate::specs::ReplyPlaces::fault_after))]
-fn read_fault_after(
+pub(crate) fn read_fault_after(
     reader: &mut Reader,
     instance: &Instance,
     kind: FaultKind,
@@ -252,6 +253,7 @@ fn read_reply_after(
             alloc, reader, instance,
         )?))),
         ReplyKind::Edits => Ok(Reply::Edits(read_priced_edits(alloc, reader, instance)?)),
+        ReplyKind::Slots => Ok(Reply::Slots(read_offers(alloc, reader, instance)?)),
     }
 }
 

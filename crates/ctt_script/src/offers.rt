@@ -1,0 +1,163 @@
+//! Parsing what slots offer.
+
+ghost use Rattle.std.specs.Prelude.{◌≡◌, None, codes};
+ghost use Rattle.ctt_text.specs.Forms.{list_of, one_more};
+ghost use Rattle.ctt_script.specs.Amounts.{price_of};
+ghost use Rattle.ctt_script.specs.Kinds.{fault_kind};
+ghost use Rattle.ctt_script.specs.JournalWords.{word, mark_or, reads, IsRead, GivesRead};
+ghost use Rattle.ctt_script.specs.ReplyPlaces.{refusal_after, refusal, offer_after, offer_form, offers};
+
+use crate::amounts::price;
+use crate::calls::read_edit;
+use crate::journal_fault::JournalFault;
+use crate::kinds::{FaultKind, fault_kind, is_word};
+use crate::places::{read_count, read_word};
+use crate::replies::read_fault_after;
+use ctt_edits::{Offer, Offers, PricedEdit};
+use ctt_text::{Instance, Reader};
+use std::alloc::Global;
+
+/// Returns the kind of fault that a word names, or `Some(None)` for `none`.
+fn fault_or_none(word: &str) -> Option<Option<FaultKind>>
+    ensures { result ≡ mark_or (codes "none") fault_kind word.now }
+{
+    if is_word(word, "none") {
+        Some(None)
+    } else {
+        Some(Some(fault_kind(word)?))
+    }
+}
+
+/// Parses the keyword of a fault, or `none`.
+#[tactic(auto, using(crate::proofs::JournalSteps::read_word))]
+fn read_fault_or_none(reader: &mut Reader) -> Result<Option<FaultKind>, JournalFault>
+    ensures { IsRead (λ kind. (kind, reader.new)) result
+        (reads (word (mark_or (codes "none") fault_kind) None) reader.old) }
+{
+    let at = reader.next();
+    let word = read_word(reader)?;
+    fault_or_none(word).ok_or(JournalFault::BadWord(at))
+}
+
+/// Returns the price that a word gives, or `Some(None)` for `-`.
+fn price_or_dash(word: &str) -> Option<Option<i64>>
+    ensures { result ≡ mark_or (codes "-") price_of word.now }
+{
+    if is_word(word, "-") {
+        Some(None)
+    } else {
+        Some(Some(price(word.as_bytes())?))
+    }
+}
+
+/// Parses a price, or `-`.
+#[tactic(auto, using(crate::proofs::JournalSteps::read_word))]
+fn read_price_or_dash(reader: &mut Reader) -> Result<Option<i64>, JournalFault>
+    ensures { IsRead (λ price. (price, reader.new)) result
+        (reads (word (mark_or (codes "-") price_of) None) reader.old) }
+{
+    let at = reader.next();
+    let word = read_word(reader)?;
+    price_or_dash(word).ok_or(JournalFault::BadWord(at))
+}
+
+/// Parses what follows the keyword of a fault or `none`.
+#[tactic(auto, using(crate::proofs::JournalSteps::read_bind, crate::proofs::JournalSteps::read_done), unfolding(crate::specs::ReplyPlaces::refusal_after))]
+fn read_refusal_after(
+    reader: &mut Reader,
+    instance: &Instance,
+    kind: Option<FaultKind>,
+) -> Result<Offer, JournalFault>
+    ensures { IsRead (λ offer. (offer, reader.new)) result
+        (reads (refusal_after instance.now kind) reader.old) }
+{
+    match kind {
+        Some(kind) => Ok(Offer::Refused(read_fault_after(reader, instance, kind)?)),
+        None => Ok(Offer::Nothing),
+    }
+}
+
+/// Parses what follows `-`: a fault, or `none`.
+#[tactic(auto, using(crate::proofs::JournalSteps::read_bind), unfolding(crate::specs::ReplyPlaces::refusal))]
+fn read_refusal(reader: &mut Reader, instance: &Instance) -> Result<Offer, JournalFault>
+    ensures { IsRead (λ offer. (offer, reader.new)) result
+        (reads (refusal instance.now) reader.old) }
+{
+    let kind = read_fault_or_none(reader)?;
+    read_refusal_after(reader, instance, kind)
+}
+
+/// Parses what follows a price, or `-`: an edit, or why there is none.
+#[tactic(auto, using(crate::proofs::JournalSteps::read_bind, crate::proofs::JournalSteps::read_done), unfolding(crate::specs::ReplyPlaces::offer_after))]
+fn read_offer_after(
+    reader: &mut Reader,
+    instance: &Instance,
+    price: Option<i64>,
+) -> Result<Offer, JournalFault>
+    ensures { IsRead (λ offer. (offer, reader.new)) result
+        (reads (offer_after instance.now price) reader.old) }
+{
+    match price {
+        Some(price) => {
+            let edit = read_edit(reader, instance)?;
+            Ok(Offer::Priced(PricedEdit { edit, price }))
+        }
+        None => read_refusal(reader, instance),
+    }
+}
+
+/// Parses what a slot offers: a price and its edit, or `-` and why there is none.
+#[tactic(auto, using(crate::proofs::JournalSteps::read_bind), unfolding(crate::specs::ReplyPlaces::offer_form))]
+fn read_offer(reader: &mut Reader, instance: &Instance) -> Result<Offer, JournalFault>
+    ensures { IsRead (λ offer. (offer, reader.new)) result
+        (reads (offer_form instance.now) reader.old) }
+{
+    let price = read_price_or_dash(reader)?;
+    read_offer_after(reader, instance, price)
+}
+
+/// Parses what a slot offers, and adds it to the list.
+#[tactic(auto, using(crate::proofs::JournalSteps::read_one_more))]
+fn read_one_offer(
+    reader: &mut Reader,
+    instance: &Instance,
+    list: &mut Offers,
+) -> Result<(), JournalFault>
+    ensures { GivesRead (λ _. (list.new, reader.new)) result
+        (reads (one_more (offer_form instance.now) list.old) reader.old) }
+{
+    let offer = read_offer(reader, instance)?;
+    list.push(&offer)?;
+    Ok(())
+}
+
+/// Parses what each of `count` slots offers.
+fn read_so_many_offers(
+    alloc: Global,
+    reader: &mut Reader,
+    instance: &Instance,
+    count: u32,
+) -> Result<Offers, JournalFault>
+    ensures { GivesRead (λ list. (list, reader.new)) result
+        (reads (list_of (offer_form instance.now) count) reader.old) }
+{
+    let mut list = Offers::none(alloc);
+    for _ in 0..count {
+        read_one_offer(reader, instance, &mut list)?;
+    }
+    Ok(list)
+}
+
+/// Parses a count, and what each of that many slots offers.
+#[tactic(auto, using(crate::proofs::JournalSteps::read_bind), unfolding(crate::specs::ReplyPlaces::offers))]
+pub(crate) fn read_offers(
+    alloc: Global,
+    reader: &mut Reader,
+    instance: &Instance,
+) -> Result<Offers, JournalFault>
+    ensures { GivesRead (λ list. (list, reader.new)) result
+        (reads (offers instance.now) reader.old) }
+{
+    let count = read_count(reader)?;
+    read_so_many_offers(alloc, reader, instance, count)
+}
