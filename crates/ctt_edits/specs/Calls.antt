@@ -7,6 +7,7 @@ use Rattle.ctt_problem.specs.Timetable.{course_row, slot_row}
 use Rattle.ctt_problem.specs.declared.placed.Placed.{Placed}
 use Rattle.ctt_board.specs.declared.cell.Cell.{Cell}
 use Rattle.ctt_edits.specs.Edits.{EditFits, edit_fault, change}
+use Rattle.ctt_edits.specs.Offers.{pattern_of}
 use Rattle.ctt_edits.specs.Looks.{LookFits, shown, told_or}
 use Rattle.ctt_edits.specs.declared.reply.Reply.{Reply}
 use Rattle.ctt_edits.specs.declared.reply.Reply.TheVariants.{Done}
@@ -14,7 +15,7 @@ use Rattle.ctt_edits.specs.declared.edit.Edit.{Edit}
 use Rattle.ctt_edits.specs.declared.edit.Edit.TheVariants.{Place, Move, Swap, Reroom, Drop}
 use Rattle.ctt_edits.specs.declared.fault.EditFault.{EditFault}
 use Rattle.ctt_edits.specs.declared.looks.Look.{Look}
-use Rattle.ctt_edits.specs.declared.looks.Look.TheVariants.{Course, Slot, Teacher, Curriculum, CourseCost, Price, Missing, Cheapest, Cost as WholeCost}
+use Rattle.ctt_edits.specs.declared.looks.Look.TheVariants.{Course, Slot, Teacher, Curriculum, CourseCost, Price, Missing, Cheapest, Slots, Cost as WholeCost}
 use Rattle.ctt_edits.specs.declared.call.Call.{Call}
 use Rattle.ctt_edits.specs.declared.call.Call.TheVariants.{Look as Looks, Edit as Edits}
 use Rattle.ctt_edits.specs.declared.pattern.Pattern.{Pattern}
@@ -92,6 +93,7 @@ look_reads_course i WholeCost x = true
 look_reads_course i (Price e) x = with_mates i (edit_courses e) x
 look_reads_course i Missing x = true
 look_reads_course i (Cheapest n p) x = pattern_reads_course i p x
+look_reads_course i (Slots p) x = pattern_reads_course i (pattern_of p) x
 
 -- x is a slot whose row a look reads
 abbrev pub look_reads_slot : Look → ℕ → Bool
@@ -104,6 +106,7 @@ look_reads_slot WholeCost x = false
 look_reads_slot (Price e) x = has x (edit_slots e)
 look_reads_slot Missing x = false
 look_reads_slot (Cheapest n p) x = pattern_reads_slot p x
+look_reads_slot (Slots p) x = pattern_reads_slot (pattern_of p) x
 
 -- x is a course whose row a call reads
 abbrev pub reads_course : Problem → Call → ℕ → Bool

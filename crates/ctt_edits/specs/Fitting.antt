@@ -7,9 +7,11 @@ use Rattle.ctt_rules.specs.declared.cost.Cost.{Cost}
 use Rattle.ctt_edits.specs.Edits.{EditFits}
 use Rattle.ctt_edits.specs.declared.fault.EditFault.{EditFault}
 use Rattle.ctt_edits.specs.declared.fault.EditFault.TheVariants.{Clash, RoomTaken}
+use Rattle.ctt_edits.specs.declared.offer.Offer.{Offer}
+use Rattle.ctt_edits.specs.declared.offer.Offer.TheVariants.{Priced, Refused as IsRefused, Nothing}
 use Rattle.ctt_edits.specs.declared.priced_edit.PricedEdit.{PricedEdit}
 use Rattle.ctt_edits.specs.declared.reply.Reply.{Reply}
-use Rattle.ctt_edits.specs.declared.reply.Reply.TheVariants.{Done, Refused, Lectures, Costs, Price, Missing, Edits}
+use Rattle.ctt_edits.specs.declared.reply.Reply.TheVariants.{Done, Refused, Lectures, Costs, Price, Missing, Edits, Slots}
 use Rattle.ctt_edits.specs.declared.shortfall.Shortfall.{Shortfall}
 
 -- the course that it names, if any, is one of the instance
@@ -34,6 +36,12 @@ ShortfallFits i s = (s.course < course_count i) × (s.missing ≤ 999999999)
 abbrev pub PricedFits : Problem → PricedEdit → Type 0
 PricedFits i p = EditFits i p.edit × IsAmount (unsigned_abs p.price)
 
+-- an edit with its price, or a fault, that fits
+abbrev pub OfferFits : Problem → Offer → Type 0
+OfferFits i (Priced p) = PricedFits i p
+OfferFits i (IsRefused f) = FaultFits i f
+OfferFits i Nothing = Unit {0}
+
 -- its numbers are those of the instance, and its costs and absolute prices are below 2^63
 abbrev pub ReplyFits : Problem → Reply → Type 0
 ReplyFits i Done = Unit {0}
@@ -43,6 +51,7 @@ ReplyFits i (Costs c) = CostFits c
 ReplyFits i (Price p) = IsAmount (unsigned_abs p)
 ReplyFits i (Missing courses) = Each (ShortfallFits i) courses
 ReplyFits i (Edits edits) = Each (PricedFits i) edits
+ReplyFits i (Slots offers) = Each (OfferFits i) offers
 
 -- at most 999,999,999 elements, so that a file can state their number
 abbrev pub AreFew : {A : Type 0} → List A → Type 0
@@ -53,6 +62,7 @@ abbrev pub IsShortReply : Reply → Type 0
 IsShortReply (Lectures ls) = AreFew ls
 IsShortReply (Missing courses) = AreFew courses
 IsShortReply (Edits edits) = AreFew edits
+IsShortReply (Slots offers) = AreFew offers
 IsShortReply reply = Unit {0}
 
 -- a reply that fits and is short

@@ -1,7 +1,8 @@
 -- Laws for the crates above.
-use Rattle.std.specs.Prelude.{ℕ, ℤ, ◌≡◌, ◌<◌, ◌≤◌, true, false, List, filter, Some, None, is_none, Ok, Err}
+use Rattle.std.specs.Prelude.{ℕ, ℤ, ◌≡◌, ◌<◌, ◌≤◌, true, false, List, [], ◌∷◌, filter, Some, None, is_none, Ok, Err}
 use Rattle.std.specs.Ordering.{int_eq}
-use Rattle.std.specs.List.{list_any, AllByRecursion as Each}
+use Rattle.std.specs.Int.Signed.{lt_z}
+use Rattle.std.specs.List.{list_any, Contains, AllByRecursion as Each}
 use Rattle.ctt_problem.specs.Lists.{has, Pairwise}
 use Rattle.ctt_problem.specs.Problem.{Problem, IsProblem, course_count, slot_count, room_count, clash}
 use Rattle.ctt_problem.specs.Timetable.{Ascending, Fits, IsTimetable}
@@ -15,11 +16,16 @@ use Rattle.ctt_edits.specs.declared.fault.EditFault.{EditFault}
 use Rattle.ctt_edits.specs.declared.fault.EditFault.TheVariants.{Clash}
 use Rattle.ctt_edits.specs.Fitting.{FaultFits, IsReply}
 use Rattle.ctt_edits.specs.Edits.{EditFits, try_fault, edit_fault, edited, change}
+use Rattle.ctt_edits.specs.Looks.{priced}
+use Rattle.ctt_edits.specs.Offers.{pattern_of, edits_to, rank, is_better, slot_offer, offers}
 use Rattle.ctt_edits.specs.Openings.{opening}
-use Rattle.ctt_edits.specs.Patterns.{PatternFits, pattern_fault, edits_of, is_cheaper, by_price}
+use Rattle.ctt_edits.specs.Patterns.{PatternFits, pattern_fault, edits_of, is_cheaper, by_price, cheapest}
 use Rattle.ctt_edits.specs.Table.{outcome, by_table}
 use Rattle.ctt_edits.specs.declared.pattern.Pattern.{Pattern}
+use Rattle.ctt_edits.specs.declared.offer.Offer.{Offer}
+use Rattle.ctt_edits.specs.declared.offer.Offer.TheVariants.{Priced, Refused, Nothing}
 use Rattle.ctt_edits.specs.declared.priced_edit.PricedEdit.{PricedEdit}
+use Rattle.ctt_edits.specs.declared.slot_pattern.SlotPattern.{SlotPattern}
 
 -- the order by price is a stable sort: prices ascend, and edits of equal price are those of the
 -- list, in its order
@@ -31,6 +37,41 @@ PricesAscend = (list : List PricedEdit) → Pairwise (λ x y. is_cheaper y x ≡
 abbrev pub PatternFaultStands : Type 0
 PatternFaultStands = (i : Problem) (t : List Placed) (p : Pattern) (fault : EditFault) → PatternFits i p → pattern_fault i t p ≡ Some fault
     → Each (λ e. is_none (edit_fault i t e) ≡ false) (edits_of i p)
+
+-- the price that a slot offers is that of an edit to the slot that is accepted
+abbrev pub SlotPriceStands : Type 0
+SlotPriceStands = (i : Problem) (t : List Placed) (p : SlotPattern) (s : ℕ) (e : PricedEdit) → slot_offer i t p s ≡ Priced e
+    → Contains (edits_to i p s) e.edit × (priced i t e.edit ≡ Ok e.price)
+
+-- no edit to the slot that is accepted is cheaper
+abbrev pub SlotPriceIsLeast : Type 0
+SlotPriceIsLeast = (i : Problem) (t : List Placed) (p : SlotPattern) (s : ℕ) (e : PricedEdit) → slot_offer i t p s ≡ Priced e
+    → Each (λ other. (price : ℤ) → priced i t other ≡ Ok price → lt_z price e.price ≡ false) (edits_to i p s)
+
+-- the fault that a slot offers is that of an edit to the slot
+abbrev pub SlotFaultStands : Type 0
+SlotFaultStands = (i : Problem) (t : List Placed) (p : SlotPattern) (s : ℕ) (f : EditFault) → slot_offer i t p s ≡ Refused f
+    → (e : Edit) × Contains (edits_to i p s) e × (edit_fault i t e ≡ Some f)
+
+-- each edit to the slot is refused, for a fault that comes no later
+abbrev pub SlotFaultIsLast : Type 0
+SlotFaultIsLast = (i : Problem) (t : List Placed) (p : SlotPattern) (s : ℕ) (f : EditFault) → slot_offer i t p s ≡ Refused f
+    → Each (λ e. (g : EditFault) × (edit_fault i t e ≡ Some g) × (rank g ≤ rank f)) (edits_to i p s)
+
+-- if there is a room, each slot offers a price or a fault
+abbrev pub SlotsOffer : Type 0
+SlotsOffer = (i : Problem) (t : List Placed) (p : SlotPattern) (s : ℕ) → PatternFits i (pattern_of p) → 0 < room_count i → s < slot_count i
+    → slot_offer i t p s ≡ Nothing → ⊥
+
+-- the first edit, if there is one, has a price that is offered, and none is lower; if there is none,
+-- no price is offered
+abbrev pub HasLeastOffer : List PricedEdit → List Offer → Type 0
+HasLeastOffer [] list = Each (λ o. (e : PricedEdit) → o ≡ Priced e → ⊥) list
+HasLeastOffer (e ∷ es) list = ((x : PricedEdit) × Contains list (Priced x) × (x.price ≡ e.price)) × Each (λ o. is_better o (Priced e) ≡ false) list
+
+-- the cheapest edit of a pattern has the least price that a slot offers
+abbrev pub CheapestIsLeastOffer : Type 0
+CheapestIsLeastOffer = (i : Problem) (t : List Placed) (p : SlotPattern) → PatternFits i (pattern_of p) → HasLeastOffer (cheapest i t 1 (pattern_of p)) (offers i t p)
 
 -- an edit without a fault keeps a timetable lawful
 abbrev pub EditsKeepLawful : Type 0

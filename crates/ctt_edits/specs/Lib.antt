@@ -2,6 +2,7 @@ pub mod Edits
 pub mod Patterns
 pub mod Candidates
 pub mod Missing
+pub mod Offers
 pub mod Looks
 pub mod Calls
 pub mod RowSets

@@ -7,13 +7,14 @@ use Rattle.ctt_rules.specs.Penalty.{penalty, course_cost, lectures_of}
 use Rattle.ctt_board.specs.Boards.{delta}
 use Rattle.ctt_edits.specs.Edits.{EditFits, edit_fault, change}
 use Rattle.ctt_edits.specs.Missing.{missing}
+use Rattle.ctt_edits.specs.Offers.{pattern_of, offers}
 use Rattle.ctt_edits.specs.Patterns.{PatternFits, pattern_fault, cheapest}
 use Rattle.ctt_edits.specs.declared.edit.Edit.{Edit}
 use Rattle.ctt_edits.specs.declared.fault.EditFault.{EditFault}
 use Rattle.ctt_edits.specs.declared.reply.Reply.{Reply}
-use Rattle.ctt_edits.specs.declared.reply.Reply.TheVariants.{Refused, Lectures, Costs, Price as Priced, Missing as AreMissing, Edits as AreCheapest}
+use Rattle.ctt_edits.specs.declared.reply.Reply.TheVariants.{Refused, Lectures, Costs, Price as Priced, Missing as AreMissing, Edits as AreCheapest, Slots as AreOffers}
 use Rattle.ctt_edits.specs.declared.looks.Look.{Look}
-use Rattle.ctt_edits.specs.declared.looks.Look.TheVariants.{Course, Slot, Teacher, Curriculum, CourseCost, Price, Missing, Cheapest, Cost as WholeCost}
+use Rattle.ctt_edits.specs.declared.looks.Look.TheVariants.{Course, Slot, Teacher, Curriculum, CourseCost, Price, Missing, Cheapest, Slots, Cost as WholeCost}
 
 -- the answer, or a refusal if there is a fault
 abbrev pub told_or : Option EditFault → Reply → Reply
@@ -31,6 +32,7 @@ LookFits i (Price e) = EditFits i e
 LookFits i WholeCost = Unit {0}
 LookFits i Missing = Unit {0}
 LookFits i (Cheapest n p) = (n ≤ 1000) × PatternFits i p
+LookFits i (Slots p) = PatternFits i (pattern_of p)
 
 -- the lectures of a teacher's courses
 abbrev pub teacher_row : Problem → ℕ → List Placed → List Placed
@@ -60,3 +62,4 @@ shown i t (Price e) = told_or (edit_fault i t e) (Priced (price i t e))
 shown i t WholeCost = Costs (penalty i t)
 shown i t Missing = AreMissing (missing i t)
 shown i t (Cheapest n p) = told_or (pattern_fault i t p) (AreCheapest (cheapest i t n p))
+shown i t (Slots p) = told_or (pattern_fault i t (pattern_of p)) (AreOffers (offers i t p))

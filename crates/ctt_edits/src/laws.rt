@@ -1,6 +1,6 @@
 //! Laws of edits, for the crates above. None of these functions computes anything.
 
-ghost use Rattle.ctt_edits.specs.Laws.{EditsKeepLawful, EditsFit, ClashIsLeast, CallFrame, PricesAscend, PatternFaultStands, PatternReads, ReadsAscend, RepliesFit, EditIsTable, OpeningIsLawful, OpeningFaultsFit, RoomsDetermine};
+ghost use Rattle.ctt_edits.specs.Laws.{EditsKeepLawful, EditsFit, ClashIsLeast, CallFrame, PricesAscend, PatternFaultStands, SlotPriceStands, SlotPriceIsLeast, SlotFaultStands, SlotFaultIsLast, SlotsOffer, CheapestIsLeastOffer, PatternReads, ReadsAscend, RepliesFit, EditIsTable, OpeningIsLawful, OpeningFaultsFit, RoomsDetermine};
 
 /// States that an edit without a fault keeps a timetable lawful.
 pub fn edits_keep_lawful()
@@ -33,6 +33,38 @@ pub fn prices_ascend()
 /// States that if a pattern has a fault, each of its edits is refused.
 pub fn pattern_fault_stands()
     ensures { PatternFaultStands }
+{}
+
+/// States that the price that a slot offers is that of an edit to the slot that is accepted.
+pub fn slot_price_stands()
+    ensures { SlotPriceStands }
+{}
+
+/// States that no edit to a slot that is accepted is cheaper than the price that the slot offers.
+pub fn slot_price_is_least()
+    ensures { SlotPriceIsLeast }
+{}
+
+/// States that the fault that a slot offers is that of an edit to the slot.
+pub fn slot_fault_stands()
+    ensures { SlotFaultStands }
+{}
+
+/// States that if a slot offers a fault, each edit to the slot is refused, for a fault that comes
+/// no later in the order in which faults are looked for.
+pub fn slot_fault_is_last()
+    ensures { SlotFaultIsLast }
+{}
+
+/// States that each slot offers a price or a fault, if the instance has a room.
+pub fn slots_offer()
+    ensures { SlotsOffer }
+{}
+
+/// States that the cheapest edit of a pattern has the least price that a slot offers, and that
+/// there is none if no slot offers a price.
+pub fn cheapest_is_least_offer()
+    ensures { CheapestIsLeastOffer }
 {}
 
 /// States that a look at the cheapest edits of a pattern reads exactly the rows that the prices of

@@ -5,6 +5,7 @@ ghost use Rattle.ctt_edits.specs.Looks.{LookFits};
 
 use crate::edit::Edit;
 use crate::pattern::Pattern;
+use crate::slot_pattern::SlotPattern;
 use ctt_problem::{CourseNo, CurriculumNo, Instance, SlotNo, TeacherNo};
 
 /// The maximum number of edits that a look can request.
@@ -31,6 +32,8 @@ pub enum Look {
     Missing,
     /// The cheapest edits of a pattern that can be made, at most this many.
     Cheapest(u16, Pattern),
+    /// What each slot offers to a pattern.
+    Slots(SlotPattern),
 }
 
 impl Look {
@@ -48,6 +51,7 @@ impl Look {
             Look::Price(edit) => edit.fits(instance),
             Look::Missing => true,
             Look::Cheapest(count, pattern) => *count <= MOST_EDITS && pattern.fits(instance),
+            Look::Slots(pattern) => pattern.fits(instance),
         }
     }
 }

@@ -29,7 +29,7 @@ impl PricedEdit {
 }
 
 /// Appends an element to a list.
-fn add<T: Copy>(list: &mut Vec<T>, one: &T) -> Result<(), NoMemory>
+pub(crate) fn add<T: Copy>(list: &mut Vec<T>, one: &T) -> Result<(), NoMemory>
     ensures { OnOk result (list.new.items ≡ list.old.items ++ one.now ∷ []) }
 {
     list.push(*one)?;

@@ -213,6 +213,7 @@ fn mark_courses_of_look(instance: &Instance, look: &Look, marks: &mut Marks)
         Look::Cost | Look::Missing => mark_all(instance, marks),
         Look::Price(edit) => mark_courses_of_price(instance, &edit, marks),
         Look::Cheapest(_, pattern) => mark_courses_of_pattern(instance, &pattern, marks),
+        Look::Slots(pattern) => mark_courses_of_pattern(instance, &pattern.pattern(), marks),
     }
 }
 
@@ -246,6 +247,7 @@ fn mark_slots_of_look(instance: &Instance, look: &Look, marks: &mut Marks)
         Look::Slot(slot) => mark_slot(instance, slot, marks),
         Look::Price(edit) => mark_slots_of_edit(instance, &edit, marks),
         Look::Cheapest(_, pattern) => mark_slots_of_pattern(instance, &pattern, marks),
+        Look::Slots(pattern) => mark_slots_of_pattern(instance, &pattern.pattern(), marks),
         Look::Course(_)
         | Look::Teacher(_)
         | Look::Curriculum(_)

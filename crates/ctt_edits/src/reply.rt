@@ -3,10 +3,11 @@
 ghost use Rattle.std.specs.Prelude.{◌≡◌, ◌↔◌, IfOk, IsTrue};
 ghost use Rattle.std.specs.List.{AllByRecursion as Each};
 ghost use Rattle.ctt_problem.specs.Timetable.{Fits};
-ghost use Rattle.ctt_edits.specs.Fitting.{CostFits, ShortfallFits, PricedFits, ReplyFits};
+ghost use Rattle.ctt_edits.specs.Fitting.{CostFits, ShortfallFits, PricedFits, OfferFits, ReplyFits};
 
 use crate::fault::EditFault;
 use crate::lectures::Lectures;
+use crate::offer::{Offer, Offers};
 use crate::priced_edit::{PricedEdit, PricedEdits};
 use crate::shortfall::{Shortfall, Shortfalls};
 use ctt_problem::{Instance, NoMemory, Placed};
@@ -29,6 +30,8 @@ pub enum Reply {
     Missing(Shortfalls),
     /// The edits requested, the cheapest first.
     Edits(PricedEdits),
+    /// What each slot offers, in the order of the slots.
+    Slots(Offers),
 }
 
 impl Reply {
@@ -44,6 +47,7 @@ impl Reply {
             Reply::Price(price) => Ok(Reply::Price(*price)),
             Reply::Missing(courses) => Ok(Reply::Missing(courses.copy()?)),
             Reply::Edits(edits) => Ok(Reply::Edits(edits.copy()?)),
+            Reply::Slots(offers) => Ok(Reply::Slots(offers.copy()?)),
         }
     }
 
@@ -59,6 +63,7 @@ impl Reply {
             (Reply::Price(price), Reply::Price(other_price)) => price == other_price,
             (Reply::Missing(courses), Reply::Missing(others)) => courses.is_same(others),
             (Reply::Edits(edits), Reply::Edits(others)) => edits.is_same(others),
+            (Reply::Slots(offers), Reply::Slots(others)) => offers.is_same(others),
             _ => false,
         }
     }
@@ -76,6 +81,7 @@ impl Reply {
             Reply::Price(price) => price.unsigned_abs() <= GREATEST,
             Reply::Missing(courses) => shortfalls_fit(instance, courses.as_slice()),
             Reply::Edits(edits) => priced_fit(instance, edits.as_slice()),
+            Reply::Slots(offers) => offers_fit(instance, offers.as_slice()),
         }
     }
 }
@@ -103,6 +109,14 @@ fn priced_fit(instance: &Instance, edits: &[PricedEdit]) -> bool
     ensures { IsTrue result ↔ Each (PricedFits instance.now) edits.now }
 {
     edits.iter().all(|priced| priced.fits(instance))
+}
+
+/// Returns whether all edits and courses are of the instance, and no absolute price is above the
+/// maximum.
+fn offers_fit(instance: &Instance, offers: &[Offer]) -> bool
+    ensures { IsTrue result ↔ Each (OfferFits instance.now) offers.now }
+{
+    offers.iter().all(|offer| offer.fits(instance))
 }
 
 /// Returns whether each of the four costs is at most the maximum.

@@ -6,19 +6,22 @@ ghost use Rattle.ctt_problem.specs.Problem.{course_count, teacher_count, curricu
 ghost use Rattle.ctt_rules.specs.Penalty.{course_cost, lectures_of};
 ghost use Rattle.ctt_edits.specs.Edits.{EditFits, edit_fault};
 ghost use Rattle.ctt_edits.specs.Looks.{LookFits, price, teacher_row, told_or, shown};
+ghost use Rattle.ctt_edits.specs.Offers.{pattern_of, offers};
 ghost use Rattle.ctt_edits.specs.Patterns.{PatternFits, pattern_fault, cheapest};
-ghost use Rattle.ctt_edits.specs.declared.reply.Reply.TheVariants.{Price as Priced, Edits as AreCheapest};
+ghost use Rattle.ctt_edits.specs.declared.reply.Reply.TheVariants.{Price as Priced, Edits as AreCheapest, Slots as AreOffers};
 
 use crate::cheapest::{cheapest, pattern_fault};
 use crate::edit::Edit;
 use crate::lectures::Lectures;
 use crate::looks::Look;
 use crate::missing::missing;
+use crate::offering::offers;
 use crate::pattern::Pattern;
 use crate::pricing::price;
 use crate::reading::{mark_courses, mark_taught};
 use crate::reply::Reply;
 use crate::rows_read::next_marked;
+use crate::slot_pattern::SlotPattern;
 use ctt_board::Sheet;
 use ctt_problem::{CourseNo, CurriculumNo, Marks, NoMemory, Placed, TeacherNo};
 use ctt_rules::Cost;
@@ -118,6 +121,24 @@ fn cheapest_reply<'i, S: Sheet<'i>>(
     Ok(Reply::Edits(cheapest(alloc, sheet, count, pattern)?))
 }
 
+/// Returns what each slot offers to a pattern, or the pattern's fault.
+fn slots_reply<'i, S: Sheet<'i>>(
+    alloc: Global,
+    sheet: &S,
+    pattern: &SlotPattern,
+) -> Result<Reply, NoMemory>
+    requires { PatternFits (S.problem sheet.now) (pattern_of pattern.now) }
+    ensures { IfOk result (λ reply.
+        reply ≡ told_or (pattern_fault (S.problem sheet.now) (S.list sheet.now)
+        (pattern_of pattern.now))
+        (AreOffers (offers (S.problem sheet.now) (S.list sheet.now) pattern.now))) }
+{
+    if let Some(fault) = pattern_fault(sheet, &pattern.pattern()) {
+        return Ok(Reply::Refused(fault));
+    }
+    Ok(Reply::Slots(offers(alloc, sheet, pattern)?))
+}
+
 /// Returns the reply to a look.
 pub fn look<'i, S: Sheet<'i>>(alloc: Global, sheet: &S, look: &Look) -> Result<Reply, NoMemory>
     requires { LookFits (S.problem sheet.now) look.now }
@@ -134,6 +155,7 @@ pub fn look<'i, S: Sheet<'i>>(alloc: Global, sheet: &S, look: &Look) -> Result<R
         Look::Price(edit) => return Ok(price_reply(sheet, &edit)),
         Look::Missing => return Ok(Reply::Missing(missing(alloc, sheet)?)),
         Look::Cheapest(count, pattern) => return cheapest_reply(alloc, sheet, count, &pattern),
+        Look::Slots(pattern) => return slots_reply(alloc, sheet, &pattern),
     };
     Ok(Reply::Lectures(Lectures::new(list)))
 }
