@@ -4,6 +4,8 @@ from plain_desk import Rules
 # how many words follow each word of a call; of a pattern it is the same
 CALLS = {"place": 4, "move": 6, "swap": 6, "reroom": 4, "drop": 3, "course": 1, "slot": 2, "teacher": 1, "curriculum": 1,
          "coursecost": 1, "cost": 0, "missing": 0}
+# and each word of a fault that names a course
+FAULTS = {"clash": 1, "roomtaken": 1}
 
 
 def reply_of(words):
@@ -11,11 +13,11 @@ def reply_of(words):
     def take(count):
         return [words.pop(0) for _ in range(count)]
 
-    call = take({"price": 1, "cheapest": 2}.get(words[0], 0))
+    call = take({"price": 1, "cheapest": 2, "slots": 1}.get(words[0], 0))
     call += take(1 + CALLS[words[0]])
     reply = take(1)
     if reply[0] == "refused":
-        reply += take(2 if words[0] in ("clash", "roomtaken") else 1)
+        reply += take(1 + FAULTS.get(words[0], 0))
     elif reply[0] == "price":
         reply += take(1)
     elif reply[0] == "costs":
@@ -23,8 +25,10 @@ def reply_of(words):
     elif reply[0] != "done":
         reply += take(1)
         for _ in range(int(reply[1])):
-            reply += take({"lectures": 4, "missing": 2, "prices": 1}[reply[0]])
-            if reply[0] == "prices":
+            reply += take({"lectures": 4, "missing": 2, "prices": 1, "slots": 1}[reply[0]])
+            if reply[-1] == "-" and reply[0] == "slots":
+                reply += take(1 + FAULTS.get(words[0], 0))
+            elif reply[0] in ("prices", "slots"):
                 reply += take(1 + CALLS[words[0]])
     return call, " ".join(reply)
 

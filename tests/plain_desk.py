@@ -3,6 +3,9 @@
 A timetable is a dictionary of rooms by course, day and period, all of them numbers. An edit is its word and its numbers.
 """
 
+# the faults of an edit, in the order in which they are looked for
+FAULTS = ("notplaced", "sameslot", "samecourse", "already", "full", "unavailable", "barred", "blocked", "clash", "roomtaken")
+
 
 def as_list(t):
     """The lectures of a timetable: course, day, period and room, in order."""
@@ -121,17 +124,41 @@ class Rules:
         fault, after = self.edit(t, *edit)
         return fault, None if fault else sum(self.costs(after)) - sum(self.costs(t))
 
+    def pattern_fault(self, t, kind, c, slot, *_):
+        """Why each edit of a pattern is refused by what it names, or None."""
+        if kind == "place":
+            return "full" if sum(place[0] == c for place in t) >= self.instance.courses[c][2] else None
+        return None if (c, *slot) in t else "notplaced"
+
+    def priced(self, t, pattern):
+        """Each edit of a pattern, in order, with its fault or None and its price."""
+        before = sum(self.costs(t))
+        for edit in self.filled(*pattern):
+            fault, after = self.edit(t, *edit)
+            yield edit, fault, None if fault else sum(self.costs(after)) - before
+
     def cheapest(self, t, most, pattern):
         """The answer to a look at the cheapest edits of a pattern."""
-        kind, c, slot, *_ = pattern
-        if kind == "place":
-            if sum(place[0] == c for place in t) >= self.instance.courses[c][2]:
-                return "refused full"
-        elif (c, *slot) not in t:
-            return "refused notplaced"
-        priced = [(self.price(t, edit), edit) for edit in self.filled(*pattern)]
-        best = sorted(((price, edit) for (fault, price), edit in priced if not fault), key=lambda one: one[0])[:most]
+        fault = self.pattern_fault(t, *pattern)
+        if fault:
+            return f"refused {fault}"
+        feasible = [(price, edit) for edit, fault, price in self.priced(t, pattern) if not fault]
+        best = sorted(feasible, key=lambda one: one[0])[:most]
         return " ".join(["prices", str(len(best)), *(f"{price} {self.words(*edit)}" for price, edit in best)])
+
+    def offers(self, t, pattern):
+        """The answer to a look at what each slot offers to a pattern: the first of its cheapest edits, or else the first of the faults
+        that are looked for last."""
+        fault = self.pattern_fault(t, *pattern)
+        if fault:
+            return f"refused {fault}"
+        told = {slot: [(2, 0, "- none")] for slot in self.slots}
+        for edit, fault, price in self.priced(t, pattern):
+            slot = edit[-1 if edit[0] == "swap" else -2]
+            rank = -FAULTS.index(fault.split(" ")[0]) if fault else price
+            told[slot].append((1, rank, f"- {fault}") if fault else (0, rank, f"{price} {self.words(*edit)}"))
+        best = (min(some, key=lambda one: one[:2])[2] for some in told.values())
+        return " ".join(["slots", str(len(told)), *best])
 
     def lectures(self, t, chosen):
         """The answer to a look at lectures: of these courses, or in a slot."""
@@ -154,6 +181,8 @@ class Rules:
             return f"refused {fault}" if fault else f"price {price}"
         if kind == "cheapest":
             return self.cheapest(t, int(rest[0]), self.parse(rest[1:], True))
+        if kind == "slots":
+            return self.offers(t, self.parse(rest, True))
         if kind == "missing":
             counts = [course[2] - sum(place[0] == c for place in t) for c, course in enumerate(self.instance.courses)]
             some = [f"{self.course_names[c]} {count}" for c, count in enumerate(counts) if count]
@@ -187,11 +216,12 @@ class Rules:
         if kind in ("course", "coursecost", "teacher", "curriculum"):
             of = "course" if kind == "coursecost" else kind
             return {c for c in courses if self.instance.has(of, rest[0], (c, 0, 0, 0))}
-        if kind == "cheapest":
-            _, c, slot, *others = self.parse(rest[1:], True)
-            if rest[1] == "swap":
+        if kind in ("cheapest", "slots"):
+            pattern = rest if kind == "slots" else rest[1:]
+            _, c, slot, *others = self.parse(pattern, True)
+            if pattern[0] == "swap":
                 return {*courses, *slots}
-            new = others[0] if rest[1] == "move" else slot
+            new = others[0] if pattern[0] == "move" else slot
             return {*self.mates([c]), *(slots if new is None else [new])}
         edit = self.parse(rest if kind == "price" else words)
         named = [edit[1], edit[3]] if edit[0] == "swap" else [edit[1]]
