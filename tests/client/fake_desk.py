@@ -10,8 +10,8 @@ import threading
 HERE = os.path.dirname(os.path.dirname(os.path.dirname(os.path.abspath(__file__))))
 sys.path.insert(0, os.path.join(HERE, "tools"))
 
-from fake_costs import Costs  # noqa: E402
 from fake_draft import FakeDraft  # noqa: E402
+from fake_looks import FakeLooks  # noqa: E402
 from fake_week import FakeWeek  # noqa: E402
 from fake_words import TURNS, bad_word  # noqa: E402
 from office.edits import LENGTHS, normal_form  # noqa: E402
@@ -20,10 +20,12 @@ from office.words import encoded, words_of  # noqa: E402
 
 FAULT = os.environ.get("FAULT")
 PROGRAM = os.environ.get("PROGRAM", os.path.join(HERE, "crates/ctt_tool/out/ctt_tool"))
+
+
 class FakeDesk:
     def __init__(self, instance, start, planners, minutes, blocked=()):
         self.instance, self.minutes = instance, minutes
-        self.costs = Costs(instance)
+        self.looks = FakeLooks(instance)
         self.newest = FakeWeek(instance, start, blocked)
         self.count = 0
         self.is_full = False
@@ -62,71 +64,18 @@ class FakeDesk:
         if kind in TURNS:
             return getattr(self, kind)(planner, draft)
         if kind == "show":
-            return self.look(self.newest, words[1:])
+            return self.looks.answer(self.newest, words[1:])
         if draft is None:
             return "no draft"
         if kind == "peek":
-            return self.look(draft.now, words[1:])
+            return self.looks.answer(draft.now, words[1:])
         return self.call(draft, words)
-
-    def look(self, t, words):
-        kind = words[0]
-        if kind == "cost":
-            return "costs " + " ".join(map(str, self.costs.whole(t)))
-        if kind == "coursecost":
-            return "costs " + " ".join(map(str, self.costs.of_course(t, words[1])))
-        if kind == "missing":
-            short = [
-                (name, t.missing(name)) for name in self.instance.courses if t.missing(name) > 0
-            ]
-            return " ".join(
-                ["missing", str(len(short)), *(f"{name} {count}" for name, count in short)]
-            )
-        if kind == "price":
-            fault = t.fault(" ".join(words[1:]))
-            return (
-                f"refused {fault}" if fault else f"price {self.costs.price(t, ' '.join(words[1:]))}"
-            )
-        if kind == "cheapest":
-            return self.cheapest(t, int(words[1]), words[2:])
-        lectures = t.look(" ".join(words))
-        return " ".join(["lectures", str(len(lectures)), *lectures])
-
-    def pattern_edits(self, t, words):
-        kind, course = words[:2]
-        slots = [(str(d), str(p)) for d, p in self.instance.slots()]
-        if kind == "swap" and words[4] == "*":
-            return [
-                " ".join([*words[:4], other, d, p])
-                for other in self.instance.courses
-                for d, p in slots
-            ]
-        if kind == "swap":
-            return [" ".join(words)]
-        at = 4 if kind == "move" else 2
-        rooms = list(self.instance.rooms) if words[at] == "*" else [words[at]]
-        ends = slots if words[at + 1] == "*" else [(words[at + 1], words[at + 2])]
-        return [" ".join([*words[:at], room, d, p]) for d, p in ends for room in rooms]
-
-    def cheapest(self, t, count, words):
-        kind, course = words[:2]
-        if kind == "place" and t.missing(course) <= 0:
-            return "refused full"
-        at = 3 if kind == "reroom" else 2
-        if kind != "place" and t.room_at(course, (int(words[at]), int(words[at + 1]))) is None:
-            return "refused notplaced"
-        found = [
-            (self.costs.price(t, edit), edit)
-            for edit in self.pattern_edits(t, words)
-            if t.fault(edit) is None
-        ]
-        found.sort(key=lambda pair: pair[0])
-        found = found[:count]
-        return " ".join(["prices", str(len(found)), *(f"{price} {edit}" for price, edit in found)])
 
     def call(self, draft, words):
         line = " ".join(words)
-        self.read(draft, words)
+        courses, slots = self.looks.rows(words)
+        draft.courses |= courses
+        draft.slots |= slots
         if words[0] in LENGTHS:
             line = normal_form(line)
             fault = draft.now.fault(line)
@@ -134,38 +83,9 @@ class FakeDesk:
             if not fault:
                 draft.make(line)
         else:
-            answer = self.look(draft.now, words)
+            answer = self.looks.answer(draft.now, words)
         draft.calls.append((line, answer))
         return answer
-
-    def read(self, draft, words):
-        """The rows that a call depends on."""
-        kind, rest, instance = words[0], words[1:], self.instance
-        if kind == "price":
-            kind, rest = rest[0], rest[1:]
-            self.read(draft, [kind, *rest])
-            draft.courses.update(
-                mate
-                for course in rest
-                if course in instance.mates
-                for mate in instance.mates[course]
-            )
-        elif kind in LENGTHS:
-            draft.courses.update([rest[0], rest[3]] if kind == "swap" else [rest[0]])
-            ends = {"place": [2], "move": [4], "swap": [1, 4], "reroom": [2], "drop": []}[kind]
-            draft.slots.update((int(rest[at]), int(rest[at + 1])) for at in ends)
-        elif kind == "slot":
-            draft.slots.add((int(rest[0]), int(rest[1])))
-        elif kind in ("course", "coursecost"):
-            draft.courses.add(rest[0])
-        elif kind == "teacher":
-            draft.courses.update(instance.teachers[rest[0]])
-        elif kind == "curriculum":
-            draft.courses.update(instance.curricula[rest[0]])
-        else:
-            draft.courses.update(instance.courses)
-            if kind == "cheapest":
-                draft.slots.update(instance.slots())
 
     def stale(self, draft):
         """The least row that a draft depends on and that has changed."""
@@ -320,7 +240,7 @@ def keep(words):
                 os.close(lines)
                 os.close(answers)
                 del seats[lines]
-    print(f"journal {desk.count}\ncosts {' '.join(map(str, desk.costs.whole(desk.newest)))}")
+    print(f"journal {desk.count}\ncosts {' '.join(map(str, desk.looks.costs.whole(desk.newest)))}")
 
 
 def mend(words):

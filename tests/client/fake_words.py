@@ -7,6 +7,8 @@ LOOKS = dict(
 EDITS = dict(place="crdp", move="cdprdp", swap="cdpcdp", reroom="crdp", drop="cdp")
 FORMS = {**LOOKS, **EDITS}
 PATTERNS = dict(place="cRDP", move="cdpRDP", swap="cdp***", reroom="cRdp")
+# the same where the new slot is left open
+SLOT_PATTERNS = dict(place="cR**", move="cdpR**", swap="cdp***")
 TURNS = ("open", "commit", "refresh", "abandon", "status", "redo", "undo", "help", "leave")
 
 
@@ -23,6 +25,8 @@ def bad_word(instance, words):
         if at >= len(words) or not words[at].isdigit() or int(words[at]) > 1000:
             return at
         at, forms = at + 1, PATTERNS
+    elif words[at] == "slots":
+        at, forms = at + 1, SLOT_PATTERNS
     elif words[at] == "price":
         at, forms = at + 1, EDITS
     elif at == 1:
