@@ -4,7 +4,7 @@ from __future__ import annotations
 from typing import Callable, Dict, List, Optional
 
 from office.board_rules import BoardRules
-from office.carry import SWAP, Offer
+from office.carry import SWAP
 from office.drawn import Drawn
 from office.grid import Grid, Row
 from office.header import Header, key_rows
@@ -12,6 +12,7 @@ from office.help import help_lines
 from office.keys import WEEK_KEYS, KeyNames
 from office.label_files import Watched
 from office.notice import NOTHING, Question, say
+from office.offers import Offer
 from office.overlays import Asked, Chooser, CommitBox, Overlay, Page, Typed, Worded
 from office.planning import Planning
 from office.print_week import print_week

@@ -1,35 +1,29 @@
-"""A lecture that is picked up: what each slot would cost, or why it cannot stand there."""
+"""A lecture that is picked up: what each slot would cost, or why it cannot stand there. All of it is
+what the desk says: one answer for the whole grid, and one more for a slot of which all rooms are
+wanted."""
 from __future__ import annotations
 
-from typing import Dict, List, NamedTuple, Optional, Tuple
+from typing import Dict, List, Optional, Tuple
 
-from office.edits import read_prices
 from office.notice import NOTHING, Notice, say
-from office.planning import Planning
-from office.reasons import move_reason, short_reason, swap_reason
+from office.offers import Offer, Told, offer_of, read_offers, read_slots
+from office.planning import Planning, answer_told
+from office.reasons import (
+    ROOM_FAULTS,
+    reason,
+    short_reason,
+    short_swap_reason,
+    slot_reason,
+    swap_reason,
+)
 from office.timetable import Lecture, Slot
 from office.words import words_of
 
 # a `cheapest` tells so many at most
 MOST = 1000
+# so many rooms are told one by one where none serves
+FEW = 2
 MOVE, SWAP, PLACE = "move", "swap", "place"
-
-
-class Offer(NamedTuple):
-    """An edit that would be accepted, with its price and the room or the course that it is
-    about."""
-
-    price: int
-    edit: str
-    about: str
-
-
-def offer_of(price: int, edit: str) -> Tuple[Slot, Offer]:
-    """An edit with its price, by the slot to which it leads."""
-    words = words_of(edit)
-    slot = int(words[-2]), int(words[-1])
-    about = {"move": 4, "swap": 4, "place": 2, "reroom": 2}[words[0]]
-    return slot, Offer(price, edit, words[about])
 
 
 class Carry:
@@ -41,102 +35,98 @@ class Carry:
         self.planning = planning
         self.kind, self.course, self.lecture = kind, course, lecture
         self.slot: Optional[Slot] = lecture.slot if lecture else None
-        self.offers: Dict[Slot, List[Offer]] = {}
         # how many drafts were accepted by then
         self.seen = len(planning.minutes.entries)
         self.choice = 0
-        # whether all that could be offered is known
-        self.is_whole = True
+        # the answer if it tells nothing of single slots, else what it tells of each
+        self.refusal = ""
+        self.slots: Dict[Slot, Told] = {}
+        # all rooms or partners of a slot by price, where they were asked
+        self.offers: Dict[Slot, List[Offer]] = {}
         self._read()
+
+    def _edit(self, about: str, end: str) -> str:
+        """The edit, or its pattern, by which it comes to a room or a partner at a slot."""
+        if self.lecture is None:
+            return f"place {self.course} {about} {end}"
+        start = f"{self.kind} {self.course} {self.lecture.day} {self.lecture.period}"
+        return f"{start} {about} {end}"
 
     def _read(self) -> None:
         """One answer for the whole grid; of a move one more, for the rooms of its own slot."""
-        if self.lecture is None:
-            self._take(f"place {self.course} * * *")
+        answer = self.planning.look(f"slots {self._edit('*', '* *')}")
+        slots, told = self.planning.instance.slots(), read_slots(answer)
+        if told is None or len(told) != len(slots):
+            self.refusal = answer
             return
-        place = f"{self.course} {self.lecture.day} {self.lecture.period}"
-        if self.kind == SWAP:
-            self._take(f"swap {place} * * *")
-            return
-        self._take(f"move {place} * * *")
-        self._take(f"reroom {self.course} * {self.lecture.day} {self.lecture.period}")
+        self.slots = dict(zip(slots, told))
+        if self.kind == MOVE and self.lecture is not None:
+            end = f"{self.lecture.day} {self.lecture.period}"
+            answer = self.planning.look(f"cheapest {MOST} reroom {self.course} * {end}")
+            self.offers[self.lecture.slot] = read_offers(answer)
 
-    def _take(self, pattern: str) -> None:
-        found = read_prices(self.planning.look(f"cheapest {MOST} {pattern}")) or []
-        if len(found) == MOST:
-            self.is_whole = False
-        for price, edit in found:
-            slot, offer = offer_of(price, edit)
-            if offer not in self.offers.setdefault(slot, []):
-                self.offers[slot].append(offer)
+    def _is_home(self, slot: Slot) -> bool:
+        """Whether it is moved, and this is its own slot: there another room is all that can be."""
+        return self.kind == MOVE and slot == self.slot
+
+    def cheapest(self, slot: Slot) -> List[Offer]:
+        """What is known of a slot without a further question: its cheapest offer, if there is one;
+        in the own slot of what is moved all rooms."""
+        if self._is_home(slot):
+            return self.offers.get(slot, [])
+        told = self.slots.get(slot, "")
+        return [told] if isinstance(told, Offer) else []
 
     def at(self, slot: Slot) -> List[Offer]:
-        """What is offered at a slot, cheapest first. What the one answer had no place for is asked
-        alone."""
-        if (
-            slot not in self.offers
-            and not self.is_whole
-            and (slot != self.slot or self.kind == SWAP)
-        ):
-            self.offers[slot] = self._ask_swaps(slot) if self.kind == SWAP else self._ask(slot)
+        """All that is offered at a slot, cheapest first; this asks the desk."""
+        best = self.cheapest(slot)
+        if best and slot not in self.offers:
+            found = self._ask_swaps(slot) if self.kind == SWAP else self._ask_rooms(slot)
+            self.offers[slot] = found or best
         return self.offers.get(slot, [])
 
-    def _ask(self, slot: Slot) -> List[Offer]:
+    def _ask_rooms(self, slot: Slot) -> List[Offer]:
         """The rooms of a slot by price."""
-        end = f"* {slot[0]} {slot[1]}"
-        if self.lecture is None:
-            pattern = f"place {self.course} {end}"
-        else:
-            pattern = f"move {self.course} {self.lecture.day} {self.lecture.period} {end}"
-        answer = self.planning.look(f"cheapest {MOST} {pattern}")
-        return [offer_of(price, edit)[1] for price, edit in read_prices(answer) or []]
+        pattern = self._edit("*", f"{slot[0]} {slot[1]}")
+        return read_offers(self.planning.look(f"cheapest {MOST} {pattern}"))
 
     def _ask_swaps(self, slot: Slot) -> List[Offer]:
-        """The lectures of a slot to change places with, by price: those that may be, one by one."""
-        assert self.lecture is not None
-        timetable, found = self.planning.known.present(), []
-        for other in timetable.of_slot(slot):
-            place = f"{self.course} {self.lecture.day} {self.lecture.period}"
-            edit = f"swap {place} {other.course} {slot[0]} {slot[1]}"
-            if timetable.fault(edit) is None:
-                kind, *price = words_of(self.planning.look(f"price {edit}"))
-                found += [Offer(int(price[0]), edit, other.course)] if kind == "price" else []
+        """The lectures of a slot to change places with, by price: each that stands there is
+        asked."""
+        end, found = f"{slot[0]} {slot[1]}", []
+        for other in self.planning.lectures(f"slot {end}"):
+            edit = self._edit(other.course, end)
+            kind, *price = words_of(self.planning.look(f"price {edit}"))
+            found += [offer_of(int(price[0]), edit)] if kind == "price" else []
         return sorted(found, key=lambda offer: offer.price)
 
     def chosen(self, slot: Slot) -> Optional[Offer]:
         """The offer that the key for rooms has come to."""
-        offers = self.at(slot)
+        offers = self.at(slot) if self.choice else self.cheapest(slot)
         return offers[self.choice % len(offers)] if offers else None
 
     def begin_at(self, slot: Slot) -> None:
         """Chooses the cheapest offer of a slot; in its own slot the lecture stays in its room."""
         self.choice = 0
-        if slot == self.slot and self.lecture and self.kind == MOVE:
-            rooms = [offer.about for offer in self.offers.get(slot, [])]
+        if self._is_home(slot) and self.lecture:
+            rooms = [offer.about for offer in self.cheapest(slot)]
             self.choice = rooms.index(self.lecture.room) if self.lecture.room in rooms else 0
 
     def best(self) -> Optional[Tuple[Slot, Offer]]:
         """The cheapest of all that is offered, in its own slot, too; of several the first one. To
         leave everything as it is is no offer."""
         found = [
-            (offers[0].price, slot, offers[0])
-            for slot in sorted(self.offers)
-            for offers in [[one for one in self.offers[slot] if not self.is_idle(slot, one)]]
+            (slot, offers[0])
+            for slot in self.slots
+            for offers in [[one for one in self.cheapest(slot) if not self.is_idle(slot, one)]]
             if offers
         ]
-        if not found:
-            return None
-        _, slot, offer = min(found, key=lambda one: one[0])
-        return slot, offer
+        return min(found, key=lambda one: one[1].price) if found else None
 
     def is_idle(self, slot: Slot, offer: Optional[Offer]) -> bool:
         """Whether an offer leaves everything as it is."""
         return bool(
-            self.kind == MOVE
-            and self.lecture
-            and offer
-            and slot == self.slot
-            and offer.about == self.lecture.room
+            self._is_home(slot) and self.lecture and offer and offer.about == self.lecture.room
         )
 
     def is_in_place(self, slot: Slot) -> bool:
@@ -144,24 +134,48 @@ class Carry:
         return self.is_idle(slot, self.chosen(slot))
 
     def choose(self, slot: Slot, offer: Offer) -> None:
-        self.choice = self.at(slot).index(offer)
+        known = self.cheapest(slot)
+        self.choice = (known if offer in known else self.at(slot)).index(offer)
+
+    # why nothing is offered
+
+    def _refused(self) -> str:
+        """The fault for which the desk refuses all at once, if it does."""
+        return self.refusal[8:] if self.refusal.startswith("refused ") else ""
+
+    def _fault(self, slot: Slot) -> str:
+        """Why nothing is offered at a slot, as the desk says; nothing if it has not said so."""
+        told = self.slots.get(slot, self._refused())
+        return told if isinstance(told, str) else ""
 
     def short_reason(self, slot: Slot) -> Notice:
         """Why nothing is offered at a slot, in two words."""
-        if self.kind == SWAP:
-            return say("cell no swap")
-        timetable = self.planning.known.present()
-        return short_reason(timetable, self.course, self.slot, slot)
+        planning, fault = self.planning, self._fault(slot)
+        if self.kind == SWAP and not self.refusal:
+            return short_swap_reason(planning.known.present(), self.course, slot, fault)
+        return short_reason(planning.instance, self.course, slot, fault)
 
     def reason(self, slot: Slot) -> Notice:
         """Why nothing is offered at a slot."""
-        timetable = self.planning.known.present()
-        if self.kind == SWAP:
-            assert self.slot is not None
-            found = swap_reason(timetable, self.course, self.slot, slot)
-        else:
-            found = move_reason(timetable, self.course, self.slot, slot)
-        return found or say("dearer", count=MOST)
+        instance, fault = self.planning.instance, self._fault(slot)
+        if self.kind == SWAP and self.slot is not None and not self.refusal:
+            present = self.planning.known.present()
+            return swap_reason(present, self.course, self.slot, slot, fault)
+        if fault in ROOM_FAULTS and len(instance.rooms) <= FEW:
+            return say("rooms", reasons=self._room_reasons(slot))
+        return slot_reason(instance, self.course, slot, fault)
+
+    def _room_reasons(self, slot: Slot) -> List[Notice]:
+        """Why each room does not serve in a slot, as the desk says of each."""
+        instance, found = self.planning.instance, []
+        for room in instance.rooms:
+            edit = self._edit(room, f"{slot[0]} {slot[1]}")
+            answer = self.planning.look(f"price {edit}")
+            if answer.startswith("refused "):
+                found.append(reason(instance, edit, answer[8:]))
+        return found
+
+    # what is told
 
     def told(self, slot: Slot) -> Notice:
         """What the chosen offer of a slot is, or why there is none."""
@@ -184,7 +198,8 @@ class Carry:
         """The cheapest of all that is offered."""
         best = self.best()
         if best is None:
-            return say("nowhere else")
+            is_told = not self.refusal or self._refused()
+            return say("nowhere else") if is_told else answer_told(self.refusal)
         slot, offer = best
         if self.kind == SWAP:
             return say("cheapest with", price=offer.price, other=offer.about, slot=slot)

@@ -3,8 +3,8 @@ from __future__ import annotations
 
 from typing import Dict, Optional, Tuple
 
-from office.carry import Offer
 from office.grid import Grid
+from office.offers import Offer
 from office.timetable import Lecture, Slot
 from office.week import View
 from office.work import Work

@@ -45,7 +45,7 @@ def signs_in_cell(cell: Cell) -> str:
 
 def price_in_cell(wording: Wording, carry: Carry, slot: Slot) -> str:
     """The cheapest price with its room or partner, or why there is none."""
-    offers = carry.at(slot)
+    offers = carry.cheapest(slot)
     if not offers:
         return wording.notice(carry.short_reason(slot))
     kind = "course" if carry.kind == SWAP else "room"
@@ -131,7 +131,7 @@ class Grid:
     def below(self, cell: Cell, slot: Slot, name: str, carry: Optional[Carry]) -> Tuple[str, str]:
         """The second line of a cell."""
         if carry is not None:
-            offers = carry.at(slot)
+            offers = carry.cheapest(slot)
             style = "dim" if not offers else "good" if offers[0].price < 0 else "points"
             return " ".join([price_in_cell(self.wording, carry, slot), *marks_in_cell(cell)]), style
         signs = signs_in_cell(cell)

@@ -107,6 +107,9 @@ class Reading:
             is_of_disk = self.is_failing and not self.is_open
             if is_of_disk:
                 answer = look_on_disk(self.seat.day, self.known.newest, words)
+            if answer in WANTS:
+                # it may be answered when it is asked again
+                return answer
             self._cache[line] = answer
         return self._cache[line]
 

@@ -1,13 +1,32 @@
 """Why an edit is refused, as notices."""
 from __future__ import annotations
 
-from typing import List, Optional
+from typing import Dict, List, Optional
 
 from office.blocked import by_told
 from office.instance import Instance
 from office.notice import NOTHING, Notice, say
-from office.timetable import Slot, Timetable
+from office.timetable import Lecture, Slot, Timetable
 from office.words import words_of
+
+# the faults of an edit that say nothing but what they are
+ALONE: Dict[str, str] = {
+    "already": "already",
+    "full": "full",
+    "notplaced": "not placed",
+    "sameslot": "same slot",
+    "samecourse": "same course",
+}
+# those that are about a room
+ROOM_FAULTS = ("roomtaken", "barred", "blocked")
+# the faults of a slot, where there is room for two words
+SHORT: Dict[str, str] = {
+    "": "cell not told",
+    "unavailable": "cell closed",
+    "already": "cell has one",
+    "full": "cell full",
+    "notplaced": "cell gone",
+}
 
 
 def reason(instance: Instance, edit: str, fault: str) -> Notice:
@@ -31,14 +50,12 @@ def reason(instance: Instance, edit: str, fault: str) -> Notice:
         return say("one unavailable")
     if kind == "unavailable":
         return away_reason(instance, course, slot_of(words))
-    code = {
-        "already": "already",
-        "full": "full",
-        "notplaced": "not placed",
-        "sameslot": "same slot",
-        "samecourse": "same course",
-    }.get(kind)
-    return say(code, course=course) if code else say("fault", fault=fault)
+    return alone_reason(course, fault)
+
+
+def alone_reason(course: str, fault: str) -> Notice:
+    """A fault that says nothing but what it is."""
+    return say(ALONE[fault], course=course) if fault in ALONE else say("fault", fault=fault)
 
 
 def slot_of(words: List[str]) -> Slot:
@@ -78,52 +95,72 @@ def clash_reason(instance: Instance, course: str, other: str) -> Notice:
     return say("curriculum busy", curriculum=name, other=other)
 
 
-def move_reason(
-    timetable: Timetable, course: str, old: Optional[Slot], slot: Slot
-) -> Optional[Notice]:
-    """Why no room serves for a course in a slot; None if one does."""
-    instance = timetable.instance
-    faults: List[Notice] = []
-    for room in instance.rooms:
-        if old is None:
-            edit = f"place {course} {room} {slot[0]} {slot[1]}"
-        else:
-            edit = f"move {course} {old[0]} {old[1]} {room} {slot[0]} {slot[1]}"
-        fault = timetable.fault(edit)
-        if fault is None:
-            return None
-        if not fault.startswith(("roomtaken", "barred", "blocked")):
-            return reason(instance, edit, fault)
-        faults.append(reason(instance, edit, fault))
-    return say("rooms", reasons=faults) if 0 < len(faults) < 3 else say("no room")
+def slot_reason(instance: Instance, course: str, slot: Slot, fault: str) -> Notice:
+    """A fault of a slot, where no room serves for a course."""
+    kind, *other = words_of(fault) or [""]
+    if kind == "clash":
+        return clash_reason(instance, course, other[0])
+    if kind == "unavailable":
+        return away_reason(instance, course, slot)
+    if kind in ROOM_FAULTS:
+        return say("no room")
+    codes = {"": "not told", "none": "no rooms"}
+    return say(codes[kind]) if kind in codes else alone_reason(course, fault)
 
 
-def short_reason(timetable: Timetable, course: str, old: Optional[Slot], slot: Slot) -> Notice:
-    """The same for a cell of which it is known that no room serves."""
-    room = next(iter(timetable.instance.rooms), "")
-    if old and timetable.room_at(course, old) is None:
-        return say("cell gone")
-    left = timetable.take(course, old) if old else None
-    fault = timetable.placing_fault(course, slot, room) or ""
-    if old and left is not None:
-        timetable.put(course, old, left)
+def short_reason(instance: Instance, course: str, slot: Slot, fault: str) -> Notice:
+    """The same in two words."""
     kind, *other = words_of(fault) or [""]
     if kind == "clash":
         return say("cell clash", other=other[0])
-    if kind == "unavailable" and away_reason(timetable.instance, course, slot).code == "away":
+    if kind == "unavailable" and away_reason(instance, course, slot).code == "away":
         return say("cell blocked")
-    codes = {"unavailable": "cell closed", "already": "cell has one", "full": "cell full"}
-    return say(codes.get(kind, "cell no room"))
+    return say(SHORT.get(kind, "cell no room"))
 
 
-def swap_reason(timetable: Timetable, course: str, old: Slot, slot: Slot) -> Optional[Notice]:
-    """Why a lecture cannot be swapped with one in another slot; None if it can."""
-    first = None
-    for lecture in timetable.of_slot(slot):
-        edit = f"swap {course} {old[0]} {old[1]} {lecture.course} {slot[0]} {slot[1]}"
-        fault = timetable.fault(edit)
-        if fault is None:
-            return None
-        why = reason(timetable.instance, edit, fault)
-        first = first or say("partner", other=lecture.course, reason=why)
-    return first or say("no partner")
+def swap_reason(timetable: Timetable, course: str, old: Slot, slot: Slot, fault: str) -> Notice:
+    """A fault of a slot, where a lecture can change places with none: its own fault, or the one of
+    a lecture there that cannot stand in its place."""
+    instance, (kind, *other) = timetable.instance, words_of(fault) or [""]
+    if kind in ("notplaced", "sameslot") or (kind == "samecourse" and slot == old):
+        return say("no partner")
+    if kind == "clash" and other[0] in instance.mates[course]:
+        return clash_reason(instance, course, other[0])
+    if kind == "unavailable" and slot in instance.closed[course]:
+        return away_reason(instance, course, slot)
+    room = timetable.room_at(course, old) or ""
+    for partner in timetable.of_slot(slot):
+        found = partner_reason(timetable, partner, Lecture(course, room, *old), fault)
+        if found is not None and partner.course != course:
+            return say("partner", other=partner.course, reason=found)
+    return say("not told") if not fault else alone_reason(course, fault)
+
+
+def partner_reason(
+    timetable: Timetable, partner: Lecture, lecture: Lecture, fault: str
+) -> Optional[Notice]:
+    """What a fault says of a lecture that might change places with another one; None if it is not
+    about it."""
+    instance, (kind, *other) = timetable.instance, words_of(fault) or [""]
+    if kind == "clash" and other[0] in instance.mates[partner.course]:
+        return clash_reason(instance, partner.course, other[0])
+    if kind == "unavailable" and lecture.slot in instance.closed[partner.course]:
+        return away_reason(instance, partner.course, lecture.slot)
+    if kind == "barred":
+        pairs = [(partner.course, lecture.room), (lecture.course, partner.room)]
+        barred = [say("barred", course=c, room=r) for c, r in pairs if (c, r) in instance.barred]
+        return barred[0] if barred else None
+    if kind == "already" and timetable.room_at(lecture.course, partner.slot) is None:
+        is_there = timetable.room_at(partner.course, lecture.slot) is not None
+        return say("already", course=partner.course) if is_there else None
+    return None
+
+
+def short_swap_reason(timetable: Timetable, course: str, slot: Slot, fault: str) -> Notice:
+    """The same in two words; of a fault of a lecture there, that none serves."""
+    instance, kind = timetable.instance, (words_of(fault) or [""])[0]
+    is_away = kind == "unavailable" and slot in instance.closed[course]
+    has_one = kind == "already" and timetable.room_at(course, slot) is not None
+    if kind in ("", "clash") or is_away or has_one:
+        return short_reason(instance, course, slot, fault)
+    return say("cell no swap")

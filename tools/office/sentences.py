@@ -30,8 +30,10 @@ REASONS = {
     "fault": "{fault}",
     "rooms": "{reasons}",
     "no room": "each room is taken, barred or blocked then",
+    "no rooms": "there is no room at all",
+    "not told": "the desk has not said what it would cost",
     "partner": "with {other}: {reason}",
-    "no partner": "nothing stands there to swap with",
+    "no partner": "no lecture there to swap with",
     # where a cell has room for two words
     "cell clash": "clash {other}",
     "cell closed": "closed",
@@ -41,6 +43,7 @@ REASONS = {
     "cell gone": "gone",
     "cell no room": "no room",
     "cell no swap": "no swap",
+    "cell not told": "not known",
 }
 # what the desk answers to an edit or a turn that is not as it was hoped for
 DESK = {
@@ -103,7 +106,6 @@ LECTURES = {
     "offer in": "{price} in {room}{more}",
     "offer with": "{price} with {other}{more}",
     "offer of several": " ({number} of {of}; {key[next]} for the next)",
-    "dearer": "dearer than the {count} cheapest",
     "nowhere else": "It can stand nowhere else now.",
     "cheapest in": "Cheapest: {price} in {room}, {slot}: {key[cheapest]} goes there.",
     "cheapest with": "Cheapest: {price} with {other}, {slot}: {key[cheapest]} goes there.",

@@ -9,7 +9,7 @@ from __future__ import annotations
 import time
 from typing import Dict, List, Optional
 
-from office.carry import MOVE, PLACE, SWAP, Carry, Offer
+from office.carry import MOVE, PLACE, SWAP, Carry
 from office.drafting import BLANK, Drafting, told_edits
 from office.findings import Findings
 from office.histories import History
@@ -17,6 +17,7 @@ from office.knowing import Knowing
 from office.blocked import closure_told
 from office.blocking import Blocking
 from office.notice import NOTHING, Notice, Question, say
+from office.offers import Offer
 from office.planning import Planning
 from office.stepping import Stepped, make_again, question_of, step_over, told_of
 from office.timetable import Lecture, Slot

@@ -5,9 +5,10 @@ from __future__ import annotations
 from typing import Any, Dict, List
 
 from office.blocked import by_told, closure_told, reason_told
-from office.carry import SWAP, Carry, Offer
+from office.carry import SWAP, Carry
 from office.costs import read_costs
 from office.notice import NOTHING, Notice, say
+from office.offers import Offer
 from office.planning import Planning
 from office.scope import Closure
 from office.text import counted
@@ -201,7 +202,8 @@ class Picture:
     # what is held
 
     def held(self, carry: Carry) -> Data:
-        """All that is offered, slot by slot, or why nothing is."""
+        """The cheapest offer of each slot, in the own slot of what is moved all rooms, or why there
+        is none."""
         best = carry.best()
         return {
             "kind": carry.kind,
@@ -213,17 +215,22 @@ class Picture:
             "room_said": self.wording.short("room", carry.lecture.room) if carry.lecture else "",
             "best": best[0] if best else None,
             # the place of the cheapest offer in its slot
-            "place": carry.at(best[0]).index(best[1]) if best else 0,
+            "place": carry.cheapest(best[0]).index(best[1]) if best else 0,
             "slots": [self.slot(carry, slot) for slot in self.planning.instance.slots()],
         }
 
     def slot(self, carry: Carry, slot: Slot) -> Data:
-        offers = [self.offer(carry, offer) for offer in carry.at(slot)]
+        offers = carry.cheapest(slot)
         if offers:
-            return {"at": slot, "offers": offers}
+            return {"at": slot, "offers": [self.offer(carry, offer) for offer in offers]}
         shortly, why = carry.short_reason(slot), carry.reason(slot)
         told = self.wording.notice
         return {"at": slot, "offers": [], "shortly": told(shortly), "why": told(why)}
+
+    def offers(self, slot: Slot) -> List[List[Any]]:
+        """All that a slot offers for what is held, cheapest first."""
+        carry = self.work.carry
+        return [self.offer(carry, offer) for offer in carry.at(slot)] if carry else []
 
     def offer(self, carry: Carry, offer: Offer) -> List[Any]:
         kind = "course" if carry.kind == SWAP else "room"

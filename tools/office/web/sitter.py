@@ -33,7 +33,7 @@ WAIT, IDLE, NAME = 16, 30.0, 40
 # the status of a seat whose desk has ended or does not answer
 LOST = 503
 # what changes nothing
-LOOKS = ("show", "next_week", "about", "print", "close")
+LOOKS = ("show", "next_week", "about", "offers", "print", "close")
 FAREWELL = (
     "The office has closed: what you have committed is on the disk, and open edits are offered "
     "again on the next day."
@@ -61,7 +61,7 @@ class Sitter:
     # what is asked
 
     async def answer(self, window: Window, verb: str, data: Data) -> Data:
-        if verb not in ("hello", "answer", "close", "about", "print") and verb not in VERBS:
+        if verb not in ("hello", "answer", *LOOKS) and verb not in VERBS:
             raise Fault(404, "nothing is here")
         if verb == "hello":
             self.loop = asyncio.get_running_loop()
@@ -184,10 +184,12 @@ class Sitter:
             raise Fault(410, "this window is not known here: it begins anew")
         shown, planning = self._shown(window), self.planning
         told = Told(self.frame.instance, data)
+        picture = Picture(self.frame, shown.work, self.prices)
         if verb == "about":
             lecture = told.lecture()
-            picture = Picture(self.frame, shown.work, self.prices)
             return {"about": picture.about(lecture) if lecture else None}
+        if verb == "offers":
+            return {"offers": picture.offers(told.slot("at"))}
         if verb == "print":
             return self._print(shown)
         accepted, cost = len(planning.seat.story.accepted), sum(planning.costs().values())

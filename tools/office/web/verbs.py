@@ -4,9 +4,10 @@ from __future__ import annotations
 
 from typing import Any, Callable, Dict, List, Optional
 
-from office.carry import MOVE, PLACE, SWAP, Offer
+from office.carry import MOVE, PLACE, SWAP
 from office.instance import Instance
 from office.notice import Question, say
+from office.offers import Offer
 from office.timetable import Lecture, Slot
 from office.web.asking import Asking, Shown
 from office.web.guard import Fault

@@ -110,9 +110,11 @@ class Acts {
   async rooms(slot, lecture) {
     if (!this.held) await this.pickUp(slot, lecture);
     if (!this.held || isTyping()) return;
+    const { offers: found = [] } = await this.turn("offers", { at: slot });
     const { held, week } = this;
+    if (!held || isTyping()) return;
     const isHome = same(slot, held.at);
-    const offers = this.offerAt(slot).offers.filter(([, code]) => !isHome || code !== held.room);
+    const offers = found.filter(([, code]) => !isHome || code !== held.room);
     if (!offers.length) {
       toast("said", isHome ? "No other room is free then." : heldSaid(held, this.offerAt(slot)));
       return;

@@ -1,16 +1,17 @@
-// A slot while a lecture is held: its cheapest price and room, or why it cannot stand there.
+// A slot while a lecture is held: its cheapest price and room, or why it cannot stand there. What
+// else it offers is asked when it is wanted.
 import { el, name } from "./dom.js";
-import { counted, kindOf, priceSaid, same, signed } from "./numbers.js";
+import { kindOf, priceSaid, same, signed } from "./numbers.js";
 
 const preposition = (held) => (held.kind === "swap" ? "with" : "in");
 
-function more(count, ...label) {
-  if (count <= 0) return null;
-  const told = { type: "button", cls: "more", tabindex: "-1" };
-  return el("button", { ...told, "aria-label": `${count} more by price` }, label, " ▾");
+// the button that asks for all that a slot offers
+function more(said, ...label) {
+  const told = { type: "button", cls: "more", tabindex: "-1", "aria-label": `${said} by price` };
+  return el("button", told, label, "▾");
 }
 
-const others = (count, word) => [`+${count}`, el("span", { cls: "word" }, ` ${word}`)];
+const word = (text) => el("span", { cls: "word" }, `${text} `);
 
 // what stands in the slot now
 function here(one, [kind]) {
@@ -27,16 +28,16 @@ function here(one, [kind]) {
 
 // where it comes from: it stays, unless the cheapest of all is another room there
 function homeParts(held, offer) {
-  const count = offer.offers.filter(([, code]) => code !== held.room).length;
   const isSwap = held.kind === "swap";
-  const word = isSwap ? "to swap rooms" : count === 1 ? "other room" : "other rooms";
+  const count = offer.offers.filter(([, code]) => isSwap || code !== held.room).length;
   const [price, , said] = offer.offers[held.place] || [];
   const isBest = same(held.best, offer.at);
-  const label = isBest ? [signed(price), " ", name(said)] : others(count, word);
+  const few = isSwap ? [word("swap rooms")] : [`+${count} `, word(count > 1 ? "rooms" : "room")];
+  const label = isBest ? [signed(price), " ", name(said), " "] : few;
   return [
     el("div", { cls: "price same" }, isSwap ? "from here" : "stays"),
     el("div", { cls: "in" }, name(held.room_said)),
-    more(count, ...label),
+    count ? more(isSwap ? "swaps of rooms" : "other rooms", ...label) : null,
   ].filter(Boolean);
 }
 
@@ -52,7 +53,6 @@ export function heldParts(cell, one, held, offer, view) {
     return [...here(one, view), why];
   }
   const [price, , said] = offer.offers[0];
-  const count = offer.offers.length - 1;
   const isSwap = held.kind === "swap";
   cell.classList.add("can", kindOf(price));
   if (same(offer.at, held.best)) cell.classList.add("best");
@@ -60,8 +60,8 @@ export function heldParts(cell, one, held, offer, view) {
     ...(isSwap ? [] : here(one, view)),
     el("div", { cls: `price ${kindOf(price)}` }, signed(price)),
     el("div", { cls: "in" }, isSwap ? "with " : null, name(said)),
-    more(count, ...others(count, isSwap ? "more" : count > 1 ? "rooms" : "room")),
-  ].filter(Boolean);
+    more(isSwap ? "lectures to swap with" : "rooms", word(isSwap ? "others" : "rooms")),
+  ];
 }
 
 // which offer of a slot is meant: none where it stays
@@ -76,9 +76,7 @@ export function heldSaid(held, offer, place = null) {
   if (!one && same(offer.at, held.at)) return `${held.said} stays here`;
   if (!one) return `not possible: ${offer.why}`;
   const [price, , said] = one;
-  const count = offer.offers.length - 1;
-  const rest = count ? `, ${counted(count, "other choice")}` : "";
-  return `${priceSaid(price)}, ${preposition(held)} ${said}${rest}`;
+  return `${priceSaid(price)}, ${preposition(held)} ${said}`;
 }
 
 // the same beside the hand: its kind and a few letters

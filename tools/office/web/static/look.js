@@ -82,11 +82,20 @@ export class Look {
     }
     const offer = held.slots.find((one) => same(one.at, week.cursor));
     const can = offer.offers.length > 0 || same(offer.at, held.at);
+    const more = held.kind === "swap" ? " others" : " rooms";
     fill(
       find("tray"),
       el("strong", {}, name(week.said(week.cursor))),
       el("span", { cls: can ? "" : "no" }, name(heldSaid(held, offer, this.place))),
-      el("span", { cls: "keys-hint" }, key("Enter"), " puts it down, ", key("Esc"), " leaves it")
+      el(
+        "span",
+        { cls: "keys-hint" },
+        ...(can ? [key("O"), `${more}, `] : []),
+        key("Enter"),
+        " puts it down, ",
+        key("Esc"),
+        " leaves it"
+      )
     );
   }
 }
