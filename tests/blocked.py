@@ -47,7 +47,8 @@ class Given:
             if kind == "instance":
                 names = quoted(rest)
                 new = dict(zip(names[1::2], names[0::2]))
-                self.instance = " ".join(new.get(word, word) for word in self.instance.split())
+                words = names[0] if len(names) == 1 else self.instance
+                self.instance = " ".join(new.get(word, word) for word in words.split())
             elif kind:
                 self.texts[kind] = TEXTS.get(rest) or quoted(rest)[0]
 
@@ -192,8 +193,11 @@ def check_crew(given, name, line, wanted):
     lines = quoted(line)
     script = given.file("script", "".join(it + "\n" for it in lines))
     check_run(name, *given.words("crew", script), wanted=wanted)
-    desk = Desk(given.model(), {})
-    text = desk.play([it.split() if it.startswith("show") else ["0", *it.split()] for it in lines])
+    desk, text = Desk(given.model(), {}), ""
+    for words in (it.split() for it in lines):
+        is_show = words[0] == "show"
+        answer = "already open" if is_show and desk.drafts else desk.answer(words if is_show else ["0", *words])
+        text += answer + "\n"
     check(f"{name}: the plain desk", f"planner 0\n{text}journal {len(desk.entries)}\n{desk.costs()}", wanted)
 
 
@@ -257,9 +261,9 @@ class Cases:
             check_tables(self.folder, name, self.header, cells)
 
 
-def check_cases(folder):
-    """Runs the page. Each line whose colon ends it has a block."""
-    with open(CASES, encoding="utf-8") as opened:
+def check_cases(folder, page=CASES):
+    """Runs a page. Each line whose colon ends it has a block."""
+    with open(page, encoding="utf-8") as opened:
         lines = opened.read().split("\n")
     cases = Cases(folder)
     while lines:

@@ -91,7 +91,7 @@ class Rules:
         if kind == "move":
             return kind, c, slot(*rest[:2]), slot(*rest[3:]), room(rest[2])
         if kind == "swap":
-            return kind, c, slot(*rest[:2]), None if rest[2] == "*" else self.course[rest[2]], slot(*rest[3:])
+            return kind, c, slot(*rest[:2]), None if is_pattern else self.course[rest[2]], slot(*rest[3:])
         return kind, c, slot(*rest)
 
     def words(self, kind, c, *parts):
