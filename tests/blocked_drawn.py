@@ -36,7 +36,7 @@ def draw_edit(draw, rules, t):
 
 
 def draw_pattern(draw, rules, t):
-    """The words of a look at the cheapest edits of a pattern."""
+    """The words of an edit in which its room and its new slot, or the second lecture of a swap, are mostly left open."""
     words = draw_edit(draw, rules, t)
     while words[0] == "drop":
         words = draw_edit(draw, rules, t)
@@ -45,17 +45,22 @@ def draw_pattern(draw, rules, t):
         words[room] = "*"
     if words[0] != "reroom" and (words[0] == "swap" or draw.random() < 0.7):
         words[slot:] = ["*", "*"]
-    return ["cheapest", str(draw.choice((1, 3, 1000))), *words]
+    return words
 
 
 def draw_look(draw, rules, t):
     """The words of a look."""
     names = {kind: some for kind, some in rules.instance.names().items() if some and kind != "room"}
-    kind = draw.choice([*names, "coursecost", "slot", "cost", "missing", "price", "price", "cheapest", "cheapest"])
+    kind = draw.choice([*names, "coursecost", "slot", "cost", "missing", "price", "price", "cheapest", "cheapest", "slots"])
     if kind == "price":
         return ["price", *draw_edit(draw, rules, t)]
     if kind == "cheapest":
-        return draw_pattern(draw, rules, t)
+        return ["cheapest", str(draw.choice((1, 3, 1000))), *draw_pattern(draw, rules, t)]
+    if kind == "slots":
+        words = draw_pattern(draw, rules, t)
+        while words[-2:] != ["*", "*"]:
+            words = draw_pattern(draw, rules, t)
+        return ["slots", *words]
     if kind == "slot":
         return ["slot", *map(str, draw.choice(rules.slots))]
     if kind in ("cost", "missing"):

@@ -47,12 +47,14 @@ slice_size=16
 letter_size=4
 lecture_size=6
 head -n 4 s.sol >s0.sol
-printf '%s\n' 'journal 1' 'entry 0 2' 'place top A 0 1' 'refused roomtaken geo' 'slot 0 0' 'lectures 1 alg A 0 0' END. >told
+printf '%s\n' 'journal 1' 'entry 0 3' 'place top A 0 1' 'refused roomtaken geo' 'slot 0 0' 'lectures 1 alg A 0 0' 'slots place top A * *' \
+    'slots 6 - clash alg - roomtaken geo 20 place top A 0 2 - clash alg 20 place top A 1 1 - roomtaken geo' END. >told
 echo 'Barred: 2 alg A top A END.' >barred
 echo 'Blocked: 3 room B 1 * teacher t2 0 0 course top 1 1 END.' >blocked
 printf '%s\n' 'entry 0 1' 'place top B 0 2' done 'entry 1 1' 'slot 0 2' 'lectures 1 top B 0 2' 'entry 0 1' 'drop top 0' >torn
 # each line of a crew's planner, twice
-printf '%s\n' open open 'place geo A 0 1' 'place geo A 0 1' 'slot 0 1' 'slot 0 1' refresh refresh commit commit >twice
+printf '%s\n' open open 'place geo A 0 1' 'place geo A 0 1' 'slot 0 1' 'slot 0 1' 'slots move geo 0 1 * * *' 'slots move geo 0 1 * * *' \
+    refresh refresh commit commit >twice
 # a crew of one planner, and what it prints if one of his lines, the first, the second or the third, wants memory
 printf '%s\n' open 'place geo A 0 1' commit >one
 printf '%s\n' 'planner 0' 'no memory' 'no draft' 'no draft' 'journal 0' 'costs 0 20 0 0' >one.1
@@ -62,7 +64,7 @@ printf '%s\n' 'planner 0' opened done 'no memory' 'journal 0' 'costs 0 20 0 0' >
 printf '%s\n' 'alg A 0 0' 'alg B 1 0' 'geo B 0 0' 'geo A 1 2' 'top A 1 2' >mixed
 # a draft that is brought up to date, and one that turns out to be stale
 printf '%s\n' '0 open' '0 place geo A 0 1' '2 open' '2 slot 0 2' '1 open' '1 place top B 0 2' '1 commit' '0 refresh' '2 refresh' '0 slot 0 2' \
-    '0 commit' >refreshed
+    '0 slots swap geo 0 1 * * *' '0 commit' >refreshed
 lanes=$(nproc)
 
 # Runs the trials with each request refused whose number is that of the lane, or so many more, and notes how each run ended.

@@ -50,10 +50,17 @@ def moves_in(files, folder, instance, lectures, slots):
     return moves
 
 
-def draft(draw, look, moves):
+def look_for(draw, move):
+    """A look at the price of a move, or, now and then, at what each slot offers to its lecture."""
+    if draw.random() < 0.9:
+        return f"price {move}"
+    return " ".join(["slots", *move.split(" ")[:4], "* * *"])
+
+
+def draft(draw, front, moves):
     """The lines of a draft: looks at prices, and edits."""
-    prices = [f"{look} {draw.choice(moves)}" for _ in range(PRICES)]
-    return ["open", *prices, *draw.sample(moves, EDITS), "commit"]
+    looks = [front + look_for(draw, draw.choice(moves)) for _ in range(PRICES)]
+    return ["open", *looks, *draw.sample(moves, EDITS), "commit"]
 
 
 def mixed(draw, rows):
@@ -65,10 +72,10 @@ def mixed(draw, rows):
     return lines
 
 
-def commits(files, folder, seed, look, moves):
-    """The answers to the commits of a drawn day of planners who look so at prices, and have these moves."""
+def commits(files, folder, seed, front, moves):
+    """The answers to the commits of a drawn day of planners who have these moves, and these words in front of their looks."""
     draw = random.Random(seed)
-    rows = [[f"{p} {line}" for _ in range(DRAFTS) for line in draft(draw, look, own)] for p, own in enumerate(moves)]
+    rows = [[f"{p} {line}" for _ in range(DRAFTS) for line in draft(draw, front, own)] for p, own in enumerate(moves)]
     lines = mixed(draw, rows)
     return [answer for line, answer in zip(lines, play(files, folder, lines)) if line.endswith("commit")]
 
@@ -87,9 +94,9 @@ def main():
             own = [[it for it in lectures if it[0] in courses[p] and it[1] * instance.periods + it[2] in slots[p]] for p in range(planners)]
             moves = [moves_in(files, folder, instance, own[p], slots[p]) for p in range(planners)]
             moves = [some for some in moves if len(some) >= EDITS]
-            peeked = commits(files, folder, seed, "peek price", moves)
+            peeked = commits(files, folder, seed, "peek ", moves)
             check(f"day {seed}: stale drafts of planners who peek", [it for it in peeked if it.startswith("stale")], [])
-            told = commits(files, folder, seed, "price", moves)
+            told = commits(files, folder, seed, "", moves)
             stale += sum(answer.startswith("stale") for answer in told)
             asked += len(told)
     print(f"of {asked} drafts in which prices were asked {stale} were stale")

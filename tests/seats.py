@@ -4,8 +4,8 @@
 A script is run on one thread first. Then each of its lines is typed at the seat of its planner, when the line before is
 answered; who only looks sits at the last seat. The answers have to be those of the run, and the minutes its journal. Behind
 the script a planner who did nothing yet opens a draft, and sees what the desk ends with, in it and beside it, asks for help, and the
-first one leaves. What a script cannot do, to make a draft again, to take an edit back, and to hear which word cannot stand, is typed
-in days of their own, with each answer and the minutes by value.
+first one leaves. What a script cannot do, to make a draft again, to take an edit back, and to hear which word cannot stand, and what
+each slot offers, is typed in days of their own, with each answer and the minutes by value.
 
 Then each request for memory is refused alone, by a `malloc` in front of the C library's. A line that is answered 'no memory',
 or 'no place', is typed again. The answers and the minutes have to be those with memory. Or the desk ends with status 3 and
@@ -170,6 +170,47 @@ done
 place geo B 0 2
 done
 """
+OFFERED = """0 slots place geo * * * -> no draft
+0 open -> opened
+0 slots place geo B * * -> slots 6 - unavailable -3 place geo B 0 1 -3 place geo B 0 2 -3 place geo B 1 0 -3 place geo B 1 1 -3 place geo B 1 2
+0 place geo A 0 1 -> done
+0 place top B 0 2 -> done
+0 peek slots move geo 0 1 B * * -> slots 6 - unavailable - sameslot - roomtaken top 0 move geo 0 1 B 1 0 0 move geo 0 1 B 1 1 0 move geo 0 1 B 1 2
+0 slots swap geo 0 1 * * * -> slots 6 - notplaced - samecourse 15 swap geo 0 1 top 0 2 - notplaced - notplaced - notplaced
+0 slots move alg 0 0 * * * -> refused notplaced
+0 slots place top * * * -> refused full
+0 show slots swap geo 0 1 * * * -> refused notplaced
+0 commit -> committed 1
+0 open -> opened
+0 slots place alg * * * -> slots 6 -7 place alg B 0 0 - clash geo - clash top -3 place alg B 1 0 -3 place alg B 1 1 -3 place alg B 1 2
+0 place alg A 0 0 -> done
+1 open -> opened
+1 drop top 0 2 -> done
+1 commit -> committed 2
+0 commit -> stale slot 0 2
+0 redo -> redone 1 of 1
+0 commit -> committed 3
+"""
+OFFERED_MINUTES = """entry 0 6
+slots place geo B * *
+slots 6 - unavailable -3 place geo B 0 1 -3 place geo B 0 2 -3 place geo B 1 0 -3 place geo B 1 1 -3 place geo B 1 2
+place geo A 0 1
+done
+place top B 0 2
+done
+slots swap geo 0 1 * * *
+slots 6 - notplaced - samecourse 15 swap geo 0 1 top 0 2 - notplaced - notplaced - notplaced
+slots move alg 0 0 * * *
+refused notplaced
+slots place top * * *
+refused full
+entry 1 1
+drop top 0 2
+done
+entry 0 1
+place alg A 0 0
+done
+"""
 UNTOLD = """0 frob it -> bad line 1 frob
 0 open now -> bad line 2 now
 0 place geo A 0 -> bad line 5
@@ -179,6 +220,8 @@ UNTOLD = """0 frob it -> bad line 1 frob
 0 show -> bad line 2
 0 show open -> bad line 2 open
 0 cheapest 1001 place geo * * * -> bad line 2 1001
+0 slots reroom geo * 0 1 -> bad line 2 reroom
+0 slots place geo A 0 1 -> bad line 5 0
 0 leave it -> bad line 2 it
 0 help redo -> bad line 2 redo
 0 redo 1 -> bad line 2 1
@@ -191,6 +234,7 @@ UNTOLD = """0 frob it -> bad line 1 frob
 TYPED = {
     "a draft made again": (REDONE, REDONE_MINUTES, "costs 5 5 2 1"),
     "edits taken back": (UNDONE, UNDONE_MINUTES, "costs 0 15 2 0"),
+    "what each slot offers": (OFFERED, OFFERED_MINUTES, "costs 5 10 0 0"),
     "words that cannot stand": (UNTOLD, "", "costs 0 20 0 0"),
 }
 # the seats: of two planners, of one who does nothing, and of one who only looks
@@ -199,7 +243,7 @@ IDLE, LAST = SEATS[2:]
 WANTS = (b"no memory\n", b"no place\n")
 # what a seat answers to `help`
 HELP = b"words abandon cheapest commit cost course coursecost curriculum drop help leave missing move open \
-peek place price redo refresh reroom show slot status swap teacher undo\n"
+peek place price redo refresh reroom show slot slots status swap teacher undo\n"
 # the sizes in bytes of a word of the command line as `owned_words` and as `serve` collect it, and of
 # a lecture of a solution; a list has room for 4 at least
 WORD_SIZES, LECTURE_SIZE, LEAST = (24, 16), 6, 4
