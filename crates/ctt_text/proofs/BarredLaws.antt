@@ -1,5 +1,5 @@
 -- The laws of the texts of barred rooms.
-use Rattle.std.proofs.Common.{◌≡◌, ◌⊎◌, inl, inr, ℕ, ◌+◌, ◌*◌, ◌<◌, List, [], ◌∷◌, ◌++◌, length, flat_map, Bool, true, false, ◌==◌, Ok, Err, refl, sym, ap, subst, ◌∙◌, mul_comm}
+use Rattle.std.proofs.Common.{◌≡◌, ◌⊎◌, inl, inr, ℕ, ◌+◌, ◌*◌, ◌<◌, List, [], ◌∷◌, ◌++◌, length, Bool, true, false, ◌==◌, Ok, Err, refl, sym, ap, subst, ◌∙◌, mul_comm}
 use Rattle.std.specs.Prelude.{codes, get_or, slice_set}
 use Rattle.std.specs.List.{list_any, AllByRecursion as Each}
 use Rattle.std.specs.Str.{bytes_eq}

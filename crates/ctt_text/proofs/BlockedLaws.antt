@@ -1,6 +1,6 @@
 -- The laws of the texts of closures.
 use Rattle.std.proofs.Common.{◌≡◌, ◌⊎◌, inl, inr, ℕ, ◌+◌, ◌*◌, ◌<◌, List, [], ◌∷◌, ◌++◌, length, Bool, true, false, cond, ◌&&◌, ◌||◌, ◌==◌, Option, Some, None, Ok, Err, refl, sym, ap, ap₂, subst, ◌∙◌}
-use Rattle.std.specs.Prelude.{codes, fold, get_or, nat_lt, replicate}
+use Rattle.std.specs.Prelude.{codes, fold, get_or, replicate}
 use Rattle.std.specs.List.{list_any, AllByRecursion as Each}
 use Rattle.std.specs.Str.{bytes_eq}
 use Rattle.std.proofs.lemmas.Bool.{lt-ltb}
@@ -12,9 +12,9 @@ use Rattle.ctt_text.specs.declared.instance.closing.Kind.TheVariants.{Room, Teac
 use Rattle.ctt_text.specs.declared.instance.closing.Closing.{Closing}
 use Rattle.ctt_text.specs.Numbers.{is_number, value, number_of}
 use Rattle.ctt_text.specs.Forms.{◌>>=◌, Fills}
-use Rattle.ctt_text.specs.Places.{one, known, known_name, is_all, broken_unless, meant, passing_choice, choice_if}
+use Rattle.ctt_text.specs.Places.{one, known, known_name, is_all, broken_unless, meant, choice_if}
 use Rattle.ctt_problem.specs.Problem.{Problem, course_of, course_count, room_count, slot_count, day_of, period_of, is_among, place_of, is_closed, is_blocked}
-use Rattle.ctt_text.specs.InstanceText.{IsUpTo, IsBelow}
+use Rattle.ctt_text.specs.InstanceText.{IsUpTo}
 use Rattle.ctt_text.specs.BlockedPlaces.{Closures, kind_of, names_of, closing, is_chosen, covers_slot, is_of_course, is_of_room, with_marks, with_closing, blocked_entry, none_closed, closures, ends_early}
 use Rattle.ctt_text.specs.BlockedText.{BlockedWords, spelled_blocked, spelled_closures, IsOf, IsAllOrBelow, IsBlockedEntry, says, covers, closes, blocks, BlockSpells, BlockBreaksAt}
 use Rattle.ctt_text.specs.BlockedLaws.{blocked_answer, ReadsBlocked, SpellsOneBlocked, BlockedFailsWhereBroken, BlockedBreaksOnce, BlockedSpellsOrBreaks}

@@ -1,14 +1,14 @@
 -- Teachers are numbered as they are first named, and no more marks are made than pairs are listed.
-use Rattle.std.proofs.Common.{◌≡◌, ◌≢◌, ℕ, zero, suc, ◌+◌, ◌*◌, ◌<◌, ◌≤◌, ◌==◌, List, [], ◌∷◌, ◌++◌, length, map, get_or, Bool, true, false, cond, not, ◌&&◌, ◌||◌, refl, sym, ap, subst, ◌∙◌, append_assoc, arith}
+use Rattle.std.proofs.Common.{◌≡◌, ◌≢◌, ℕ, zero, suc, ◌+◌, ◌*◌, ◌<◌, ◌≤◌, ◌==◌, List, [], ◌∷◌, ◌++◌, length, map, get_or, Bool, true, false, cond, not, ◌||◌, refl, sym, ap, subst, ◌∙◌, append_assoc, arith}
 use Rattle.std.specs.Prelude.{filter, slice_set, nat_lt}
-use Rattle.std.specs.List.{list_any, range_with_len, position_or_len, AllByRecursion as Each}
+use Rattle.std.specs.List.{list_any, range_with_len, AllByRecursion as Each}
 use Rattle.std.specs.Str.{bytes_eq}
 use Rattle.std.proofs.lemmas.Bool.{true≢false, and_parts, eqb-true, eq-eqb, ne_eqb, ltb-true, ltb-false, or_left, or_right}
 use Rattle.std.proofs.lemmas.List.{length-append, get_or_past}
 use Rattle.ctt_problem.specs.Lists.{each_once}
 use Rattle.ctt_problem.specs.Named.{AreNew, AreDistinct}
-use Rattle.ctt_problem.specs.Problem.{Problem, is_among, place_of, teachers_named}
-use Rattle.ctt_problem.proofs.ListLaws.{once_each, bytes_sound, same_bytes, each_among, place_new}
+use Rattle.ctt_problem.specs.Problem.{Problem, is_among, place_of}
+use Rattle.ctt_problem.proofs.ListLaws.{once_each, bytes_sound, same_bytes, place_new}
 use Rattle.ctt_problem.proofs.MarkLaws.{Row, row_of}
 use Rattle.ctt_problem.proofs.TableLemmas.{bool_case}
 use Rattle.ctt_problem.proofs.TimetableLemmas.{Each-map}

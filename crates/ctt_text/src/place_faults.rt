@@ -1,6 +1,5 @@
 //! The faults that the places of each text have.
 
-ghost use Rattle.std.specs.Prelude.{◌≡◌};
 ghost use Rattle.ctt_text.specs.declared.fault.ReadFault.TheVariants as read_fault;
 ghost use Rattle.ctt_text.specs.declared.fault.SolutionFault.TheVariants as solution_fault;
 ghost use Rattle.ctt_text.specs.declared.fault.BarredFault.TheVariants as barred_fault;

@@ -1,4 +1,4 @@
-use Rattle.std.proofs.Common.{◌≡◌, ◌≤◌, ◌∙◌, subst}
+use Rattle.std.proofs.Common.{◌≤◌, ◌∙◌, subst}
 use Rattle.ctt_problem.specs.Problem.{period_of}
 use Rattle.ctt_text.specs.BlockedPlaces.{is_chosen}
 use Rattle.ctt_text.proofs.ClosingLemmas.{on_day}
