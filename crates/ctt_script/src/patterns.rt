@@ -211,10 +211,7 @@ fn read_place_anywhere(
 /// Parses what follows `move` in a pattern to any slot: a course, its slot, a room or `*`, and
 /// `* *`.
 #[tactic(auto, using(crate::proofs::JournalSteps::read_bind, crate::proofs::JournalSteps::read_done), unfolding(crate::specs::CallPlaces::slot_pattern_after))]
-fn read_move_anywhere(
-    reader: &mut Reader,
-    instance: &Instance,
-) -> Result<SlotPattern, JournalFault>
+fn read_move_anywhere(reader: &mut Reader, instance: &Instance) -> Result<SlotPattern, JournalFault>
     ensures { IsRead (λ pattern. (pattern, reader.new)) result
         (reads (slot_pattern_after instance.now to_any.Move) reader.old) }
 {
@@ -227,10 +224,7 @@ fn read_move_anywhere(
 
 /// Parses what follows `swap` in a pattern to any slot: a course, its slot, and `* * *`.
 #[tactic(auto, using(crate::proofs::JournalSteps::read_bind, crate::proofs::JournalSteps::read_done), unfolding(crate::specs::CallPlaces::slot_pattern_after))]
-fn read_swap_anywhere(
-    reader: &mut Reader,
-    instance: &Instance,
-) -> Result<SlotPattern, JournalFault>
+fn read_swap_anywhere(reader: &mut Reader, instance: &Instance) -> Result<SlotPattern, JournalFault>
     ensures { IsRead (λ pattern. (pattern, reader.new)) result
         (reads (slot_pattern_after instance.now to_any.Swap) reader.old) }
 {

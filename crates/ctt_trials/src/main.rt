@@ -10,6 +10,7 @@ mod cases;
 mod desks;
 mod drafts;
 mod journals;
+mod offered;
 mod scripts;
 mod shared;
 mod sheets;

@@ -2,6 +2,7 @@
 
 use crate::blocked::{BLOCKED_PATTERNS, BLOCKED_ROOM};
 use crate::cases::{Case, On, Plain, Play, Told, Way};
+use crate::offered::*;
 use crate::texts::{CLASH, JOURNAL, NOTHING, SOLUTION, TOP, WITHOUT_TOP};
 use crate::worked::*;
 
@@ -128,6 +129,7 @@ const ON_SHEETS: &[Case] = &[
     case!("the border of two days", NOTHING, BORDER, LINES),
     case!("prices and looks on the solution", SOLUTION, PRICES, LINES),
     case!("patterns on the solution", SOLUTION, PATTERNS, LINES),
+    case!("offers on the solution", SOLUTION, OFFERS, LINES),
     case!(
         "edits that are refused on the solution",
         SOLUTION,
@@ -141,6 +143,7 @@ const ON_SHEETS: &[Case] = &[
     case!("changes that are accepted", SOLUTION, "", ACCEPTED),
     case!("price place alg B 0 0", NOTHING, PRICE, ROWS),
     case!("cheapest 1 move geo 0 1 * * *", SOLUTION, PATTERN, ROWS),
+    case!("slots swap geo 0 1 * * *", SOLUTION, OFFER_ROWS, ROWS),
     case!("swap geo 0 1 top 0 2", NOTHING, SWAP, ROWS),
     case!("drafts", TOP, "", DRAFT),
     case!("a draft of a thousand calls", NOTHING, "", LONG_DRAFT),
@@ -156,6 +159,7 @@ const ON_DESKS: &[Case] = &[
     case!("peeked at", NOTHING, PEEKED, DESK),
     case!("a price that is peeked at", NOTHING, PEEKED_PRICE, DESK),
     case!("the cheapest and the missing", NOTHING, CHEAPEST, DESK),
+    case!("what the slots offer", NOTHING, OFFERED, DESK),
 ];
 
 /// Desks whose drafts are refreshed or left open.
@@ -177,6 +181,7 @@ const REFRESHED_DESKS: &[Case] = &[
 /// Lines that are not events, and desks that find a slot in use.
 const REFUSING_DESKS: &[Case] = &[
     case!("bad lines", NOTHING, BAD_LINES, BAD),
+    case!("patterns with a slot", NOTHING, BAD_SLOTS, BAD),
     case!(
         "a drop and a placement in one slot",
         WITHOUT_TOP,
@@ -212,6 +217,7 @@ const TEXTS: &[Case] = &[
         OTHER_JOURNAL,
         LEFT
     ),
+    case!("other offers", NOTHING, OFFER_JOURNAL, AUDIT),
     case!("an unlawful opening", CLASH, JOURNAL, UNLAWFUL),
     case!("what an unlawful opening leaves", CLASH, JOURNAL, LEFT),
     case!(
@@ -255,6 +261,12 @@ const BLOCKED: &[Case] = &[
         "patterns beside what is blocked",
         WITHOUT_TOP,
         BLOCKED_PATTERNS,
+        LINES
+    ),
+    case!(
+        "offers beside what is blocked",
+        WITHOUT_TOP,
+        BLOCKED_OFFERS,
         LINES
     ),
     case!("a blocked room", WITHOUT_TOP, BLOCKED_ROOM, DESK),
