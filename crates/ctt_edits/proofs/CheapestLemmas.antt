@@ -65,12 +65,12 @@ n_cheapest_parts i t n list after all es fs cut is =
     ap (λ xs. n_cheapest n xs (feasible i t fs)) is ∙ sym (n_cheapest_append n list (feasible i t es) (feasible i t fs)) ∙ ap (n_cheapest n list) (sym (feasible_append i t es fs)) ∙ ap (λ es. n_cheapest n list (feasible i t es)) (sym cut)
 
 -- numbers from one on
-range_more : (a b : ℕ) → a < b → from_to a b ≡ a ∷ from_to (a + 1) b
+pub range_more : (a b : ℕ) → a < b → from_to a b ≡ a ∷ from_to (a + 1) b
 range_more a b lt =
     let one_more : b - a ≡ suc (b - (a + 1)) = omega (arith, lt) in
     ap (range_with_len a) one_more
 
-range_end : (a b : ℕ) → b ≤ a → from_to a b ≡ []
+pub range_end : (a b : ℕ) → b ≤ a → from_to a b ≡ []
 range_end a b le =
     let none : b - a ≡ 0 = omega (arith, le) in
     ap (range_with_len a) none

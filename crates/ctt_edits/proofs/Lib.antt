@@ -12,6 +12,8 @@ pub mod PatternFrame
 pub mod PatternReads
 pub mod CallLemmas
 pub mod CheapestLemmas
+pub mod OfferOrder
+pub mod OfferLemmas
 pub mod PriceOrder
 pub mod PatternFaults
 pub mod MissingLemmas
