@@ -1,4 +1,4 @@
-use Rattle.std.proofs.Common.{codes, append-nil, string_bytes, sym}
+use Rattle.std.proofs.Common.{append-nil, string_bytes, sym}
 use Rattle.ctt_views.specs.Sections.{blocked_section}
 use Rattle.ctt_views.proofs.sections.push_blocked.Goals as goal
 
