@@ -4,6 +4,7 @@ pub mod DraftSteps
 pub mod CheckLemmas
 pub mod FirstLemmas
 pub mod StaleLemmas
+pub mod HeldLemmas
 pub mod UndoLemmas
 mod UndoingLemmas
 pub mod CompareLemmas

@@ -19,7 +19,7 @@ use Rattle.ctt_edits.specs.declared.edit.Edit.TheVariants.{Place, Move, Swap, Re
 use Rattle.ctt_edits.specs.declared.fault.EditFault.{EditFault}
 use Rattle.ctt_edits.specs.declared.looks.Look.{Look}
 use Rattle.ctt_edits.specs.declared.reply.Reply.{Reply}
-use Rattle.ctt_edits.specs.declared.reply.Reply.TheVariants.{Done, Refused, Lectures, Costs, Price as Priced, Missing as AreMissing, Edits as AreCheapest}
+use Rattle.ctt_edits.specs.declared.reply.Reply.TheVariants.{Done, Refused, Lectures, Costs, Price as Priced, Missing as AreMissing, Edits as AreCheapest, Slots as AreOffers}
 use Rattle.ctt_edits.proofs.EditLemmas.{room_fits}
 use Rattle.ctt_draft.specs.Drafts.{after_call, calls_of, changes, made, replies, replies_in}
 use Rattle.ctt_draft.specs.DraftValues.{DraftValue, present}
@@ -228,6 +228,7 @@ module _ (i : Problem) (base : List Placed) (calls : List Call) (all : List (Lis
   done_is (Edits x) (Priced p) e h = cc
   done_is (Edits x) (AreMissing xs) e h = cc
   done_is (Edits x) (AreCheapest xs) e h = cc
+  done_is (Edits x) (AreOffers xs) e h = cc
 
   -- there are at least m changes, and the next accepted edit fits
   pub few_made : (a : Asked) (e : Edit) → done_edit a ≡ Some e → IsUnstacking i base calls all m stack (a ∷ left) → (m ≤ length all) × EditFits i e

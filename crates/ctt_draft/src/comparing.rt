@@ -1,23 +1,23 @@
 //! Comparing a draft's snapshot with a sheet, in the rows that the draft read.
 
-ghost use Rattle.std.specs.Prelude.{ℕ, ◌≡◌, ◌<◌, ◌≤◌, ◌↔◌, ◌==◌, ◌&&◌, ◌||◌, false, IsTrue};
+ghost use Rattle.std.specs.Prelude.{ℕ, ◌≡◌, ◌<◌, ◌≤◌, ◌↔◌, ◌==◌, ◌&&◌, ◌||◌, false, IsTrue, IfSome};
 ghost use Rattle.std.specs.List.{find};
 ghost use Rattle.std.specs.Option.{option_eq};
 ghost use Rattle.ctt_problem.specs.Lists.{below};
 ghost use Rattle.ctt_problem.specs.Marks.{is_marked};
-ghost use Rattle.ctt_problem.specs.Problem.{course_count, slot_count};
+ghost use Rattle.ctt_problem.specs.Problem.{course_count, slot_count, room_count};
 ghost use Rattle.ctt_problem.specs.Timetable.{IsTimetable, course_row, slot_row};
-ghost use Rattle.ctt_board.specs.Changes.{room_at};
+ghost use Rattle.ctt_board.specs.Changes.{room_at, holder_at};
 ghost use Rattle.ctt_edits.specs.RowSets.{has_course, has_slot};
 ghost use Rattle.ctt_edits.specs.declared.row.Row.TheVariants.{Course as CourseRow, Slot as SlotRow};
 ghost use Rattle.ctt_draft.specs.Drafts.{differs};
 ghost use Rattle.ctt_draft.specs.Undo.{is_named, put_back, AreWithin, Records};
-ghost use Rattle.ctt_draft.specs.Comparisons.{base_of, has_other_in_course, has_other_in_slot, is_other, IsComparable};
+ghost use Rattle.ctt_draft.specs.Comparisons.{base_of, has_other_in_course, has_other_in_slot, is_other, is_none_or_named, agrees_in_room, IsComparable};
 
 use crate::undo::Undo;
 use ctt_board::{Cell, Rooms};
 use ctt_edits::RowsRead;
-use ctt_problem::{CourseNo, Instance, Marks, SlotNo};
+use ctt_problem::{CourseNo, Instance, Marks, RoomNo, SlotNo};
 use std::marker::Model;
 
 /// A comparison of a draft's snapshot with a sheet. The snapshot is given by the draft's present
@@ -104,6 +104,7 @@ impl<'a, R: Rooms> Comparison<'a, R> {
           sheet = R.list sheet.now;
         } }
     {
+        present.lawful();
         sheet.lawful();
         instance.limits_hold();
         let mut courses = Marks::new();
@@ -119,8 +120,9 @@ impl<'a, R: Rooms> Comparison<'a, R> {
         }
     }
 
-    /// Computes nothing: its contract says that the snapshot and the sheet are timetables, and that
-    /// the present timetable differs from the snapshot in recorded cells only.
+    /// Computes nothing: its contract says that the snapshot is a timetable, that the present one
+    /// and the sheet are lawful, and that the present one differs from the snapshot in recorded
+    /// cells only.
     fn are_timetables(&self)
         ensures { IsComparable self.now }
     {
@@ -160,6 +162,32 @@ impl<'a, R: Rooms> Comparison<'a, R> {
             || self.undo.has(course, slot)
     }
 
+    /// Returns whether there is no course, or its cell in a slot is recorded.
+    fn is_none_or_recorded(&self, course: Option<CourseNo>, slot: SlotNo) -> bool
+        requires course { IfSome course (λ c. c < course_count self.now.problem) }
+        requires slot { slot < slot_count self.now.problem }
+        ensures { result ≡ is_none_or_named slot self.now.undo course }
+    {
+        match course {
+            None => true,
+            Some(course) => self.undo.has(course, slot),
+        }
+    }
+
+    /// Returns whether a room has the same course in a slot of the present timetable and of the
+    /// sheet, or the cell of each course that has it is recorded.
+    fn agrees_in_room(&self, slot: SlotNo, room: RoomNo) -> bool
+        requires slot { slot < slot_count self.now.problem }
+        requires room { room < room_count self.now.problem }
+        ensures { result ≡ agrees_in_room slot room self.now }
+    {
+        self.are_timetables();
+        let here = self.present.holder(slot, room);
+        let there = self.sheet.holder(slot, room);
+        here == there
+            || (self.is_none_or_recorded(here, slot) && self.is_none_or_recorded(there, slot))
+    }
+
     /// Returns whether a course has the same lectures in the snapshot and on the sheet.
     fn same_course_row(&self, course: CourseNo) -> bool
         requires { course < course_count self.now.problem }
@@ -190,8 +218,8 @@ impl<'a, R: Rooms> Comparison<'a, R> {
         if self.has_other_in_slot(slot) {
             return false;
         }
-        for number in 0..instance.courses() {
-            if !self.is_same_or_recorded(CourseNo::new(number), slot) {
+        for number in 0..instance.rooms() {
+            if !self.agrees_in_room(slot, RoomNo::new(number)) {
                 return false;
             }
         }

@@ -26,5 +26,5 @@ loop-number-preserved g c =
 pub returns : goal.returns
 returns g c =
     agree (course_row c.args.course (base_of c.args.self.now) ≡ course_row c.args.course c.args.self.now.sheet)
-    (course_rows_same c.args.self.now.problem (base_of c.args.self.now) c.args.self.now.sheet c.are_timetables.ensures.base c.are_timetables.ensures.sheet c.args.course
+    (course_rows_same c.args.self.now.problem (base_of c.args.self.now) c.args.self.now.sheet c.are_timetables.ensures.base c.are_timetables.ensures.sheet.timetable c.args.course
     (λ n lt. c.loop-number.invariant n (omega (arith, lt, c.loop-number-test.false, c.slots-number-end.ensures.exact, ap slot_count c.instance-instance.ensures))))
