@@ -13,15 +13,16 @@ use Rattle.ctt_board.proofs.OrderLemmas.{in_order}
 use Rattle.ctt_edits.specs.Calls.{CallFits, reply, cells_if, cells_of, edit_courses, look_reads_course, look_reads_slot, reads_course, reads_slot}
 use Rattle.ctt_edits.specs.Laws.{CallFrame}
 use Rattle.ctt_edits.specs.Missing.{missing}
+use Rattle.ctt_edits.specs.Offers.{pattern_of}
 use Rattle.ctt_edits.specs.Looks.{LookFits, shown, told_or}
-use Rattle.ctt_edits.specs.declared.reply.Reply.TheVariants.{Done, Lectures, Costs, Price as Priced, Missing as AreMissing, Edits as AreCheapest}
+use Rattle.ctt_edits.specs.declared.reply.Reply.TheVariants.{Done, Lectures, Costs, Price as Priced, Missing as AreMissing, Edits as AreCheapest, Slots as AreOffers}
 use Rattle.ctt_edits.specs.declared.call.Call.{Call}
 use Rattle.ctt_edits.specs.declared.call.Call.TheVariants.{Look as Looks, Edit as Edits}
 use Rattle.ctt_edits.specs.declared.looks.Look.{Look}
-use Rattle.ctt_edits.specs.declared.looks.Look.TheVariants.{Course, Slot, Teacher, Curriculum, CourseCost, Price, Missing, Cheapest, Cost as WholeCost}
+use Rattle.ctt_edits.specs.declared.looks.Look.TheVariants.{Course, Slot, Teacher, Curriculum, CourseCost, Price, Missing, Cheapest, Slots, Cost as WholeCost}
 use Rattle.ctt_edits.proofs.FrameLemmas.{AgreeAt, change_same, fault_same}
 use Rattle.ctt_edits.proofs.PriceFrame.{price_same}
-use Rattle.ctt_edits.proofs.PatternFrame.{pattern_fault_same, cheapest_same}
+use Rattle.ctt_edits.proofs.PatternFrame.{pattern_fault_same, cheapest_same, offers_same}
 use Rattle.ctt_edits.proofs.ReadLemmas.{AgreeOn, agree_on, same_part}
 
 -- with all rows the same, so is the timetable
@@ -43,6 +44,7 @@ shown_same i (Price e) t u h k f a =
     (price_same i e t u h k f own (λ d y. a.courses d (or_right (has d (edit_courses e)) (list_any (λ c. mates i c d) (edit_courses e)) y)))
 shown_same i Missing t u h k f a = ap (λ v. AreMissing (missing i v)) (same_whole i t u h k (λ c. a.courses c refl))
 shown_same i (Cheapest n p) t u h k f a = ap₂ (λ x y. told_or x (AreCheapest y)) (pattern_fault_same i p t u a) (cheapest_same i p n t u h k f.1 a)
+shown_same i (Slots p) t u h k f a = ap₂ (λ x y. told_or x (AreOffers y)) (pattern_fault_same i (pattern_of p) t u a) (offers_same i p t u h k f a)
 shown_same i WholeCost t u h k f a = ap (λ v. Costs (penalty i v)) (same_whole i t u h k (λ c. a.courses c refl))
 
 -- the same of any two timetables that agree at the numbers that a call reads, and perhaps at more

@@ -19,6 +19,7 @@ pub mod PatternFaults
 pub mod MissingLemmas
 pub mod ReplyLemmas
 pub mod SameLemmas
+pub mod SameEdits
 pub mod TableLemmas
 pub mod OpeningLemmas
 pub mod GatherLemmas

@@ -1,46 +1,53 @@
 -- The reply to a call on a lawful timetable fits and is short.
-use Rattle.std.proofs.Common.{◌≡◌, ℕ, zero, suc, pos, ◌-ℤ◌, ◌<◌, ◌≤◌, Bool, true, false, List, [], ◌∷◌, length, map, take, Option, Some, None, is_none, refl, arith, inl, inr}
+use Rattle.std.proofs.Common.{◌≡◌, ℕ, zero, suc, pos, ◌-ℤ◌, ◌<◌, ◌≤◌, Bool, true, false, not, List, [], ◌∷◌, length, map, take, Option, Some, None, is_none, refl, arith, inl, inr}
 use Rattle.std.proofs.lemmas.List.{append-nil, map-append, length-map, length-append, length-take}
+use Rattle.std.proofs.lemmas.List.FromFn.{length-range_with_len}
 use Rattle.std.proofs.lemmas.Int.{ints}
 use Rattle.std.specs.Prelude.{unsigned_abs, IfSome, filter, ◌==◌}
-use Rattle.std.specs.List.{AllByRecursion as Each}
-use Rattle.std.specs.Option.{option_map}
+use Rattle.std.specs.List.{list_any, find, range_with_len, AllByRecursion as Each}
+use Rattle.std.specs.Option.{option_map, unwrap_or}
 use Rattle.std.proofs.lemmas.Bool.{cases_Bool}
 use Rattle.ctt_problem.specs.Problem.{Problem, IsProblem, course_count, slot_count, room_count, clash}
 use Rattle.ctt_problem.specs.Timetable.{Fits, slot_row, without, before}
 use Rattle.ctt_problem.specs.declared.placed.Placed.{Placed}
 use Rattle.ctt_problem.specs.Lists.{below, put}
 use Rattle.ctt_problem.proofs.LectureLaws.{Each-put}
-use Rattle.ctt_problem.proofs.TimetableLemmas.{Each-append}
+use Rattle.ctt_problem.proofs.ListLaws.{Each-mapped}
+use Rattle.ctt_problem.proofs.TimetableLemmas.{Each-append, Each-map}
 use Rattle.ctt_rules.specs.Hard.{Lawful}
 use Rattle.ctt_rules.specs.Penalty.{penalty, course_cost, total}
 use Rattle.ctt_rules.specs.declared.cost.Cost.{Cost}
-use Rattle.ctt_rules.proofs.ListLemmas.{Each-filter, Each-take}
+use Rattle.ctt_rules.proofs.ListLemmas.{Each-every, Each-filter, Each-take}
 use Rattle.ctt_rules.proofs.TimetableLemmas.{few_lectures, lectures_small}
 use Rattle.ctt_board.specs.Changes.{room_at, apply_at}
 use Rattle.ctt_board.proofs.CostLemmas.{course_cost_small, penalty_small}
 use Rattle.ctt_edits.specs.declared.edit.Edit.{Edit}
 use Rattle.ctt_edits.specs.declared.edit.Edit.TheVariants.{Place, Move, Swap, Reroom, Drop}
 use Rattle.ctt_edits.specs.declared.looks.Look.{Look}
-use Rattle.ctt_edits.specs.declared.looks.Look.TheVariants.{Course, Slot, Teacher, Curriculum, CourseCost, Price, Missing, Cheapest, Cost as WholeCost}
+use Rattle.ctt_edits.specs.declared.looks.Look.TheVariants.{Course, Slot, Teacher, Curriculum, CourseCost, Price, Missing, Cheapest, Slots, Cost as WholeCost}
 use Rattle.ctt_edits.specs.declared.call.Call.{Call}
 use Rattle.ctt_edits.specs.declared.call.Call.TheVariants.{Look as Looks, Edit as Edits}
 use Rattle.ctt_edits.specs.declared.fault.EditFault.{EditFault}
 use Rattle.ctt_edits.specs.declared.fault.EditFault.TheVariants.{NotPlaced, SameSlot, SameCourse, AlreadyThere, CourseFull, Unavailable, Barred, Blocked, Clash, RoomTaken}
 use Rattle.ctt_edits.specs.declared.reply.Reply.{Reply}
-use Rattle.ctt_edits.specs.declared.reply.Reply.TheVariants.{Done, Price as Priced, Missing as AreMissing, Edits as AreCheapest}
+use Rattle.ctt_edits.specs.declared.reply.Reply.TheVariants.{Done, Price as Priced, Missing as AreMissing, Edits as AreCheapest, Slots as AreOffers}
 use Rattle.ctt_edits.specs.Edits.{EditFits, or_else, fault_if, first_course, try_fault, try_room_of, edit_fault, edited}
 use Rattle.ctt_edits.specs.Looks.{LookFits, told_or, price, shown}
 use Rattle.ctt_edits.specs.Calls.{CallFits, reply}
 use Rattle.ctt_edits.proofs.EditLemmas.{room_fits, edits_keep_lawful}
-use Rattle.ctt_edits.specs.Fitting.{FaultFits, IsAmount, CostFits, AreFew, ShortfallFits, PricedFits, IsReply}
+use Rattle.ctt_edits.specs.Fitting.{FaultFits, IsAmount, CostFits, AreFew, ShortfallFits, PricedFits, OfferFits, IsReply}
 use Rattle.ctt_edits.specs.Laws.{RepliesFit}
 use Rattle.ctt_edits.specs.Missing.{is_short, shortfall, missing}
-use Rattle.ctt_edits.specs.Patterns.{PatternFits, pattern_fault, edits_of, feasible, is_cheaper, by_price, cheapest}
+use Rattle.ctt_edits.specs.Offers.{pattern_of, edits_to, is_better, offer_by, offer, slot_offer, offers}
+use Rattle.ctt_edits.specs.Patterns.{PatternFits, pattern_fault, edits_of, with_price, feasible, is_cheaper, by_price, cheapest}
 use Rattle.ctt_edits.specs.declared.pattern.Pattern.{Pattern}
 use Rattle.ctt_edits.specs.declared.pattern.Pattern.TheVariants.{Place as AnyPlace, Move as AnyMove, Swap as AnySwap, Reroom as AnyReroom}
+use Rattle.ctt_edits.specs.declared.offer.Offer.{Offer}
+use Rattle.ctt_edits.specs.declared.offer.Offer.TheVariants.{Nothing}
 use Rattle.ctt_edits.specs.declared.priced_edit.PricedEdit.{PricedEdit}
+use Rattle.ctt_edits.specs.declared.slot_pattern.SlotPattern.{SlotPattern}
 use Rattle.ctt_edits.proofs.CheapestLemmas.{edits_fit}
+use Rattle.ctt_edits.proofs.OfferLemmas.{edits_to_fit}
 use Rattle.ctt_edits.proofs.PriceOrder.{inserted}
 
 length-filter : {X : Type 0} (p : X → Bool) (xs : List X) → length (filter p xs) ≤ length xs
@@ -126,6 +133,15 @@ module _ (i : Problem) where
   told_fits None answer h k = k refl
   told_fits (Some f) answer h k = (h.fits, tt)
 
+  -- what an edit offers, and the one that is found
+  offer_by_fits : (o : Option EditFault) (p : PricedEdit) → MayFit i o → (o ≡ None → PricedFits i p) → OfferFits i (offer_by o p)
+  offer_by_fits None p h k = k refl
+  offer_by_fits (Some f) p h k = h.fits
+
+  found_fits : (q : Offer → Bool) (xs : List Offer) → Each (OfferFits i) xs → OfferFits i (unwrap_or (find q xs) Nothing)
+  found_fits q [] h = tt
+  found_fits q (x ∷ xs) h = elim (cases_Bool (q x)) [ inl b ↦ rw b h.0 | inr b ↦ rw b (found_fits q xs h.1) ]
+
   module _ (is : IsProblem i) (t : List Placed) (lawful : Lawful i t) where
     part_fits : (p : Placed → Bool) → Each (Fits i) (filter p t) × AreFew (filter p t)
     part_fits p =
@@ -179,6 +195,24 @@ module _ (i : Problem) where
       omega (arith, length-take_most n (by_price (feasible i t (edits_of i p))), le),
     )
 
+    offer_fits : (e : Edit) → EditFits i e → OfferFits i (offer i t e)
+    offer_fits e f = offer_by_fits (edit_fault i t e) (with_price i t e) (edit_fits t e lawful f) (λ none. (f, price_fits e f none))
+
+    slot_fits : (p : SlotPattern) (x : ℕ) → PatternFits i (pattern_of p) → OfferFits i (slot_offer i t p x)
+    slot_fits p x f =
+        let told : List Offer = map (offer i t) (edits_to i p x) in
+        found_fits (λ o. not (list_any (λ y. is_better y o) told)) told
+        (Each-mapped (OfferFits i) (offer i t) (edits_to i p x) (Each-map (EditFits i) (λ e. OfferFits i (offer i t e)) offer_fits (edits_to i p x) (edits_to_fit i p x f)))
+
+    offers_fit : (p : SlotPattern) → PatternFits i (pattern_of p) → IsReply i (AreOffers (offers i t p))
+    offers_fit p f = (Each-mapped (OfferFits i) (slot_offer i t p) slots (Each-every (λ x. OfferFits i (slot_offer i t p x)) (λ x. slot_fits p x f) slots), few)
+      where
+        slots : List ℕ
+        slots = range_with_len 0 (slot_count i)
+
+        few : length (map (slot_offer i t p) slots) ≤ 999999999
+        few = rw (length-map slots (slot_offer i t p), length-range_with_len 0 (slot_count i)) (omega (arith, is.slots_few))
+
     look_fits : (look : Look) → LookFits i look → IsReply i (shown i t look)
     look_fits (Course c) f = part_fits _
     look_fits (Slot s) f = part_fits _
@@ -188,6 +222,7 @@ module _ (i : Problem) where
     look_fits (Price e) f = told_fits (edit_fault i t e) (Priced (price i t e)) (edit_fits t e lawful f) (λ none. (price_fits e f none, tt))
     look_fits Missing f = missing_fits
     look_fits (Cheapest n p) f = told_fits (pattern_fault i t p) (AreCheapest (cheapest i t n p)) (pattern_fault_fits t p) (λ none. cheapest_fits n p f.0 f.1)
+    look_fits (Slots p) f = told_fits (pattern_fault i t (pattern_of p)) (AreOffers (offers i t p)) (pattern_fault_fits t (pattern_of p)) (λ none. offers_fit p f)
     look_fits WholeCost f = (cost_fits (penalty i t) (omega (arith, penalty_small i is t lawful.timetable)), tt)
 
     reply_fits : (call : Call) → CallFits i call → IsReply i (reply i t call)

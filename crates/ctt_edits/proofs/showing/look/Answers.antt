@@ -1,6 +1,7 @@
 use Rattle.std.proofs.Common.{rules, ◌≤◌, ◌<◌}
 use Rattle.ctt_problem.specs.Problem.{course_count, teacher_count, curriculum_count}
 use Rattle.ctt_edits.specs.Edits.{EditFits}
+use Rattle.ctt_edits.specs.Offers.{pattern_of}
 use Rattle.ctt_edits.specs.Patterns.{PatternFits}
 use Rattle.ctt_edits.proofs.showing.look.Goals as goal
 
@@ -33,4 +34,9 @@ slot_row-requires g c = rw c.in-Slot.is at c.requires
 pub cheapest_reply-requires : goal.cheapest_reply-requires
 cheapest_reply-requires g c κs =
     let fits : (c.in-Cheapest.count ≤ 1000) × PatternFits (g.S.Rooms.problem c.args.sheet.now) c.in-Cheapest.pattern = rw c.in-Cheapest.is at c.requires in
+    search rules
+
+pub slots_reply-requires : goal.slots_reply-requires
+slots_reply-requires g c κs =
+    let fits : PatternFits (g.S.Rooms.problem c.args.sheet.now) (pattern_of c.in-Slots.pattern) = rw c.in-Slots.is at c.requires in
     search rules
