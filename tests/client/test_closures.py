@@ -2,7 +2,8 @@
 import os
 import random
 
-from support import SMALL, OfficeTest
+from fake_week import FakeWeek
+from support import PROGRAM, SMALL, OfficeTest
 
 from office.block import find_scope
 from office.closures import (
@@ -23,7 +24,7 @@ from office.label_files import read_labels
 from office.lines import one_line
 from office.refused import Refused
 from office.scope import Scope
-from office.timetable import Timetable
+from office.scratch import Scratch
 
 R, T, C = Scope("room", "A", 0), Scope("teacher", "t1", None, 1), Scope("course", "geo", 1, 2)
 
@@ -166,13 +167,22 @@ class SideFile(OfficeTest):
             wanted = {(0, 1), (1, 1)} if course in taught else set()
             wanted |= {(1, 2)} if course == "geo" else set()
             self.assertEqual(closed, wanted - instance.unavailable[course])
-        timetable = Timetable(instance)
-        self.assertEqual(timetable.fault("place geo A 0 1"), "blocked")
-        self.assertIsNone(timetable.fault("place geo B 0 1"))
-        self.assertEqual(timetable.fault("place geo A 1 2"), "unavailable")
-        instance.block([])
-        self.assertIsNone(timetable.fault("place geo A 0 1"))
-        self.assertIsNone(timetable.fault("place geo A 1 2"))
+        # what the desk says, and that of the tests
+        path = self.path("blocked")
+        with open(path, "wb") as file:
+            file.write(blocked_text(instance.closures))
+        entries = [scope.words().split(" ") for scope in (R, T, C)]
+        edits = ["place geo A 0 1", "place geo B 0 1", "place geo A 1 2"]
+        for sides, blocked, wanted in (
+            (["--blocked", path], entries, ["refused blocked", "done", "refused unavailable"]),
+            ([], [], ["done", "done", "done"]),
+        ):
+            week = FakeWeek(instance, (), blocked)
+            for edit, answer in zip(edits, wanted):
+                scratch = Scratch([PROGRAM, "run", SMALL, "-", *sides])
+                self.assertEqual(scratch.answers([edit]), [answer])
+                fault = week.fault(edit)
+                self.assertEqual(f"refused {fault}" if fault else "done", answer)
 
 
 class Words(OfficeTest):

@@ -2,19 +2,38 @@
 import random
 import unittest
 
-from support import COMP07, COMP07_SOL, SMALL
+from fake_week import FakeWeek
+from support import COMP07, COMP07_SOL, PROGRAM, SMALL
 
 from office.drafts import make_draft
 from office.instance import read_instance, read_solution
-from office.inverse import invert
+from office.inverse import invert as invert_by
+from office.refused import Refused
+from office.scratch import Scratch
 from office.shifts import Shift
 from office.timetable import Timetable
+
+
+def invert(timetable, shifts):
+    """The inverse, by a desk of the program."""
+    scratch = Scratch([PROGRAM, "run", COMP07, "-"], timetable.lectures())
+    return invert_by(timetable, shifts, scratch.answers)
+
+
+def week_of(timetable):
+    """The same for the desk of the tests, which says what can be made."""
+    return FakeWeek(timetable.instance, timetable.lectures())
+
+
+def make(timetable, edit):
+    """Makes an edit if it can be made, and answers whether it could."""
+    return week_of(timetable).fault(edit) is None and timetable.make(edit) is not None
 
 
 def draft(timetable, *edits):
     """What a draft of these edits does to a timetable, which is changed."""
     trial = timetable.copy()
-    assert all(trial.try_edit(edit) for edit in edits), edits
+    assert all(make(trial, edit) for edit in edits), edits
     return make_draft(timetable, edits)
 
 
@@ -33,14 +52,15 @@ class OnComp07(unittest.TestCase):
     def setUp(self):
         self.timetable = self.start.copy()
         # other rooms that c0109 can have where it stands
-        faults = {room: self.start.fault(f"reroom c0109 {room} 4 1") for room in self.instance.rooms}
+        week = week_of(self.start)
+        faults = {room: week.fault(f"reroom c0109 {room} 4 1") for room in self.instance.rooms}
         free = [room for room, fault in faults.items() if fault is None and room != "r01"]
         self.free, self.other = free[:2]
 
     def makes(self, inverse):
         """Makes the edits of an inverse, each of which can be made."""
         for edit in inverse.edits:
-            self.assertTrue(self.timetable.try_edit(edit), edit)
+            self.assertTrue(make(self.timetable, edit), edit)
 
     def check_back(self, edits, back):
         """A draft, and the edits that take it back."""
@@ -94,11 +114,11 @@ class OnComp07(unittest.TestCase):
     def test_taken_since(self):
         """Where a lecture stood before somebody has put another one."""
         shifts = draft(self.timetable, "move c0109 4 1 r04 4 3")
+        week = week_of(self.timetable)
         free = next(
             lecture
             for lecture in self.timetable.lectures()
-            if self.timetable.fault(f"move {lecture.course} {lecture.day} {lecture.period} r01 4 1")
-            is None
+            if not week.fault(f"move {lecture.course} {lecture.day} {lecture.period} r01 4 1")
         )
         self.timetable.make(f"move {free.course} {free.day} {free.period} r01 4 1")
         inverse = invert(self.timetable, shifts)
@@ -139,18 +159,33 @@ class OnComp07(unittest.TestCase):
     def rotation(self, one, two):
         """A third lecture with which two of other courses can rotate."""
         trial = self.timetable.copy()
-        if one.slot == two.slot or not trial.try_edit(
-            f"swap {one.course} {one.day} {one.period} {two.course} {two.day} {two.period}"
+        if one.slot == two.slot or not make(
+            trial, f"swap {one.course} {one.day} {one.period} {two.course} {two.day} {two.period}"
         ):
             return None
+        week = week_of(trial)
         for three in trial.lectures():
             edit = (
                 f"swap {one.course} {two.day} {two.period} "
                 f"{three.course} {three.day} {three.period}"
             )
-            if three.course not in (one.course, two.course) and trial.fault(edit) is None:
+            if three.course not in (one.course, two.course) and week.fault(edit) is None:
                 return three
         return None
+
+    def test_no_program(self):
+        """Where nobody says what can be made, nothing is known of it; where nothing is to be asked,
+        nobody is."""
+
+        def refuses(edits):
+            raise Refused("cannot run it")
+
+        shifts = draft(self.timetable, "drop c0109 4 1")
+        with self.assertRaises(Refused):
+            invert_by(self.timetable, shifts, refuses)
+        self.timetable.make("place c0109 r01 4 1")
+        inverse = invert_by(self.timetable, shifts, refuses)
+        self.assertEqual(self.kept(inverse), [("c0109", "back already")])
 
     def test_drawn(self):
         """Any draft is taken back whole, if nobody has changed anything since; and if somebody has,
@@ -164,7 +199,7 @@ class OnComp07(unittest.TestCase):
             inverse = invert(timetable, shifts)
             self.assertEqual(inverse.kept, [])
             for edit in inverse.edits:
-                self.assertTrue(timetable.try_edit(edit), edit)
+                self.assertTrue(make(timetable, edit), edit)
             self.assertEqual(state(timetable), before)
             draft_by(drawn, changed)
             self.check_changed(changed, shifts)
@@ -173,7 +208,7 @@ class OnComp07(unittest.TestCase):
         """What is not listed as kept has gone back, and nothing else has changed."""
         wanted, inverse = set(state(timetable)), invert(timetable, shifts)
         for edit in inverse.edits:
-            self.assertTrue(timetable.try_edit(edit), edit)
+            self.assertTrue(make(timetable, edit), edit)
         kept = [one.shift for one in inverse.kept]
         back = [Shift(one.now, one.was) for one in shifts]
         gone = [one for one in back if one not in kept]
@@ -189,7 +224,7 @@ def draft_by(drawn, timetable):
     trial = timetable.copy()
     while len(edits) < wanted:
         edit = drawn_edit(drawn, trial)
-        if trial.try_edit(edit):
+        if make(trial, edit):
             edits.append(edit)
     return make_draft(timetable, edits)
 

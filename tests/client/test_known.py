@@ -1,13 +1,15 @@
-"""What a client foretells, beside what the program answers."""
+"""What a client knows by the answers of the program, and the desk of the tests beside both."""
 import os
 import random
 import subprocess
 import sys
 
-from support import HERE, PROGRAM, OfficeTest
+from support import HERE, PROGRAM, SMALL, SMALL_SOL, OfficeTest
 
 sys.path.append(os.path.join(HERE, "tests"))
 from drawn import draw_instance, draw_solution  # noqa: E402
+from fake_desk import FakeDesk  # noqa: E402
+from fake_week import FakeWeek  # noqa: E402
 from rules import Instance as Plain  # noqa: E402
 
 from office.closures import blocked_now, blocked_text  # noqa: E402
@@ -166,14 +168,15 @@ class Scripts(OfficeTest):
     """What is known of drafts, beside the answers of `run`."""
 
     def play(self, seed):
-        """Draws a script line by line; what was expected is compared with what the whole script is
-        answered."""
+        """Draws a script line by line; each answer is that of the desk of the tests, and fits what
+        is known."""
         drawn = Drawn(self, seed)
         start = read_solution(drawn.start) if drawn.start else []
         lines = []
         # the program answers the script so far: each line is drawn by what is known after the
         # answers before
         seats = Seats(self, drawn)
+        fake = FakeDesk(drawn.instance, start, PLANNERS, os.devnull, drawn.blocked)
         knowns = [Known(drawn.instance, start) for _ in range(PLANNERS)]
         stories = [Story() for _ in range(PLANNERS)]
         for _ in range(60):
@@ -181,11 +184,12 @@ class Scripts(OfficeTest):
             known = knowns[planner]
             line = drawn.line(known)
             answer = seats.ask(planner, line)
+            self.assertEqual(fake.answer(planner, line), answer, (seed, line))
             edits = list(known.made)
             lines += self.lines_of_run(planner, known, line, answer)
             self.assertTrue(known.hear(line, answer), (seed, planner, line, answer, lines))
             stories[planner].hear(line, answer)
-            self.check_story(stories[planner], known)
+            self.check_story(stories[planner], known, drawn)
             if answer.startswith("committed "):
                 for each in knowns:
                     self.assertTrue(each.accept(edits), (seed, line, edits))
@@ -206,14 +210,18 @@ class Scripts(OfficeTest):
             return [(planner, "open", "opened"), *((planner, edit, "done") for edit in made)]
         return [] if line in ("undo", "redo") else [(planner, line, answer)]
 
-    def check_story(self, story, known):
+    def check_story(self, story, known, drawn):
         """By the log a seat has the draft that is known from answers, and its edits lead to it."""
         self.assertEqual(story.is_open, known.draft is not None)
         self.assertEqual(story.made, known.made)
         if story.is_open:
             timetable = known.base.copy()
-            self.assertTrue(all(timetable.try_edit(edit) for edit in story.edits))
+            week = FakeWeek(drawn.instance, timetable.lectures(), drawn.blocked)
+            for edit in story.edits:
+                self.assertIsNone(week.fault(edit))
+                self.assertEqual(timetable.make(edit), week.make(edit))
             self.assertTrue(timetable.same_as(known.draft))
+            self.assertEqual(week.by_course, known.draft.by_course)
 
     def test_drawn(self):
         for seed in range(DRAWS):
@@ -278,16 +286,63 @@ class Reading(OfficeTest):
         for seed in range(40):
             self.setUp()
             drawn = Drawn(self, seed)
-            known = Known(drawn.instance, read_solution(drawn.start) if drawn.start else [])
+            start = read_solution(drawn.start) if drawn.start else []
+            known, week = Known(drawn.instance, start), FakeWeek(drawn.instance, start)
             for _ in range(100):
                 edit = drawn.edit(known)
-                if known.newest.fault(edit) is None:
+                if week.fault(edit) is None:
                     before = known.newest.copy()
                     back = known.newest.make(edit)
-                    self.assertIsNone(known.newest.fault(back))
+                    self.assertEqual(week.make(edit), back)
+                    self.assertIsNone(week.fault(back))
                     known.newest.make(back)
                     self.assertTrue(known.newest.same_as(before))
                     known.newest.make(edit)
+
+    def test_what_does_not_fit(self):
+        """An edit of which a lecture is not there, or one is where it would lead, is not made."""
+        timetable = Timetable(read_instance(SMALL), read_solution(SMALL_SOL))
+        before = timetable.copy()
+        for edit in (
+            "drop geo 0 0",
+            "move geo 0 0 A 1 1",
+            "move geo 0 1 B 1 2",
+            "reroom top A 0 1",
+            "place geo B 0 1",
+            "swap geo 0 1 top 0 1",
+            "swap geo 0 0 top 0 2",
+            "swap geo 0 1 geo 0 1",
+            "swap geo 0 1 alg 1 2",
+        ):
+            self.assertIsNone(timetable.make(edit), edit)
+            self.assertTrue(timetable.same_as(before), edit)
+        # whether the desk would make it is not asked
+        self.assertEqual(timetable.make("place top B 0 1"), "drop top 0 1")
+
+    def test_hears_what_the_desk_says(self):
+        """Answers are taken as they are, as long as the lectures stand that they are about."""
+        known = Known(read_instance(SMALL), read_solution(SMALL_SOL))
+        for line, answer, fits in (
+            ("open", "opened", True),
+            ("drop geo 0 1", "refused barred", True),
+            ("place geo A 0 2", "done", True),
+            ("drop geo 0 0", "done", False),
+            ("drop geo 0 1", "sure", False),
+            ("undo", "done drop top 0 2", False),
+            ("undo", "nothing to undo", False),
+            ("undo", "done drop geo 0 2", True),
+            ("undo", "nothing to undo", True),
+            ("peek course geo", "lectures 2 geo A 0 1 geo A 1 2", True),
+            ("peek course geo", "lectures 1 geo A 0 1", False),
+            ("reroom geo B 0 1", "done", True),
+            ("drop geo 1 2", "done", True),
+            ("commit", "stale course geo", True),
+            ("redo", "redone 3 of 4 refused 3 reroom geo B 0 1 blocked", True),
+            ("redo", "redone 3 of 4", False),
+        ):
+            self.assertEqual(known.hear(line, answer), fits, (line, answer))
+        self.assertEqual(known.made, ["place geo A 0 2", "drop geo 0 2", "drop geo 1 2"])
+        self.assertEqual(known.standing, [("drop geo 1 2", "place geo A 1 2")])
 
     def test_story(self):
         story = Story()

@@ -83,7 +83,7 @@ def make_draft(timetable: Timetable, edits: Iterable[str]) -> List[Shift]:
     found: List[Shift] = []
     for edit in edits:
         found += shifts_of(edit, timetable)
-        timetable.try_edit(edit)
+        timetable.make(edit)
     return net(found)
 
 

@@ -11,6 +11,7 @@ from office.codes import NO_NAME
 from office.folder import write_whole
 from office.imported import BARRED, CLOSURES, INSTANCE, START
 from office.instance import Instance
+from office.instance_files import BLOCKED, barred_text, instance_text
 from office.label_files import LABELS_COLUMNS
 from office.labels import KINDS, PLAN
 from office.new_folder import new_folder, write_files
@@ -21,41 +22,6 @@ from office.tables import read_bytes, write_table
 from office.text import counted
 from office.words import encoded
 
-
-# the side file of what is blocked, as long as the program reads it
-BLOCKED = "blocked"
-
-
-def instance_text(instance: Instance) -> bytes:
-    """An instance as the desk reads it."""
-    courses = instance.courses.values()
-    away = instance.unavailable
-    closed = [(one.name, *slot) for one in courses for slot in sorted(away[one.name])]
-    lines: List[Tuple[object, ...]] = [
-        ("Name:", instance.name),
-        ("Courses:", len(courses)),
-        ("Rooms:", len(instance.rooms)),
-        ("Days:", instance.days),
-        ("Periods_per_day:", instance.periods),
-        ("Curricula:", len(instance.curricula)),
-        ("Constraints:", len(closed)),
-        ("COURSES:",),
-        *((c.name, c.teacher, c.lectures, c.minimum_days, c.students) for c in courses),
-        ("ROOMS:",),
-        *instance.rooms.items(),
-        ("CURRICULA:",),
-        *((name, len(members), *members) for name, members in instance.curricula.items()),
-        ("UNAVAILABILITY_CONSTRAINTS:",),
-        *closed,
-        ("END.",),
-    ]
-    return encoded("".join(" ".join(map(str, line)) + "\n" for line in lines))
-
-
-def barred_text(instance: Instance) -> bytes:
-    """Barred rooms as the desk reads them."""
-    pairs = "".join(f"{course} {room}\n" for course, room in sorted(instance.barred))
-    return encoded(f"Barred: {len(instance.barred)}\n{pairs}END.\n")
 
 
 def label_rows(tables: Tables, instance: Instance) -> List[Tuple[str, str, str, str]]:
@@ -124,10 +90,10 @@ def import_folder(source: str, folder: str, unproved: bool) -> int:
     """Imports the tables of a folder into a new one."""
     if not os.path.isdir(source):
         raise Refused(f"there is no folder {source}")
-    tables = Tables(source)
+    program = program_words(unproved)
+    tables = Tables(source, program)
     instance = tables.read()
     files = files_of(tables, instance)
-    program = program_words(unproved)
     with new_folder(folder) as made:
         write_files(made, files)
         validate(program, made, files, instance)

@@ -2,11 +2,11 @@
 
 Each lecture goes back to where it stood before the draft, if it stands where the draft left it.
 Two that have changed places are swapped. Where several stand in each other's way, one is taken out
-first and placed last.
+first and placed last. What can be made, and why something cannot, is asked of a desk.
 """
 from __future__ import annotations
 
-from typing import Iterable, List, NamedTuple, Optional, Tuple
+from typing import Callable, Iterable, List, NamedTuple, Optional, Sequence
 
 from office.drafts import exchanged
 from office.instance import Instance
@@ -16,6 +16,8 @@ from office.shifts import Shift
 from office.timetable import Lecture, Timetable
 
 Group = List[Shift]
+# what a desk with the timetable answers edits, one after another; it begins anew each time
+Answers = Callable[[Sequence[str]], List[str]]
 
 
 class Kept(NamedTuple):
@@ -80,26 +82,26 @@ def changed_since(timetable: Timetable, shift: Shift) -> Optional[Notice]:
 
 
 class Way:
-    """Edits by which lectures go back, as far as they can, on a copy of a timetable."""
+    """Edits by which lectures go back, as far as a desk makes them."""
 
-    def __init__(self, timetable: Timetable, shifts: Iterable[Shift]) -> None:
-        self.timetable = timetable.copy()
+    def __init__(self, answers: Answers, shifts: Iterable[Shift]) -> None:
+        self.answers = answers
         self.edits: List[str] = []
         self.groups = exchanged(shifts)
+        # why the edits of the groups that are left were refused
+        self.faults: List[str] = []
         while self.groups and (self.make_some() or self.part_some() or self.lift_one()):
             pass
 
     def make_some(self) -> bool:
-        """Makes what can be made now, and answers whether something could."""
-        left = []
-        for group in self.groups:
-            edit = edit_of_group(group)
-            if self.timetable.try_edit(edit):
-                self.edits.append(edit)
-            else:
-                left.append(group)
+        """Tries what is left on what is made by now, and answers whether something was made."""
+        tried = [edit_of_group(group) for group in self.groups]
+        answers = self.answers([*self.edits, *tried])[len(self.edits) :]
+        self.edits += [edit for edit, answer in zip(tried, answers) if answer == "done"]
+        left = [pair for pair in zip(self.groups, answers) if pair[1] != "done"]
         is_made = len(left) < len(self.groups)
-        self.groups = left
+        self.groups = [group for group, _ in left]
+        self.faults = [answer.replace("refused ", "", 1) for _, answer in left]
         return is_made
 
     def part_some(self) -> bool:
@@ -114,23 +116,20 @@ class Way:
         for place, (shift,) in enumerate(self.groups):
             if shift.was is not None:
                 self.edits.append(edit_of(Shift(shift.was, None)))
-                self.timetable.take(shift.course, shift.was.slot)
                 self.groups[place] = [Shift(None, shift.now)]
                 return True
         return False
 
-    def failed(self) -> List[Tuple[Optional[Lecture], Notice]]:
-        """Where lectures cannot go, and why."""
-        found = []
-        for (shift,) in self.groups:
-            edit = edit_of(shift)
-            fault = self.timetable.fault(edit) or ""
-            found.append((shift.now, reason(self.timetable.instance, edit, fault)))
-        return found
+    def failed(self, instance: Instance) -> List[Kept]:
+        """The lectures that cannot go where they are to go, and why."""
+        return [
+            Kept(shift, reason(instance, edit_of(shift), fault))
+            for (shift,), fault in zip(self.groups, self.faults)
+        ]
 
 
-def invert(timetable: Timetable, shifts: Iterable[Shift]) -> Inverse:
-    """The inverse of what a draft did to lectures, on a timetable."""
+def invert(timetable: Timetable, shifts: Iterable[Shift], answers: Answers) -> Inverse:
+    """The inverse of what a draft did to lectures, on a timetable, by a desk that has it."""
     back, kept = [], []
     for shift in (Shift(one.now, one.was) for one in shifts):
         why = unknown_part(timetable.instance, shift) or changed_since(timetable, shift)
@@ -139,11 +138,11 @@ def invert(timetable: Timetable, shifts: Iterable[Shift]) -> Inverse:
         else:
             kept.append(Kept(shift, why))
     while True:
-        way = Way(timetable, back)
+        way = Way(answers, back)
         if not way.groups:
             return Inverse(way.edits, kept)
         # what stays may be in the way of others: they are tried anew without it
-        for now, why in way.failed():
-            shift = next(one for one in back if one.now == now)
+        for failed in way.failed(timetable.instance):
+            shift = next(one for one in back if one.now == failed.shift.now)
             back.remove(shift)
-            kept.append(Kept(shift, why))
+            kept.append(Kept(shift, failed.why))

@@ -45,11 +45,10 @@ class Known:
 
     def accept(self, edits: List[str]) -> bool:
         """Takes up accepted edits, and answers whether they fit what is known."""
-        return all(self.newest.try_edit(edit) for edit in edits)
+        return all([self.newest.make(edit) is not None for edit in edits])
 
     def hear(self, line: str, answer: str) -> bool:
-        """Takes up a line with its answer, and answers whether it is the one that was expected, as
-        far as one was."""
+        """Takes up a line with its answer, and answers whether it fits what is known."""
         kind, *rest = words_of(line)
         if answer in WANTS or answer.startswith("bad line"):
             # nothing has changed by it
@@ -76,41 +75,40 @@ class Known:
     def _hear_edit(self, edit: str, answer: str) -> bool:
         if self.draft is None:
             return answer == "no draft"
-        fault = self.draft.fault(edit)
-        if answer == "done" and fault is None:
-            self._make(normal_form(edit))
-        return answer == ("done" if fault is None else f"refused {fault}")
+        if answer == "done":
+            return self._make(normal_form(edit))
+        return answer.startswith("refused ")
 
     def _hear_undo(self, answer: str) -> bool:
         if self.draft is None:
             return answer == "no draft"
-        if not self.standing:
-            return answer == "nothing to undo"
-        back = self.standing[-1][1]
-        fault = self.draft.fault(back)
-        if fault is not None:
-            return answer == f"refused {fault}"
-        return answer == f"done {back}" and self._hear_edit(back, "done")
+        if not self.standing or not answer.startswith("done "):
+            return answer.startswith("refused " if self.standing else "nothing to undo")
+        return answer[5:] == self.standing[-1][1] and self._make(answer[5:])
 
-    def _make(self, edit: str) -> None:
-        """Makes an edit in the draft. If it takes the last one back, both are gone."""
+    def _make(self, edit: str) -> bool:
+        """Makes an edit in the draft, and answers whether it fits what is known. If it takes the
+        last one back, both are gone."""
         assert self.draft is not None
         back = self.draft.make(edit)
+        if back is None:
+            return False
         self.made.append(edit)
         if self.standing and self.standing[-1][1] == edit:
             self.standing.pop()
         else:
             self.standing.append((edit, back))
+        return True
 
     def make_all(self, edits: List[str]) -> bool:
-        """Makes edits in the draft anew, from its base on, and answers whether each can be made."""
+        """Makes edits in the draft anew, from its base on, and answers whether they fit what is
+        known."""
         assert self.base is not None
         self.draft, self.made, self.standing = self.base.copy(), [], []
         for edit in edits:
-            if self.draft.fault(edit) is not None:
+            if not self._make(edit):
                 self.made = list(edits)
                 return False
-            self._make(edit)
         return True
 
     def _hear_look(self, timetable: Optional[Timetable], look: str, answer: str) -> bool:
@@ -154,15 +152,9 @@ class Known:
         redone = Redone.read(answer)
         if redone is None:
             return (answer == "already open") == (self.draft is not None)
-        ended, left_out = self.ended, {number: fault for number, _, fault in redone.refused}
+        ended, left_out = self.ended, [number for number, _, _ in redone.refused]
         if self.draft is not None or redone.of != len(ended):
             return False
         self._begin()
-        assert self.draft is not None
-        for number, edit in enumerate(ended, 1):
-            fault = self.draft.fault(edit)
-            if fault != left_out.get(number):
-                return False
-            if fault is None:
-                self._make(edit)
-        return True
+        made = [edit for number, edit in enumerate(ended, 1) if number not in left_out]
+        return redone.made == len(made) and self.make_all(made)

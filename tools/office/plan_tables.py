@@ -64,10 +64,11 @@ MANY = 1_000_000
 
 
 class Tables:
-    """A folder of tables as it is read; what is wrong is collected."""
+    """A folder of tables as it is read; what is wrong is collected. The lectures are tried at a desk
+    of the program."""
 
-    def __init__(self, folder: str) -> None:
-        self.folder = folder
+    def __init__(self, folder: str, program: List[str]) -> None:
+        self.folder, self.program = folder, program
         self.faults = Faults()
         self.labels, slots = take_labels(folder, self.faults)
         self.days = 1 + max((day for day, _ in slots), default=-1)
@@ -169,7 +170,7 @@ class Tables:
             self.courses[code] = Course(
                 code,
                 # nobody else is called so
-                teacher or f" row {row.number}",
+                teacher or self.codes["teacher"].make(f"row-{row.number}"),
                 MANY if lectures is None else lectures,
                 least or 0,
                 students or 0,
@@ -283,4 +284,5 @@ class Tables:
             slots = self.slots_of(row) if row.needed("period") else []
             if course in instance.courses and room in instance.rooms and slots:
                 self.start.append((row, Lecture(course, room, *slots[0])))
-        find_faults(instance, self.labels, self.start)
+        if self.start:
+            find_faults(self.program, instance, self.labels, self.start)

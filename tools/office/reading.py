@@ -163,14 +163,16 @@ class Reading:
             time.sleep(wait)
             self.read_status()
             draft = self.read_all("peek")
+            if made and self._find_base(made, draft):
+                return
             if not made:
                 known.base = draft.copy()
                 known.make_all(made)
-                return
-            if self._find_base(made, draft):
-                return
+                # if it is the newest timetable, the minutes may have that a moment later
+                if self.behind() or draft.same_as(known.newest) or not self.minutes.is_readable():
+                    return
         known.draft = draft
-        self.alarm = say("differs")
+        self.alarm = say("differs") if made else self.alarm
 
     def _find_base(self, made: List[str], draft: Timetable) -> bool:
         """Finds the base on which the edits lead to the draft. Drafts that were accepted just now

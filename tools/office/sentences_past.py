@@ -20,6 +20,7 @@ PAST: Dict[str, str] = {
     "cost not known": "What it cost is not known: the program does not play the minutes.",
     "draft taken back": "Draft {number} is taken back by {count:edit}; none is committed yet.",
     "nothing taken back": "Nothing of draft {number} is taken back.",
+    "not taken back": "Draft {number} is not taken back: {fault}.",
     "left as it is": "Left as it is:",
     "kept line": "{shifts}: {reason}",
 }

@@ -62,7 +62,7 @@ def all_shifts(edits: Sequence[str], timetable: Timetable) -> List[List[Shift]]:
     now = timetable.copy()
     for edit in edits:
         found.append(shifts_of(edit, now))
-        now.try_edit(edit)
+        now.make(edit)
     return found
 
 

@@ -1,39 +1,68 @@
-"""Why a lecture of a start cannot stand: said with the row of the other one."""
+"""Why a lecture of a start cannot stand, by the answers of a desk: said with the row of the other
+one."""
 from __future__ import annotations
 
-from typing import List, Tuple
+from typing import Dict, List, Sequence, Tuple
 
 from office.instance import Instance
+from office.instance_files import written
 from office.labels import Labels
+from office.refused import Refused
+from office.scratch import Scratch
 from office.tables import Row
-from office.timetable import Lecture, Timetable
+from office.timetable import Lecture, Place
+
+Start = Sequence[Tuple[Row, Lecture]]
 
 
-def find_faults(instance: Instance, labels: Labels, start: List[Tuple[Row, Lecture]]) -> None:
+def answers_of(program: List[str], instance: Instance, start: Start, quiet: bool) -> List[str]:
+    """What a desk answers to who places the lectures one after another."""
+    edits = [f"place {lecture.words()}" for _, lecture in start]
+    with written(instance) as files:
+        return Scratch([*program, "run", *files], quiet=quiet).answers(edits)
+
+
+def find_faults(program: List[str], instance: Instance, labels: Labels, start: Start) -> None:
     """Notes for each lecture why it cannot stand beside those of the rows before it."""
-    timetable = Timetable(instance)
-    rows = {}
-    for row, lecture in start:
-        course, room, slot = lecture.course, lecture.room, lecture.slot
-        kind, *other = (timetable.placing_fault(course, slot, room) or "").split(" ")
-        if not kind:
-            timetable.put(course, slot, room)
-            rows[course, slot] = row.number
-            continue
-        when = labels.slot(slot)
-        if kind == "already":
-            row.fault(f"{course} stands at {when} in row {rows[course, slot]} already")
-        elif kind == "full":
-            row.fault(f"{course} has {instance.courses[course].lectures} lectures, not one more")
-        elif kind == "unavailable":
-            row.fault(f"{course} is unavailable at {when}")
-        elif kind == "barred":
-            row.fault(f"the room {room} is barred for {course}")
-        elif kind == "blocked":
-            row.fault(f"the room {room} is blocked at {when}")
-        elif kind == "roomtaken":
-            row.fault(f"{room} has {other[0]} at {when}, in row {rows[other[0], slot]}")
+    faults = start[0][0].faults
+    is_wrong = bool(faults.found)
+    try:
+        answers = answers_of(program, instance, start, quiet=is_wrong)
+    except Refused:
+        if not is_wrong:
+            raise
+        # the program may not take an instance of which something is wrong
+        faults.add(start[0][0].file, 0, "its rows are compared once all else is right")
+        return
+    rows: Dict[Place, int] = {}
+    for (row, lecture), answer in zip(start, answers):
+        if answer == "done":
+            rows[lecture.course, lecture.slot] = row.number
         else:
-            why = " ".join(instance.cause(course, other[0]))
-            where = f"row {rows[other[0], slot]}"
-            row.fault(f"{course} and {other[0]}, in {where}, stand at {when}, and share the {why}")
+            row.fault(told(instance, labels, lecture, answer, rows))
+
+
+def told(
+    instance: Instance, labels: Labels, lecture: Lecture, answer: str, rows: Dict[Place, int]
+) -> str:
+    """Why a lecture cannot stand; `rows` are those of the lectures that do."""
+    course, room, slot = lecture.course, lecture.room, lecture.slot
+    _, kind, *others = [*answer.split(" "), ""]
+    when, other = labels.slot(slot), others[0] if others else ""
+    if kind == "already":
+        return f"{course} stands at {when} in row {rows[course, slot]} already"
+    if kind == "full":
+        return f"{course} has {instance.courses[course].lectures} lectures, not one more"
+    if kind == "unavailable":
+        return f"{course} is unavailable at {when}"
+    if kind == "barred":
+        return f"the room {room} is barred for {course}"
+    if kind == "blocked":
+        return f"the room {room} is blocked at {when}"
+    if kind == "roomtaken":
+        return f"{room} has {other} at {when}, in row {rows[other, slot]}"
+    if kind != "clash":
+        return f"{course} cannot stand at {when}: {answer}"
+    why = " ".join(instance.cause(course, other))
+    where = f"row {rows[other, slot]}"
+    return f"{course} and {other}, in {where}, stand at {when}, and share the {why}"

@@ -7,6 +7,8 @@ from office.drafts import Draft
 from office.inverse import Kept, invert
 from office.notice import Notice, say
 from office.planning import Planning
+from office.refused import Refused
+from office.scratch import scratch_of
 from office.shifts import Shift, all_shifts
 from office.timetable import Lecture
 
@@ -23,10 +25,15 @@ class TakenBack(NamedTuple):
 
 def take_back(planning: Planning, draft: Draft, later: Iterable[Draft]) -> Optional[TakenBack]:
     """Makes the inverse of a draft, as edits of the planner's own; nothing is committed by it.
-    Later drafts say who has changed what cannot go back. If no draft can be opened, nothing is
-    done, and the planner is told why."""
+    Later drafts say who has changed what cannot go back. If no draft can be opened, or the program
+    does not tell the inverse, nothing is done, and the planner is told why."""
     now = planning.known.present()
-    inverse = invert(now, draft.shifts)
+    try:
+        scratch = scratch_of(planning.minutes.part, now.lectures())
+        inverse = invert(now, draft.shifts, scratch.answers)
+    except Refused as fault:
+        planning.notice = say("not taken back", number=draft.number, fault=fault.reason)
+        return None
     if inverse.edits and not planning.open():
         return None
     made: List[List[Shift]] = []

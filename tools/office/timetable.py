@@ -1,8 +1,6 @@
-"""A timetable as a planner's client knows it: what stands where, and why an edit would be refused.
+"""A timetable as a planner's client knows it: what stands where.
 
-It foretells the desk's answers, so that a screen can say in words why a lecture cannot stand
-somewhere. What is shown as an answer is the desk's; where the two differ, the timetable is read
-anew.
+It knows no rule. What may stand where, and why an edit is refused, the desk says.
 """
 from __future__ import annotations
 
@@ -12,6 +10,8 @@ from office.instance import Instance
 from office.words import words_of
 
 Slot = Tuple[int, int]
+# a course with a slot
+Place = Tuple[str, Slot]
 
 
 class Lecture(NamedTuple):
@@ -171,29 +171,37 @@ class Timetable:
             return "sameslot"
         return self._fault_behind(course, slot, new, room)
 
-    def make(self, edit: str) -> str:
-        """Makes an edit that has no fault, and answers the edit that takes it back."""
+    def fits(self, edit: str) -> bool:
+        """Whether the lectures that an edit takes up stand there, and none where one comes to."""
+        was, now = ends_of(edit)
+
+        def stands(place: Place) -> bool:
+            return self.room_at(*place) is not None
+
+        is_there = all(map(stands, was)) and len({*was}) == len(was)
+        return is_there and not any(map(stands, {*now} - {*was}))
+
+    def make(self, edit: str) -> Optional[str]:
+        """Makes an edit that the desk has made, and answers the edit that takes it back. One that
+        does not fit is not made: None."""
+        if not self.fits(edit):
+            return None
         kind, course, *rest = words_of(edit)
+        was, now = ends_of(edit)
+        rooms = [self.take(*place) for place in was]
+        named = {"place": 0, "reroom": 0, "move": 2}.get(kind)
+        # of a swap each one has the room of the other
+        for place, room in zip(now, rooms[::-1] if named is None else [rest[named]]):
+            self.put(*place, room)
         if kind == "place":
-            self.put(course, (int(rest[1]), int(rest[2])), rest[0])
             return f"drop {course} {rest[1]} {rest[2]}"
         if kind == "drop":
-            room = self.take(course, (int(rest[0]), int(rest[1])))
-            return f"place {course} {room} {rest[0]} {rest[1]}"
+            return f"place {course} {rooms[0]} {rest[0]} {rest[1]}"
         if kind == "reroom":
-            slot = int(rest[1]), int(rest[2])
-            room = self.take(course, slot)
-            self.put(course, slot, rest[0])
-            return f"reroom {course} {room} {rest[1]} {rest[2]}"
+            return f"reroom {course} {rooms[0]} {rest[1]} {rest[2]}"
         if kind == "move":
-            room = self.take(course, (int(rest[0]), int(rest[1])))
-            self.put(course, (int(rest[3]), int(rest[4])), rest[2])
-            return f"move {course} {rest[3]} {rest[4]} {room} {rest[0]} {rest[1]}"
-        slot, other, slot2 = (int(rest[0]), int(rest[1])), rest[2], (int(rest[3]), int(rest[4]))
-        room, room2 = self.take(course, slot), self.take(other, slot2)
-        self.put(course, slot2, room2)
-        self.put(other, slot, room)
-        return f"swap {course} {slot2[0]} {slot2[1]} {other} {slot[0]} {slot[1]}"
+            return f"move {course} {rest[3]} {rest[4]} {rooms[0]} {rest[0]} {rest[1]}"
+        return f"swap {course} {rest[3]} {rest[4]} {rest[2]} {rest[0]} {rest[1]}"
 
     def try_edit(self, edit: str) -> bool:
         """Makes an edit if it has no fault, and answers whether it was made."""
@@ -214,6 +222,25 @@ class Timetable:
         if kind == "curriculum":
             return self.of_courses(self.instance.curricula[rest[0]])
         return None
+
+
+def ends_of(edit: str) -> Tuple[List[Place], List[Place]]:
+    """Where lectures stand before an edit that changes them, and where after it."""
+    kind, course, *rest = words_of(edit)
+
+    def slot(at: int) -> Slot:
+        return int(rest[at]), int(rest[at + 1])
+
+    if kind == "place":
+        return [], [(course, slot(1))]
+    if kind == "drop":
+        return [(course, slot(0))], []
+    if kind == "reroom":
+        return [(course, slot(1))], [(course, slot(1))]
+    if kind == "move":
+        return [(course, slot(0))], [(course, slot(3))]
+    one, other = (course, slot(0)), (rest[2], slot(3))
+    return [one, other], [(course, other[1]), (rest[2], one[1])]
 
 
 def read_lectures(answer: str) -> Optional[List[Lecture]]:

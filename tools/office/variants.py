@@ -16,26 +16,33 @@ from office.seatlog import read_past
 from office.timetable import Timetable
 
 
+class Brings(NamedTuple):
+    """What a variant would bring now, as the program answers: those of its edits that are made, the
+    timetable after them, what they save, and how many lectures are missing then."""
+
+    made: List[str]
+    after: Timetable
+    saves: int
+    missing: int
+
+
 class Variant(NamedTuple):
-    """A draft that was put aside: how many of its edits can still be made, and what they would save
-    and leave missing then, as far as that is known."""
+    """A draft that was put aside, and what it would bring; None if the program does not say so."""
 
     name: str
     edits: List[str]
-    made: int
-    saves: Optional[int]
-    missing: Optional[int]
+    brings: Optional[Brings]
 
     def told(self) -> Notice:
-        if self.saves is None or self.missing is None:
-            return say("variant", name=self.name, count=len(self.edits), made=self.made)
+        if self.brings is None:
+            return say("variant", name=self.name, count=len(self.edits))
         return say(
             "variant told",
             name=self.name,
             count=len(self.edits),
-            made=self.made,
-            price=-self.saves,
-            missing=self.missing,
+            made=len(self.brings.made),
+            price=-self.brings.saves,
+            missing=self.brings.missing,
         )
 
 
@@ -108,55 +115,49 @@ class Variants:
         refused = planning.make_again(self.kept[name])
         return Question(planning.notice, [say("these refused"), *refused]) if refused else None
 
-    def after(self, name: str) -> Timetable:
-        """The newest timetable with those edits of a variant that can be made."""
-        found = self.planning.known.newest.copy()
-        for edit in self.kept[name]:
-            found.try_edit(edit)
-        return found
-
     def listed(self) -> List[Variant]:
         """All variants, with what each would bring now, by the program."""
         planning = self.planning
-        names = list(self.kept)
-        minutes = planning.minutes
+        minutes, newest = planning.minutes, planning.known.newest
         lines = [line for entry in minutes.of_part() for line in draft_lines(entry.edits())]
         begun = len(lines)
         lines.append("show cost")
-        for name in names:
-            edits = [f"0 {edit}" for edit in self.kept[name]]
-            lines += ["0 open", *edits, "0 peek cost", "0 peek missing", "0 abandon"]
+        for edits in self.kept.values():
+            tried = [f"0 {edit}" for edit in edits]
+            lines += ["0 open", *tried, "0 peek cost", "0 peek missing", "0 abandon"]
         try:
-            told = answers(minutes.part, lines)[begun:]
+            now, *told = answers(minutes.part, lines)[begun:]
         except (Refused, OSError):
-            return [self._not_told(name) for name in names]
-        now, at, found = sum(read_costs(told[0]).values()), 1, []
-        for name in names:
-            edits = self.kept[name]
-            behind = at + 1 + len(edits)
-            made = told[at + 1 : behind].count("done")
-            saves = now - sum(read_costs(told[behind]).values())
-            missing = sum(read_missing(told[behind + 1]).values())
-            found.append(Variant(name, edits, made, saves, missing))
-            at = behind + 3
+            return [Variant(name, edits, None) for name, edits in self.kept.items()]
+        found = []
+        for name, edits in self.kept.items():
+            answered, told = told[1 : len(edits) + 3], told[len(edits) + 4 :]
+            made = [edit for edit, answer in zip(edits, answered) if answer == "done"]
+            saves = sum(read_costs(now).values()) - sum(read_costs(answered[-2]).values())
+            missing = sum(read_missing(answered[-1]).values())
+            after = made_on(newest, made)
+            found.append(Variant(name, edits, Brings(made, after, saves, missing)))
         return found
-
-    def _not_told(self, name: str) -> Variant:
-        now, made = self.planning.known.newest.copy(), 0
-        for edit in self.kept[name]:
-            made += now.try_edit(edit)
-        return Variant(name, self.kept[name], made, None, None)
 
     def compare(self, one: Variant, other: Variant) -> Question:
         """In what two variants differ: lectures, and what they would save."""
-        first, second = self.after(one.name), self.after(other.name)
-        shifts = [
-            shift
-            for course in first.by_course
-            for shift in row_shifts(course, first.by_course[course], second.by_course[course])
-        ]
+        title = say("compared", name=one.name, second=other.name)
         lines = [one.told(), other.told(), say("blank")]
+        if one.brings is None or other.brings is None:
+            return Question(title, [*lines, say("not compared")])
+        first, second = one.brings.after.by_course, other.brings.after.by_course
+        shifts = [
+            shift for course in first for shift in row_shifts(course, first[course], second[course])
+        ]
         if not shifts:
             lines.append(say("same variants"))
         lines += [say("edit line", shifts=group) for group in exchanged(shifts)]
-        return Question(say("compared", name=one.name, second=other.name), lines)
+        return Question(title, lines)
+
+
+def made_on(timetable: Timetable, edits: List[str]) -> Timetable:
+    """A timetable after edits; itself it is left as it is."""
+    found = timetable.copy()
+    for edit in edits:
+        found.make(edit)
+    return found

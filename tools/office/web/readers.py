@@ -47,7 +47,7 @@ class Readers:
             entries = self.minutes.read_on()
             for entry in entries:
                 for edit in entry.edits():
-                    self.timetable.try_edit(edit)
+                    self.timetable.make(edit)
             is_new = is_new or bool(entries) or not is_last
             if is_last:
                 return is_new
