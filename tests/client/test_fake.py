@@ -18,7 +18,8 @@ class Beside(OfficeTest):
         if way < 0.5:
             return drawn.line(known)
         edit = drawn.edit(known).split()
-        look = drawn.draw.choice(("cost", "missing", "coursecost", "price", "cheapest"))
+        looks = ("cost", "missing", "coursecost", "price", "cheapest", "slots", "slots")
+        look = drawn.draw.choice(looks)
         if look == "coursecost":
             look += f" {drawn.draw.choice(list(drawn.instance.courses))}"
         elif look == "price":
@@ -26,6 +27,8 @@ class Beside(OfficeTest):
         elif look == "cheapest":
             count = drawn.draw.choice((0, 1, 3, 1000))
             look += f" {count} " + " ".join(self.pattern(drawn, edit))
+        elif look == "slots":
+            look += " " + " ".join(self.slot_pattern(drawn, edit))
         return drawn.draw.choice(("", "peek ", "show ")) + look
 
     @staticmethod
@@ -53,6 +56,16 @@ class Beside(OfficeTest):
             edit[at] = "*"
         if edit[0] in ("place", "move") and drawn.draw.random() < 0.7:
             edit[-2:] = ["*", "*"]
+        return edit
+
+    @staticmethod
+    def slot_pattern(drawn, edit):
+        """An edit whose new slot is left open; one of `reroom` or `drop` is none."""
+        if edit[0] == "swap":
+            return [*edit[:4], "*", "*", "*"]
+        if edit[0] in ("place", "move"):
+            edit[-2:] = ["*", "*"]
+            edit[-3] = drawn.draw.choice(("*", edit[-3]))
         return edit
 
     def play(self, seed):

@@ -145,7 +145,7 @@ def read_solution(path: str) -> list[tuple[str, str, int, int]]:
 # the words that a line at a seat may begin with
 COMMANDS = (
     "open commit refresh abandon redo undo status help leave show peek place move swap reroom drop "
-    "course slot teacher curriculum coursecost cost price cheapest missing"
+    "course slot teacher curriculum coursecost cost price cheapest slots missing"
 ).split()
 
 

@@ -93,84 +93,6 @@ class Timetable:
     def same_as(self, other: Timetable) -> bool:
         return self.by_course == other.by_course
 
-    # what an edit does, and why it would be refused: the first fault in the order in which the desk
-    # looks for them
-
-    def _alone(self, course: str, slot: Slot, room: str) -> Optional[str]:
-        if slot in self.instance.closed[course]:
-            return "unavailable"
-        if (course, room) in self.instance.barred:
-            return "barred"
-        return "blocked" if slot in self.instance.blocked.get(room, ()) else None
-
-    def placing_fault(self, course: str, slot: Slot, room: str) -> Optional[str]:
-        """Why a further lecture of a course cannot stand in a slot and a room."""
-        if slot in self.by_course[course]:
-            return "already"
-        if self.missing(course) <= 0:
-            return "full"
-        fault = self._alone(course, slot, room)
-        if fault is not None:
-            return fault
-        mates = self.instance.mates[course]
-        in_slot = self.of_slot(slot)
-        for lecture in in_slot:
-            if lecture.course in mates:
-                return f"clash {lecture.course}"
-        for lecture in in_slot:
-            if lecture.room == room:
-                return f"roomtaken {lecture.course}"
-        return None
-
-    def _fault_behind(self, course: str, old: Slot, new: Slot, room: str) -> Optional[str]:
-        """Why a lecture that leaves its slot cannot stand in another slot and room."""
-        left = self.take(course, old)
-        try:
-            return self.placing_fault(course, new, room)
-        finally:
-            self.put(course, old, left)
-
-    def _swap_fault(self, one: str, slot: Slot, other: str, slot2: Slot) -> Optional[str]:
-        if self.room_at(one, slot) is None or self.room_at(other, slot2) is None:
-            return "notplaced"
-        if one == other:
-            return "samecourse"
-        room, room2 = self.take(one, slot), self.take(other, slot2)
-        try:
-            fault = self.placing_fault(one, slot2, room2)
-            if fault is None:
-                self.put(one, slot2, room2)
-                fault = self.placing_fault(other, slot, room)
-                self.take(one, slot2)
-            return fault
-        finally:
-            self.put(one, slot, room)
-            self.put(other, slot2, room2)
-
-    def fault(self, edit: str) -> Optional[str]:
-        """Why the desk would refuse an edit; None if it would make it."""
-        kind, course, *rest = words_of(edit)
-        if kind == "place":
-            return self.placing_fault(course, (int(rest[1]), int(rest[2])), rest[0])
-        if kind == "swap":
-            return self._swap_fault(
-                course, (int(rest[0]), int(rest[1])), rest[2], (int(rest[3]), int(rest[4]))
-            )
-        if kind == "reroom":
-            slot = new = (int(rest[1]), int(rest[2]))
-            room = rest[0]
-        elif kind == "move":
-            slot, new, room = (int(rest[0]), int(rest[1])), (int(rest[3]), int(rest[4])), rest[2]
-        else:
-            slot = (int(rest[0]), int(rest[1]))
-        if self.room_at(course, slot) is None:
-            return "notplaced"
-        if kind == "drop":
-            return None
-        if kind == "move" and slot == new:
-            return "sameslot"
-        return self._fault_behind(course, slot, new, room)
-
     def fits(self, edit: str) -> bool:
         """Whether the lectures that an edit takes up stand there, and none where one comes to."""
         was, now = ends_of(edit)
@@ -202,13 +124,6 @@ class Timetable:
         if kind == "move":
             return f"move {course} {rest[3]} {rest[4]} {rooms[0]} {rest[0]} {rest[1]}"
         return f"swap {course} {rest[3]} {rest[4]} {rest[2]} {rest[0]} {rest[1]}"
-
-    def try_edit(self, edit: str) -> bool:
-        """Makes an edit if it has no fault, and answers whether it was made."""
-        if self.fault(edit) is not None:
-            return False
-        self.make(edit)
-        return True
 
     def look(self, line: str) -> Optional[List[Lecture]]:
         """The lectures that a look shows; None if it is a look of another kind."""
