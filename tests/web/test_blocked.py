@@ -55,7 +55,13 @@ class Asked(WebTest):
         """The rooms that are offered on a day for what is missing of c0109."""
         held = self.ask("pick_up_missing", {"course": "c0109"})[1]["picture"]["held"]
         slots = [one for one in held["slots"] if one["at"][0] == day]
-        return {code for one in slots for _, code, _ in one["offers"]}
+        found = set()
+        for one in slots:
+            offers = self.ask("offers", {"at": one["at"]})[1]["offers"]
+            # the first of them is the one that the week has
+            self.assertEqual(offers[:1], one["offers"])
+            found |= {code for _, code, _ in offers}
+        return found
 
     def test_block_that_is_asked(self):
         """What is blocked is chosen of what was told; where nothing can be blocked it is said."""

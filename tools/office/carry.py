@@ -161,7 +161,7 @@ class Carry:
         if self.kind == SWAP and self.slot is not None and not self.refusal:
             present = self.planning.known.present()
             return swap_reason(present, self.course, self.slot, slot, fault)
-        if fault in ROOM_FAULTS and len(instance.rooms) <= FEW:
+        if fault.startswith(ROOM_FAULTS) and len(instance.rooms) <= FEW:
             return say("rooms", reasons=self._room_reasons(slot))
         return slot_reason(instance, self.course, slot, fault)
 
