@@ -14,6 +14,7 @@ pub mod CallLemmas
 pub mod CheapestLemmas
 pub mod OfferOrder
 pub mod OfferLemmas
+pub mod OfferLaws
 pub mod PriceOrder
 pub mod PatternFaults
 pub mod MissingLemmas

@@ -57,7 +57,7 @@ length-filter p (x ∷ xs) = elim (cases_Bool (p x)) [ inl b ↦ rw b (omega (ar
 length-take_most : {X : Type 0} (n : ℕ) (xs : List X) → length (take n xs) ≤ n
 length-take_most n xs = omega (arith, length-take n xs)
 
-none_is : {X : Type 0} (o : Option X) → is_none o ≡ true → o ≡ None
+pub none_is : {X : Type 0} (o : Option X) → is_none o ≡ true → o ≡ None
 none_is None h = refl
 none_is (Some x) h = cc
 

@@ -98,7 +98,7 @@ impl Offers {
     pub(crate) fn copy(&self) -> Result<Self, NoMemory>
         ensures { IfOk result (λ offers. offers ≡ self.now) }
     {
-        let list = self.list.as_slice().to_vec(*self.list.allocator())?;
+        let list = self.as_slice().to_vec(*self.list.allocator())?;
         Ok(Offers { list })
     }
 
@@ -106,6 +106,6 @@ impl Offers {
     pub(crate) fn is_same(&self, other: &Offers) -> bool
         ensures { IsTrue result ↔ (self.now ≡ other.now) }
     {
-        self.list.as_slice() == other.list.as_slice()
+        self.as_slice() == other.as_slice()
     }
 }
