@@ -203,6 +203,7 @@ CLOSED = [
     (0, "price place geo A 0 1", "refused blocked"),
     (1, "open", "opened"),
     (1, "cheapest 9 place geo A * *", "prices 3 -3 place geo A 1 0 -3 place geo A 1 1 -3 place geo A 1 2"),
+    (1, "slots place geo A * *", "slots 6 - unavailable - blocked - blocked -3 place geo A 1 0 -3 place geo A 1 1 -3 place geo A 1 2"),
     (1, "place geo A 1 0", "done"),
     (1, "commit", "committed 1"),
     (0, "refresh", "stale course geo"),

@@ -11,7 +11,7 @@ from program import call, check, check_run, words_of, write_files
 from rules import Instance
 
 DRAWN = 300
-STEPS = 25
+STEPS = 40
 # names as any others, and such as words of looks and answers
 NAMES = {**{kind: PIECES[kind] for kind in ("plain", "of other letters", "like fixed words", "like numbers")},
          "like marks": ["*", "-", "none", "slots", "-7", "4", "clash", "place"]}
