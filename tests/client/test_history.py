@@ -2,6 +2,7 @@
 from support import SMALL, OfficeTest
 
 from office.board import Board
+from office.folder import Day
 
 
 def text_of(board):
@@ -68,6 +69,41 @@ class History(OfficeTest):
         # what was taken back can be taken back
         self.press("h", "enter", "t")
         self.assertEqual(len(self.anna.edits()), 2)
+
+    def test_what_stands_in_the_way(self):
+        """What cannot go back is said as the desk says it, and is no part of the draft."""
+        self.ben.edit("place alg B 0 1")
+        self.ben.commit()
+        self.press("v", *"course geo", "enter", "h", "enter", "t")
+        told = text_of(self.board)
+        self.assertIn("Draft 2 is taken back by 1 edit; none is committed yet.", told)
+        reason = "curriculum q1 has alg then"
+        self.assertIn(f"geo: day 2, period 3, B -> day 1, period 2, A: {reason}", told)
+        self.assertEqual(self.anna.seat.story.made, ["drop alg 1 1"])
+        # who changes a lecture that does not go back has not made the draft stale
+        self.ben.edit("drop geo 1 2")
+        self.ben.commit()
+        self.anna.read_status()
+        self.assertEqual((self.anna.foretold, self.anna.behind()), ("", 1))
+
+    def test_without_a_program(self):
+        """If nobody says what can go back, nothing is done, and the reason is said."""
+        day = Day(self.path("day"))
+        facts = day.facts()
+        day.write_facts({**facts, "program": [self.path("nowhere")]})
+        self.at_geo()
+        self.press("h", "enter", "t")
+        told = text_of(self.board)
+        self.assertIn(f"Draft 2 is not taken back: cannot run {self.path('nowhere')}", told)
+        self.assertFalse(self.anna.is_open)
+        self.anna.seat.go()
+        found = self.office("revert", self.path("day"), "2", "--seat", "0")
+        wanted = f"office: Draft 2 is not taken back: cannot run {self.path('nowhere')}"
+        self.assertEqual(found[:2], (3, ""))
+        self.assertTrue(found[2].startswith(wanted), found[2])
+        day.write_facts(facts)
+        found = self.office("revert", self.path("day"), "2", "--seat", "0")
+        self.assertEqual(found[0], 0)
 
     def test_changed_since(self):
         self.ben.edit("move geo 1 2 A 0 1")

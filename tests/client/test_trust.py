@@ -451,6 +451,24 @@ class Variants(Two):
         self.assertIn("puts them aside", self.type_keys(anna, "N", "down", "enter"))
         self.assertEqual(anna.planning.edits(), ["drop c0001 1 2"])
 
+    def test_without_a_program(self):
+        """What was put aside is listed, and can be taken up, if the program says nothing."""
+        anna, _ = self.boards()
+        for edit in (BEST, "drop c0001 1 2"):
+            anna.planning.edit(edit)
+            self.type_keys(anna, "n", *edit.split(" ")[0], "enter")
+        day = Day(self.path("day"))
+        day.write_facts({**day.facts(), "program": [self.path("nowhere")]})
+        text = self.type_keys(anna, "N")
+        told = "1 edit; the program does not say what it would bring now"
+        self.assertIn(f"move: {told}", text)
+        self.assertIn(f"drop: {told}", text)
+        text = self.type_keys(anna, "d", "down", "d")
+        self.assertIn("move -> drop", text)
+        self.assertIn("In what they differ now is not known", text)
+        self.type_keys(anna, "escape", "N", "enter")
+        self.assertEqual(anna.planning.edits(), [BEST])
+
     def test_survives(self):
         """Variants are there after a crash of the client, of the desk, and on the next day."""
         anna, _ = self.boards()

@@ -203,6 +203,38 @@ class Wrong(Tables):
         self.assertIn("Linear-Algebra is unavailable at Mon 10:15", "\n".join(found))
         self.assertIn("the room Hall-2 is blocked at Mon 8:15", "\n".join(found))
 
+    def test_beside_other_faults(self):
+        """The start is compared although something else is wrong; a teacher who is not named is
+        nobody else."""
+        self.tables()
+        self.change("courses.csv", "Ada Byron,2,2,120", ",two,2,120")
+        self.change("lectures.csv", "Analysis,Hall 2,Mon,08:15:00", "Analysis,Cellar,Mon,10:15:00")
+        *others, last = self.faults()
+        self.assertEqual(
+            others,
+            [
+                "courses.csv row 2: the teacher is empty",
+                "courses.csv row 2: lectures: two is no whole number",
+            ],
+        )
+        self.assertIn("lectures.csv row 3: Analysis and Linear-Algebra, in row 2", last)
+
+    def test_a_program_that_does_not_take_what_is_wrong(self):
+        """What is wrong is said all the same, and that the start was not compared."""
+        self.tables()
+        self.change("rooms.csv", "20", "few")
+        text = "#!/bin/sh\necho 'timedesk: instance I5 3' >&2\nexit 1\n"
+        os.environ["TIMEDESK"] = self.write("liar", text, 0o755)
+        with self.assertRaises(Refused) as caught:
+            import_folder(self.path("college"), self.path("plan"), False)
+        self.assertEqual(
+            caught.exception.reason.split("\n  ")[1:],
+            [
+                "rooms.csv row 4: seats: few is no whole number",
+                "lectures.csv: its rows are compared once all else is right",
+            ],
+        )
+
     def test_nothing_is_written_over(self):
         self.tables()
         os.mkdir(self.path("plan"))

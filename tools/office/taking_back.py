@@ -27,6 +27,7 @@ def take_back(planning: Planning, draft: Draft, later: Iterable[Draft]) -> Optio
     """Makes the inverse of a draft, as edits of the planner's own; nothing is committed by it.
     Later drafts say who has changed what cannot go back. If no draft can be opened, or the program
     does not tell the inverse, nothing is done, and the planner is told why."""
+    planning.read_minutes()
     now = planning.known.present()
     try:
         scratch = scratch_of(planning.minutes.part, now.lectures())
