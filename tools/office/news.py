@@ -11,8 +11,8 @@ from office.history import Told, commits_of, read_pasts
 from office.minutes import Entry
 from office.notice import Notice, say
 from office.seat import read_sitter
-from office.shifts import Shift
-from office.timetable import Lecture
+from office.shifts import Shift, take_back
+from office.timetable import Lecture, Timetable
 from office.words import words_of
 
 
@@ -55,6 +55,14 @@ class News:
     def hear(self, entry: Entry, shifts: List[List[Shift]], heard: str) -> None:
         """Takes up an accepted draft."""
         self.accepted.append(Accepted(entry, shifts, heard))
+
+    def after(self, count: int, newest: Timetable) -> Timetable:
+        """The timetable after so many accepted drafts: the newest one, without those behind."""
+        found = newest.copy()
+        for accepted in reversed(self.accepted[count:]):
+            for shifts in reversed(accepted.shifts):
+                take_back(found, shifts)
+        return found
 
     def read_notes(self) -> int:
         """Reads the notes of commits, if there are others than before, and answers how long they

@@ -21,7 +21,7 @@ from office.parts import Change, DayMinutes
 from office.on_disk import look_on_disk
 from office.processes import now
 from office.seat import Seat
-from office.shifts import Shift, all_shifts, shifts_of, take_back
+from office.shifts import Shift, all_shifts, shifts_of
 from office.timetable import Lecture, Timetable, read_lectures
 from office.words import words_of
 
@@ -180,20 +180,12 @@ class Reading:
         self.read_minutes()
         last = min(len(self.minutes.entries), self.opened_at + FEW)
         for count in range(max(self.minutes.offset, self.opened_at), last + 1):
-            self.known.base = self._after(count)
+            self.known.base = self.news.after(count, self.known.newest)
             is_made = self.known.make_all(made)
             if is_made and self.known.draft is not None and self.known.draft.same_as(draft):
                 self.opened_at = count
                 return True
         return False
-
-    def _after(self, count: int) -> Timetable:
-        """The timetable after so many accepted drafts: the newest one, without those behind."""
-        found = self.known.newest.copy()
-        for accepted in reversed(self.news.accepted[count:]):
-            for shifts in reversed(accepted.shifts):
-                take_back(found, shifts)
-        return found
 
     def _resume(self) -> None:
         """Takes up a draft that was left open."""
