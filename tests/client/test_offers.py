@@ -391,6 +391,11 @@ class AtDesk(OfficeTest):
         self.assertNotIn("r04", [one.about for one in carry.at((4, 3))])
         self.assertEqual(said(carry.short_reason((0, 4))), "blocked")
         self.assertIn("t067 is blocked then: ill (", said(carry.reason((0, 4))))
+        board = Board(anna)
+        board.show_view(View("course", "c0109"))
+        board.work.carry = carry
+        grid = Grid(board.work, board.wording, (4, 1))
+        self.assertEqual(grid.below(grid.cells[0, 4], (0, 4), "", carry)[0], "blocked")
 
     def test_lines(self):
         """One look for the grid of a screen, one for the rooms of its own slot; a step asks for the
