@@ -80,7 +80,7 @@ class Cheapest(Two):
         self.assertRegex(text, r"Cheapest: \S+ with c\d+, day")
 
     def test_no_slot_is_left_open(self):
-        """Where a thousand offers are not enough for the grid, the rest is asked."""
+        """Where a thousand offers would not be enough for the grid, each slot is told."""
         draw, courses, rooms = random.Random(3), 1400, 300
         names = [f"c{number:04}" for number in range(courses)]
         lines = [
@@ -105,10 +105,10 @@ class Cheapest(Two):
         timetable = planning.known.present()
         for kind in (MOVE, SWAP):
             carry = Carry(planning, kind, "c0000", lecture)
-            self.assertFalse(carry.is_whole)
             for slot in slots:
                 free_slot = timetable.room_at("c0000", slot) is None or slot == lecture.slot
-                self.assertEqual(bool(carry.at(slot)), free_slot, (kind, slot))
+                self.assertEqual(bool(carry.cheapest(slot)), free_slot, (kind, slot))
+                self.assertEqual(carry.at(slot)[:1], carry.cheapest(slot)[:1])
         board = Board(planning)
         board.show_view(View("course", "c0000"))
         board.set_cursor(lecture.slot)
