@@ -11,6 +11,7 @@ from office.refused import Refused
 from office.scratch import Scratch
 from office.tables import Row
 from office.timetable import Lecture, Place
+from office.words import words_of
 
 Start = Sequence[Tuple[Row, Lecture]]
 
@@ -47,8 +48,8 @@ def told(
 ) -> str:
     """Why a lecture cannot stand; `rows` are those of the lectures that do."""
     course, room, slot = lecture.course, lecture.room, lecture.slot
-    _, kind, *others = [*answer.split(" "), ""]
-    when, other = labels.slot(slot), others[0] if others else ""
+    kind, *others = words_of(answer.replace("refused ", "", 1)) or [""]
+    when, other = labels.slot(slot), "".join(others)
     if kind == "already":
         return f"{course} stands at {when} in row {rows[course, slot]} already"
     if kind == "full":
