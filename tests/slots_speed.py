@@ -4,9 +4,10 @@ seat with nobody else at the desk.
 
     tests/slots_speed.py INSTANCE SOLUTION
 
-prints for places, moves and swaps the middle and the longest time in milliseconds, and how long the answers are. PROGRAM names another
-program.
+prints for places, moves and swaps the middle and the longest time of processor that the desk has taken, in milliseconds, the same until
+the answer was there, and how long the answers are. PROGRAM names another program.
 """
+import glob
 import random
 import statistics
 import subprocess
@@ -27,13 +28,22 @@ class Seat:
         words = [PROGRAM, "desk", instance, "-", "--start", solution]
         self.desk = subprocess.Popen(words, stdin=subprocess.PIPE, stdout=subprocess.PIPE, stderr=subprocess.DEVNULL)
 
+    def processor(self):
+        """How many nanoseconds of processor the threads of the desk have had."""
+        total = 0
+        for path in glob.glob(f"/proc/{self.desk.pid}/task/*/schedstat"):
+            with open(path, encoding="ascii") as opened:
+                total += int(opened.read().split()[0])
+        return total
+
     def ask(self, line):
-        """The answer to a line, and how many milliseconds it took."""
-        began = time.perf_counter()
+        """The answer to a line, and how many milliseconds of processor, and in all, it took."""
+        before, began = self.processor(), time.perf_counter()
         self.desk.stdin.write(line.encode() + b"\n")
         self.desk.stdin.flush()
         answer = self.desk.stdout.readline().decode()
-        return answer, 1000 * (time.perf_counter() - began)
+        ended = time.perf_counter()
+        return answer, (self.processor() - before) / 1e6, 1000 * (ended - began)
 
 
 def main():
@@ -43,6 +53,7 @@ def main():
     seat = Seat(instance, solution)
     seat.ask("open")
     times, sizes = {}, {}
+    print(f"{'':22}" + "".join(f"{name:>10}" for name in ("processor", "longest", "in all", "longest", "bytes")))
     for course, room, day, period in random.Random(70).sample(lectures, min(DRAWN, len(lectures))):
         here = f"{course} {day} {period}"
         for pattern in (f"move {here} * * *", f"swap {here} * * *", f"place {course} * * *"):
@@ -50,14 +61,15 @@ def main():
             if kind == "place":
                 assert seat.ask(f"drop {here}")[0] == "done\n"
             for look in LOOKS:
-                answer, took = seat.ask(f"peek {look} {pattern}")
+                answer, *took = seat.ask(f"peek {look} {pattern}")
                 assert answer.split(" ")[0] in ("slots", "prices"), answer
                 times.setdefault((kind, look), []).append(took)
                 sizes.setdefault((kind, look), []).append(len(answer))
         assert seat.ask(f"place {course} {room} {day} {period}")[0] == "done\n"
     for (kind, look), took in sorted(times.items()):
-        middle, longest = statistics.median(took), max(took)
-        print(f"{look} {kind}: middle {middle:.2f} ms, longest {longest:.2f} ms, {max(sizes[kind, look])} bytes at most")
+        own, whole = ([statistics.median(some), max(some)] for some in zip(*took))
+        told = "".join(f"{number:10.2f}" for number in (*own, *whole))
+        print(f"{kind + ' ' + look:22}{told}{max(sizes[kind, look]):10}")
     seat.desk.stdin.close()
     seat.desk.wait(60)
 
