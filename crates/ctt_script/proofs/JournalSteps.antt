@@ -1,21 +1,25 @@
 -- Parsing a journal step by step.
-use Rattle.std.proofs.Common.{◌≡◌, ℕ, ◌+◌, List, [], ◌∷◌, ◌++◌, Bool, true, false, cond, Option, Some, None, Result, Ok, Err, pos, refl, ◌∙◌, ap}
-use Rattle.std.specs.Prelude.{◌&&◌, nat_lt}
+use Rattle.std.proofs.Common.{◌≡◌, ℕ, ◌+◌, List, [], ◌∷◌, ◌++◌, Bool, true, false, cond, Option, Some, None, Result, Ok, Err, ℤ, pos, refl, ◌∙◌, ap}
+use Rattle.std.specs.Prelude.{◌&&◌, codes, nat_lt}
 use Rattle.ctt_text.specs.Left.{Left}
 use Rattle.ctt_text.specs.Forms.{Form, done, ◌>>=◌, one_more, read}
 use Rattle.ctt_text.specs.Numbers.{is_number, value}
 use Rattle.ctt_text.specs.Places.{one, known, known_name, number, broken_unless, meant}
 use Rattle.ctt_problem.specs.Problem.{Problem, number_in}
+use Rattle.ctt_edits.specs.declared.offer.Offer.{Offer}
+use Rattle.ctt_edits.specs.declared.offer.Offer.TheVariants.{Priced, Refused, Nothing}
 use Rattle.ctt_edits.specs.declared.priced_edit.PricedEdit.{PricedEdit}
 use Rattle.ctt_text.specs.Reading.{reading, word_at}
 use Rattle.ctt_text.proofs.Steps.{and_then, judged, told_as}
 use Rattle.ctt_text.proofs.Steps as steps
 use Rattle.ctt_script.specs.declared.journal_fault.JournalFault.{JournalFault}
 use Rattle.ctt_script.specs.declared.journal_fault.JournalFault.TheVariants.{BadWord}
+use Rattle.ctt_script.specs.declared.kinds.FaultKind.{FaultKind}
 use Rattle.ctt_script.specs.Amounts.{number_below, price_of}
+use Rattle.ctt_script.specs.Kinds.{fault_kind}
 use Rattle.ctt_script.specs.CallPlaces.{edit_form}
-use Rattle.ctt_script.specs.ReplyPlaces.{priced}
-use Rattle.ctt_script.specs.JournalWords.{word, name, missing}
+use Rattle.ctt_script.specs.ReplyPlaces.{fault_after, priced, refusal_after, refusal, offer_after, offer_form}
+use Rattle.ctt_script.specs.JournalWords.{word, mark_or, name, missing}
 
 pub read_word : {A : Type 0} (meaning : List ℕ → Option A) (otherwise : A) (left : Left)
     → reading missing (word meaning otherwise) left ≡ and_then (word_at missing left) (λ w after. told_as BadWord (meaning w) left.next after)
@@ -77,3 +81,45 @@ read_one_priced i so_far left =
     ap (λ q. and_then q (λ a rest. Ok (so_far ++ a ∷ [], rest))) (read_bind (edit_form i) (λ e. done (record { edit = e; price = p })) after)
     ∙ nested (reading missing (edit_form i) after) _ _
     ∙ same_then (reading missing (edit_form i) after) _ _ (λ e last. ap (λ q. and_then q (λ a rest. Ok (so_far ++ a ∷ [], rest))) (read_done (record { edit = e; price = p }) last)))
+
+-- a fault or `none`, and what a slot offers, after the earlier offers
+abbrev refusal_then : Problem → List Offer → Option FaultKind → Left → Result (List Offer × Left) JournalFault
+refusal_then i so_far None after = Ok (so_far ++ Nothing ∷ [], after)
+refusal_then i so_far (Some kind) after = and_then (reading missing (fault_after i kind) after) (λ f last. Ok (so_far ++ Refused f ∷ [], last))
+
+abbrev offer_then : Problem → List Offer → Option ℤ → Left → Result (List Offer × Left) JournalFault
+offer_then i so_far None after = and_then (reading missing (word (mark_or (codes "none") fault_kind) None) after) (refusal_then i so_far)
+offer_then i so_far (Some p) after = and_then (reading missing (edit_form i) after) (λ e last. Ok (so_far ++ Priced (record { edit = e; price = p }) ∷ [], last))
+
+-- a form whose value is turned into an offer
+turned : {A : Type 0} (form : Form JournalFault A) (turn : A → Offer) (so_far : List Offer) (left : Left)
+    → and_then (reading missing (form >>= λ a. done (turn a)) left) (λ x last. Ok (so_far ++ x ∷ [], last)) ≡ and_then (reading missing form left) (λ a last. Ok (so_far ++ turn a ∷ [], last))
+turned form turn so_far left =
+    ap (λ q. and_then q (λ x last. Ok (so_far ++ x ∷ [], last))) (read_bind form (λ a. done (turn a)) left)
+    ∙ nested (reading missing form left) _ _
+    ∙ same_then (reading missing form left) _ _ (λ a after. ap (λ q. and_then q (λ x last. Ok (so_far ++ x ∷ [], last))) (read_done (turn a) after))
+
+refusal_is : (i : Problem) (so_far : List Offer) (k : Option FaultKind) (left : Left)
+    → and_then (reading missing (refusal_after i k) left) (λ x last. Ok (so_far ++ x ∷ [], last)) ≡ refusal_then i so_far k left
+unfolding refusal_after
+refusal_is i so_far None left = ap (λ q. and_then q (λ x last. Ok (so_far ++ x ∷ [], last))) (read_done Nothing left)
+refusal_is i so_far (Some kind) left = turned (fault_after i kind) Refused so_far left
+
+offer_is : (i : Problem) (so_far : List Offer) (o : Option ℤ) (left : Left)
+    → and_then (reading missing (offer_after i o) left) (λ x last. Ok (so_far ++ x ∷ [], last)) ≡ offer_then i so_far o left
+unfolding offer_after refusal
+offer_is i so_far None left =
+    ap (λ q. and_then q (λ x last. Ok (so_far ++ x ∷ [], last))) (read_bind (word (mark_or (codes "none") fault_kind) None) (refusal_after i) left)
+    ∙ nested (reading missing (word (mark_or (codes "none") fault_kind) None) left) _ _
+    ∙ same_then (reading missing (word (mark_or (codes "none") fault_kind) None) left) _ _ (λ k after. refusal_is i so_far k after)
+offer_is i so_far (Some p) left = turned (edit_form i) (λ e. Priced (record { edit = e; price = p })) so_far left
+
+-- what a slot offers, after the earlier offers
+pub read_one_offer : (i : Problem) (so_far : List Offer) (left : Left)
+    → reading missing (one_more (offer_form i) so_far) left ≡ and_then (reading missing (word (mark_or (codes "-") price_of) None) left) (offer_then i so_far)
+unfolding offer_form
+read_one_offer i so_far left =
+    read_one_more (offer_form i) so_far left
+    ∙ ap (λ q. and_then q (λ a after. Ok (so_far ++ a ∷ [], after))) (read_bind (word (mark_or (codes "-") price_of) None) (offer_after i) left)
+    ∙ nested (reading missing (word (mark_or (codes "-") price_of) None) left) _ _
+    ∙ same_then (reading missing (word (mark_or (codes "-") price_of) None) left) _ _ (λ o after. offer_is i so_far o after)

@@ -5,7 +5,7 @@ ghost use Rattle.ctt_text.specs.Forms.{list_of, one_more};
 ghost use Rattle.ctt_script.specs.Amounts.{price_of};
 ghost use Rattle.ctt_script.specs.Kinds.{fault_kind};
 ghost use Rattle.ctt_script.specs.JournalWords.{word, mark_or, reads, IsRead, GivesRead};
-ghost use Rattle.ctt_script.specs.ReplyPlaces.{refusal_after, refusal, offer_after, offer_form, offers};
+ghost use Rattle.ctt_script.specs.ReplyPlaces.{offer_form, offers};
 
 use crate::amounts::price;
 use crate::calls::read_edit;
@@ -61,63 +61,9 @@ fn read_price_or_dash(reader: &mut Reader) -> Result<Option<i64>, JournalFault>
     price_or_dash(word).ok_or(JournalFault::BadWord(at))
 }
 
-/// Parses what follows the keyword of a fault or `none`.
-#[tactic(auto, using(crate::proofs::JournalSteps::read_bind, crate::proofs::JournalSteps::read_done), unfolding(crate::specs::ReplyPlaces::refusal_after))]
-fn read_refusal_after(
-    reader: &mut Reader,
-    instance: &Instance,
-    kind: Option<FaultKind>,
-) -> Result<Offer, JournalFault>
-    ensures { IsRead (λ offer. (offer, reader.new)) result
-        (reads (refusal_after instance.now kind) reader.old) }
-{
-    match kind {
-        Some(kind) => Ok(Offer::Refused(read_fault_after(reader, instance, kind)?)),
-        None => Ok(Offer::Nothing),
-    }
-}
-
-/// Parses what follows `-`: a fault, or `none`.
-#[tactic(auto, using(crate::proofs::JournalSteps::read_bind), unfolding(crate::specs::ReplyPlaces::refusal))]
-fn read_refusal(reader: &mut Reader, instance: &Instance) -> Result<Offer, JournalFault>
-    ensures { IsRead (λ offer. (offer, reader.new)) result
-        (reads (refusal instance.now) reader.old) }
-{
-    let kind = read_fault_or_none(reader)?;
-    read_refusal_after(reader, instance, kind)
-}
-
-/// Parses what follows a price, or `-`: an edit, or why there is none.
-#[tactic(auto, using(crate::proofs::JournalSteps::read_bind, crate::proofs::JournalSteps::read_done), unfolding(crate::specs::ReplyPlaces::offer_after))]
-fn read_offer_after(
-    reader: &mut Reader,
-    instance: &Instance,
-    price: Option<i64>,
-) -> Result<Offer, JournalFault>
-    ensures { IsRead (λ offer. (offer, reader.new)) result
-        (reads (offer_after instance.now price) reader.old) }
-{
-    match price {
-        Some(price) => {
-            let edit = read_edit(reader, instance)?;
-            Ok(Offer::Priced(PricedEdit { edit, price }))
-        }
-        None => read_refusal(reader, instance),
-    }
-}
-
-/// Parses what a slot offers: a price and its edit, or `-` and why there is none.
-#[tactic(auto, using(crate::proofs::JournalSteps::read_bind), unfolding(crate::specs::ReplyPlaces::offer_form))]
-fn read_offer(reader: &mut Reader, instance: &Instance) -> Result<Offer, JournalFault>
-    ensures { IsRead (λ offer. (offer, reader.new)) result
-        (reads (offer_form instance.now) reader.old) }
-{
-    let price = read_price_or_dash(reader)?;
-    read_offer_after(reader, instance, price)
-}
-
-/// Parses what a slot offers, and adds it to the list.
-#[tactic(auto, using(crate::proofs::JournalSteps::read_one_more))]
+/// Parses what a slot offers, and adds it to the list: a price and its edit, or `-` and a fault or
+/// `none`.
+#[tactic(auto, using(crate::proofs::JournalSteps::read_one_offer))]
 fn read_one_offer(
     reader: &mut Reader,
     instance: &Instance,
@@ -126,8 +72,19 @@ fn read_one_offer(
     ensures { GivesRead (λ _. (list.new, reader.new)) result
         (reads (one_more (offer_form instance.now) list.old) reader.old) }
 {
-    let offer = read_offer(reader, instance)?;
-    list.push(&offer)?;
+    match read_price_or_dash(reader)? {
+        Some(price) => {
+            let edit = read_edit(reader, instance)?;
+            list.push(&Offer::Priced(PricedEdit { edit, price }))?;
+        }
+        None => match read_fault_or_none(reader)? {
+            Some(kind) => {
+                let fault = read_fault_after(reader, instance, kind)?;
+                list.push(&Offer::Refused(fault))?;
+            }
+            None => list.push(&Offer::Nothing)?,
+        },
+    }
     Ok(())
 }
 
