@@ -29,7 +29,7 @@ use Rattle.ctt_draft.specs.Drafts.{AskedFits}
 use Rattle.ctt_core.specs.Entries.{EntryFits}
 use Rattle.ctt_script.specs.Entries.{IsShort, IsAsked, IsEntry}
 use Rattle.ctt_script.specs.JournalWords.{mark_or}
-use Rattle.ctt_script.specs.CallPlaces.{course, room, slot, edit_form, call_form}
+use Rattle.ctt_script.specs.CallPlaces.{edit_form, call_form}
 use Rattle.ctt_script.specs.ReplyPlaces.{fault_after, fault_form, lecture, lectures, costs, shortfall, shortfalls, priced, priced_edits, refusal_after, refusal, offer_after, offer_form, offers, reply_after, reply_form}
 use Rattle.ctt_script.specs.JournalPlaces.{asked_form, entry_form, journal_form}
 use Rattle.ctt_script.specs.WrittenWords.{edit_words, call_words, fault_words, lecture_words, shortfall_words, priced_words, offer_words, reply_words, asked_words, entry_words, journal_words}
