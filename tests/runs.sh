@@ -701,6 +701,7 @@ head -n 4 s.sol >s0.sol
 run 'peeks of the examples' 0 'opened
 missing 0
 prices 2 -4 move geo 1 2 A 1 1 -3 move geo 1 2 B 1 1
+slots 6 - unavailable - already -2 move geo 1 2 A 0 2 - clash alg -4 move geo 1 2 A 1 1 - sameslot
 done
 committed 1
 ' '' run small.ctt peek.txt --start s.sol
