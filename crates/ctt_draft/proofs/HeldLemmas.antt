@@ -1,20 +1,16 @@
 -- A course has a room in a slot exactly if the room has that course.
-use Rattle.std.proofs.Common.{◌≡◌, ℕ, ◌<◌, Bool, true, false, not, ◌&&◌, ◌||◌, ◌==◌, List, [], ◌∷◌, Option, Some, None, IfSome, refl, ◌∙◌, sym, ap, ap₂, subst, arith, inl, inr}
-use Rattle.std.specs.List.{find, AllByRecursion as Each}
-use Rattle.std.specs.Option.{option_eq}
+use Rattle.std.proofs.Common.{◌≡◌, ℕ, ◌<◌, true, false, List, [], ◌∷◌, Option, Some, None, IfSome, refl, ◌∙◌, sym, ap, subst, arith, inl, inr}
+use Rattle.std.specs.List.{find}
 use Rattle.std.proofs.lemmas.Bool.{cases_Bool, eq-eqb}
 use Rattle.std.proofs.lemmas.Bool.Decides.{nat_tests}
 use Rattle.ctt_problem.specs.Problem.{Problem, course_count}
-use Rattle.ctt_problem.specs.Timetable.{before, Ascending, IsTimetable, Fits, with, without}
+use Rattle.ctt_problem.specs.Timetable.{before, Ascending, IsTimetable, with, without}
 use Rattle.ctt_problem.specs.declared.placed.Placed.{Placed}
 use Rattle.ctt_rules.specs.Hard.{Lawful}
 use Rattle.ctt_board.specs.Changes.{room_at, room_of, holder_at, course_named}
-use Rattle.ctt_board.specs.declared.cell.Cell.{Cell}
 use Rattle.ctt_board.proofs.BetweenLemmas.{somewhere, there_fits}
 use Rattle.ctt_board.proofs.HolderLemmas.{Apart, is_in, holder_is, holder_with, removed_back}
 use Rattle.ctt_board.proofs.RoomLemmas.{is_at, room_is}
-use Rattle.ctt_draft.specs.Undo.{is_named}
-use Rattle.ctt_draft.specs.Comparisons.{is_none_or_named}
 
 pub held : (i : Problem) (c s r : ℕ) (t : List Placed) → Lawful i t → room_at c s t ≡ Some r → holder_at s r t ≡ Some c
 held i c s r t h e =
