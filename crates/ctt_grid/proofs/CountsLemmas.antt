@@ -1,20 +1,24 @@
 -- The tables of counts after one lecture is added, and after one is removed.
-use Rattle.std.proofs.Common.{◌≡◌, ℕ, zero, suc, ◌+◌, ◌<◌, ◌≤◌, Bool, true, false, cond, ◌&&◌, ◌==◌, ltb, List, [], ◌∷◌, length, refl, ◌∙◌, sym, ap, ap₂, arith, inl, inr}
+use Rattle.std.proofs.Common.{◌≡◌, ℕ, zero, suc, ◌+◌, ◌<◌, ◌≤◌, Bool, true, false, cond, not, ◌&&◌, ◌||◌, ◌==◌, ltb, List, [], ◌∷◌, length, refl, ◌∙◌, sym, ap, ap₂, arith, inl, inr}
 use Rattle.std.specs.List.{count_by}
 use Rattle.std.proofs.lemmas.Bool.{cases_eq, eq-eqb, ne_eqb, lt-ltb, le-ltb}
 use Rattle.std.proofs.lemmas.Bool.Decides.{nat_tests}
 use Rattle.std.proofs.lemmas.List.Sums.{sum_by-append, length-filter}
 use Rattle.ctt_problem.specs.Lists.{has, below}
 use Rattle.ctt_problem.specs.Belonging.{curricula_of}
-use Rattle.ctt_problem.specs.Problem.{Problem, IsProblem, course_count, room_count, curriculum_count, slot_count, members, day_of}
+use Rattle.ctt_problem.specs.BitRows.{BitTable, is_marked_in, AddsMarks}
+use Rattle.ctt_problem.specs.Problem.{Problem, IsProblem, course_count, room_count, curriculum_count, members, day_of}
 use Rattle.ctt_problem.specs.Timetable.{Fits, course_row}
 use Rattle.ctt_problem.specs.declared.placed.Placed.{Placed}
+use Rattle.ctt_rules.specs.Hard.{Lawful}
 use Rattle.ctt_rules.proofs.SlotLemmas.{day_fits}
 use Rattle.ctt_board.proofs.MoreLemmas.{IsMore, counted_more}
-use Rattle.ctt_grid.specs.Joining.{on_day, in_room, in_slot}
-use Rattle.ctt_grid.specs.Tables.{Grid, at, Adds, one_at, in_column}
-use Rattle.ctt_grid.specs.Counts.{HaveSizes, Counted, AreCounts, AddsLecture, HaveNone, HaveLecture}
+use Rattle.ctt_grid.specs.Joining.{on_day, in_room, in_slot, by_slot}
+use Rattle.ctt_grid.specs.Tables.{Grid, at, Adds, one_at}
+use Rattle.ctt_grid.specs.Counts.{HaveSizes, Counted, AreBusy, AreCounts, AddsLecture, TakesMarks, HaveLecture, in_one_slot}
 use Rattle.ctt_grid.specs.declared.counts.Counts.{Counts}
+use Rattle.ctt_grid.proofs.CountedLemmas.{any_counted}
+use Rattle.ctt_grid.proofs.OnceLemmas.{one_there}
 
 -- each of the numbers that pass occurs once among them
 pub named_once : (p : ℕ → Bool) (r n : ℕ) → count_by (λ q. q == r) (below p n) ≡ cond (p r && ltb r n) 1 0
@@ -75,43 +79,58 @@ module _ (i : Problem) (l : Placed) (t u : List Placed) (more : IsMore l t u) (f
       test : (l.course == r && l.room == k) ≡ (r == l.course && k == l.room)
       test = grind (arith, nat_tests)
 
-  pub curricula_step : (r k : ℕ) → r < curriculum_count i → count_by (in_slot (members i r) k) u ≡ in_column (curricula_of i l.course) l.slot r k + count_by (in_slot (members i r) k) t
-  curricula_step r k lr = counted_more l t u more (in_slot (members i r) k) ∙ ap (λ n. n + count_by (in_slot (members i r) k) t) (by (has l.course (members i r)) (named_once (λ q. has l.course (members i q)) r (curriculum_count i)))
+  -- its curricula, in its slot
+  its_slots : (q s : ℕ) → q < curriculum_count i → in_one_slot (curricula_of i l.course) l.slot q s ≡ in_slot (members i q) s l
+  its_slots q s lq = ap₂ (λ a b. a && b) (any_counted (λ m. m == q) (curricula_of i l.course) ∙ ap (ltb 0) (named_once (λ q. has l.course (members i q)) q (curriculum_count i)) ∙ by (has l.course (members i q))) turned
     where
-      turned : (l.slot == k) ≡ (k == l.slot)
+      turned : (s == l.slot) ≡ (l.slot == s)
       turned = grind (arith, nat_tests)
 
-      each : (b c : Bool) → cond (b && c) 1 0 ≡ cond {A = ℕ} c (cond (b && true) 1 0) 0
-      each true true = refl
-      each true false = refl
-      each false true = refl
-      each false false = refl
+      by : (b : Bool) → ltb 0 (cond (b && ltb q (curriculum_count i)) 1 0) ≡ b
+      by true = rw (lt-ltb q (curriculum_count i) lq) refl
+      by false = refl
 
-      by : (b : Bool) → count_by (λ q. q == r) (curricula_of i l.course) ≡ cond (b && ltb r (curriculum_count i)) 1 0 → cond (b && l.slot == k) 1 0 ≡ cond (k == l.slot) (count_by (λ q. q == r) (curricula_of i l.course)) 0
-      by b e = rw (e, lt-ltb r (curriculum_count i) lr, turned) (each b (k == l.slot))
+  -- the slots of the curricula with the lecture, and without it
+  busy_more : (a b : BitTable) → AddsMarks a b (in_one_slot (curricula_of i l.course) l.slot) → AreBusy i t a → AreBusy i u b
+  busy_more a b adds h = record {
+    size = (adds.size.0 ∙ h.size.0, adds.size.1 ∙ h.size.1);
+    slots = λ q s lq. adds.marks q s ∙ ap₂ (λ x y. x || y) (h.slots q s lq ∙ any_counted (in_slot (members i q) s) t) (its_slots q s lq)
+        ∙ by (in_slot (members i q) s l) (by_slot (members i q) t s) (by_slot (members i q) u s) (counted_more l t u more (in_slot (members i q) s)) ∙ sym (any_counted (in_slot (members i q) s) u);
+  }
+    where
+      by : (b : Bool) (n m : ℕ) → m ≡ cond b 1 0 + n → (ltb 0 n || b) ≡ ltb 0 m
+      by true n m e = grind (arith, nat_tests, e)
+      by false n m e = grind (arith, nat_tests, e)
+
+  busy_less : (a b : BitTable) → Lawful i u → TakesMarks b a (in_one_slot (curricula_of i l.course) l.slot) → AreBusy i u b → AreBusy i t a
+  busy_less a b lawful takes h = record {
+    size = (takes.size.0 ∙ h.size.0, takes.size.1 ∙ h.size.1);
+    slots = λ q s lq. takes.marks q s ∙ ap₂ (λ x y. x && not y) (h.slots q s lq ∙ any_counted (in_slot (members i q) s) u) (its_slots q s lq)
+        ∙ by (in_slot (members i q) s l) (by_slot (members i q) t s) (by_slot (members i q) u s) (counted_more l t u more (in_slot (members i q) s)) (one_there i u q s lawful lq) ∙ sym (any_counted (in_slot (members i q) s) t);
+  }
+    where
+      by : (b : Bool) (n m : ℕ) → m ≡ cond b 1 0 + n → m ≤ 1 → (ltb 0 m && not b) ≡ ltb 0 n
+      by true n m e few = grind (arith, nat_tests, e, few)
+      by false n m e few = grind (arith, nat_tests, e, few)
 
   module _ (a b : Counts) (adds : AddsLecture i l a b) where
-    pub counts_more : AreCounts i t a → AreCounts i u b
-    counts_more h =
+    pub counts_more : AddsMarks a.curricula b.curricula (in_one_slot (curricula_of i l.course) l.slot) → AreCounts i t a → AreCounts i u b
+    counts_more marks h =
         record {
           lectures = counted_up a.lectures b.lectures _ _ _ _ _ adds.lectures (λ r k lr lk. lectures_step r k lr) h.lectures;
           days = counted_up a.days b.days _ _ _ _ _ adds.days (λ r k lr lk. days_step r k) h.days;
           rooms = counted_up a.rooms b.rooms _ _ _ _ _ adds.rooms (λ r k lr lk. rooms_step r k) h.rooms;
-          curricula = counted_up a.curricula b.curricula _ _ _ _ _ adds.curricula (λ r k lr lk. curricula_step r k lr) h.curricula;
+          curricula = busy_more a.curricula b.curricula marks h.curricula;
         }
 
-    pub counts_less : AreCounts i u b → AreCounts i t a
-    counts_less h =
+    pub counts_less : Lawful i u → TakesMarks b.curricula a.curricula (in_one_slot (curricula_of i l.course) l.slot) → AreCounts i u b → AreCounts i t a
+    counts_less lawful marks h =
         record {
           lectures = counted_down a.lectures b.lectures _ _ _ _ _ adds.lectures (λ r k lr lk. lectures_step r k lr) h.lectures;
           days = counted_down a.days b.days _ _ _ _ _ adds.days (λ r k lr lk. days_step r k) h.days;
           rooms = counted_down a.rooms b.rooms _ _ _ _ _ adds.rooms (λ r k lr lk. rooms_step r k) h.rooms;
-          curricula = counted_down a.curricula b.curricula _ _ _ _ _ adds.curricula (λ r k lr lk. curricula_step r k lr) h.curricula;
+          curricula = busy_less a.curricula b.curricula lawful marks h.curricula;
         }
-
-  -- if a lecture can be added, none of its curricula has one in its slot
-  pub have_none : (a : Counts) → AreCounts i t a → ((q : ℕ) → q < curriculum_count i → count_by (in_slot (members i q) l.slot) u ≤ 1) → HaveNone i l a
-  have_none a h few = λ q lt. omega (arith, h.curricula.counts q l.slot lt fits.1, curricula_step q l.slot lt, few q lt)
 
   -- a lecture that is there is counted
   pub have_lecture : (b : Counts) → IsProblem i → AreCounts i u b → HaveLecture i l b
@@ -122,17 +141,16 @@ module _ (i : Problem) (l : Placed) (t u : List Placed) (more : IsMore l t u) (f
         lectures = omega (arith, h.lectures.counts 0 l.course (omega arith) fits.0, lectures_step 0 l.course (omega arith), one 0 l.course);
         days = omega (arith, h.days.counts l.course (day_of i l.slot) fits.0 day, days_step l.course (day_of i l.slot), one l.course (day_of i l.slot));
         rooms = omega (arith, h.rooms.counts l.course l.room fits.0 fits.2, rooms_step l.course l.room, one l.course l.room);
-        curricula = λ q lt. omega (arith, h.curricula.counts q l.slot lt fits.1, curricula_step q l.slot lt);
       }
 
 -- tables of zeros are the counts of the empty timetable
 abbrev pub IsZero : Grid ℕ → ℕ → ℕ → Type 0
 IsZero g rows width = (r k : ℕ) → r < rows → k < width → at g r k 0 ≡ 0
 
-pub none_counted : (i : Problem) (c : Counts) → HaveSizes i c → IsZero c.lectures 1 (course_count i) → IsZero c.days (course_count i) i.days → IsZero c.rooms (course_count i) (room_count i) → IsZero c.curricula (curriculum_count i) (slot_count i) → AreCounts i [] c
+pub none_counted : (i : Problem) (c : Counts) → HaveSizes i c → IsZero c.lectures 1 (course_count i) → IsZero c.days (course_count i) i.days → IsZero c.rooms (course_count i) (room_count i) → ((q s : ℕ) → is_marked_in c.curricula q s ≡ false) → AreCounts i [] c
 none_counted i c h lectures days rooms curricula = record {
   lectures = record { size = h.lectures; counts = lectures };
   days = record { size = h.days; counts = days };
   rooms = record { size = h.rooms; counts = rooms };
-  curricula = record { size = h.curricula; counts = curricula };
+  curricula = record { size = h.curricula; slots = λ q s _. curricula q s };
 }

@@ -73,9 +73,10 @@ pub cost_without : (i : Problem) (t u : List Placed) (j : Joining) → Joins i t
 cost_without i t u j h = cost_same (without_joining (penalty i u) j) (penalty i t) (omega (arith, h.capacity)) (omega (arith, h.days)) (omega (arith, h.compactness)) (omega (arith, h.stability))
 
 -- no lecture is removed or added
-pub sees_now : (i : Problem) (t : List Placed) (v : Later) (c : Counts) → AreCounts i t c → v.counts.now ≡ c → v.removed.items ≡ [] → v.added.items ≡ [] → Sees i v t
-sees_now i t v c h e1 e2 e3 = record {
+pub sees_now : (i : Problem) (t : List Placed) (v : Later) (c : Counts) → Lawful i t → AreCounts i t c → v.counts.now ≡ c → v.removed.items ≡ [] → v.added.items ≡ [] → Sees i v t
+sees_now i t v c lawful h e1 e2 e3 = record {
   base = t;
+  lawful = lawful;
   counts = subst (λ x. AreCounts i t x) (sym e1) h;
   balance = λ f. ap (λ a. sum_by f t + sum_by f a) (e2 ∙ sym e3);
 }

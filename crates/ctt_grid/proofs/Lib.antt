@@ -6,6 +6,7 @@ mod TableLemmas
 mod CountedLemmas
 mod AloneLemmas
 mod JoiningLemmas
+mod OnceLemmas
 mod CountsLemmas
 mod FewLemmas
 mod SeenLemmas

@@ -1,22 +1,21 @@
--- What a lecture does to a curriculum that has none in its slot; and lawful timetables have at most one.
-use Rattle.std.proofs.Common.{◌≡◌, ℕ, zero, suc, ◌+◌, ◌-◌, ◌<◌, ◌≤◌, Bool, true, false, cond, ◌&&◌, ◌||◌, ◌==◌, ltb, List, [], ◌∷◌, ◌++◌, refl, ◌∙◌, sym, ap, ap₂, arith, inl, inr}
-use Rattle.std.specs.List.{count_by, list_any, AllByRecursion as Each}
-use Rattle.std.proofs.lemmas.Bool.{cases_Bool, ltb-true, and_parts, eq-eqb, lt-ltb}
+-- What a lecture does to a curriculum that has none in its slot.
+use Rattle.std.proofs.Common.{◌≡◌, ℕ, zero, suc, ◌+◌, ◌-◌, ◌<◌, ◌≤◌, Bool, true, false, cond, ◌&&◌, ◌||◌, ltb, List, [], ◌∷◌, ◌++◌, refl, ◌∙◌, ap, ap₂, arith, inl, inr}
+use Rattle.std.specs.List.{count_by, AllByRecursion as Each}
+use Rattle.std.proofs.lemmas.Bool.{cases_Bool, ltb-true, eq-eqb, lt-ltb}
 use Rattle.std.proofs.lemmas.Bool.Decides.{nat_tests}
 use Rattle.std.proofs.lemmas.List.Sums.{sum_by-append}
 use Rattle.ctt_problem.specs.Belonging.{curricula_of}
-use Rattle.ctt_problem.specs.Lists.{has, below, Pairwise}
-use Rattle.ctt_problem.specs.Problem.{Problem, curriculum_count, slot_count, members, mates, clash, period_of}
-use Rattle.ctt_problem.specs.Timetable.{before}
+use Rattle.ctt_problem.specs.BitRows.{is_marked_in}
+use Rattle.ctt_problem.specs.Lists.{has, below}
+use Rattle.ctt_problem.specs.Problem.{Problem, curriculum_count, slot_count, members, period_of}
 use Rattle.ctt_problem.specs.declared.placed.Placed.{Placed}
-use Rattle.ctt_problem.proofs.TimetableLemmas.{Each-at, Each-map}
-use Rattle.ctt_rules.specs.Hard.{Lawful, conflicts}
+use Rattle.ctt_rules.specs.Hard.{Lawful}
 use Rattle.ctt_rules.proofs.SumLemmas.{count_by-cons}
 use Rattle.ctt_board.proofs.MoreLemmas.{IsMore, counted_more}
-use Rattle.ctt_grid.specs.Joining.{in_slot, by_slot, alone_at, stands_alone, count_before, count_after}
+use Rattle.ctt_grid.specs.Joining.{in_slot, alone_at, stands_alone, count_before, count_after}
 use Rattle.ctt_grid.specs.Seen.{Sees, seen_curriculum, NoneThere, OneThere}
-use Rattle.ctt_grid.specs.Tables.{at}
 use Rattle.ctt_grid.specs.declared.later.Later.{Later}
+use Rattle.ctt_grid.proofs.OnceLemmas.{one_there}
 use Rattle.ctt_grid.proofs.SeenLemmas.{curriculum_is}
 use Rattle.ctt_grid.proofs.SlotFacts.{later_slot}
 
@@ -80,61 +79,6 @@ module _ (i : Problem) (f : ℕ → ℕ) (s : ℕ) where
         by false true x y z = refl
         by false false x y z = refl
 
--- of elements of which no two pass there is at most one that passes
-none_counted : {X : Type 0} (p : X → Bool) (xs : List X) → Each (λ x. p x ≡ false) xs → count_by p xs ≡ 0
-none_counted p [] h = refl
-none_counted p (x ∷ xs) h = omega (arith, count_by-cons p x xs, ap (λ b. cond {A = ℕ} b 1 0) h.0, none_counted p xs h.1)
-
-one_most : {X : Type 0} (p : X → Bool) (xs : List X) → Pairwise (λ a b. p a ≡ true → p b ≡ false) xs → count_by p xs ≤ 1
-one_most p [] h = omega arith
-one_most p (x ∷ xs) h = elim (cases_Bool (p x)) [
-  | inl y ↦ omega (arith, count_by-cons p x xs, ap (λ b. cond {A = ℕ} b 1 0) y, none_counted p xs (Each-map (λ b. p x ≡ true → p b ≡ false) (λ b. p b ≡ false) (λ b k. k y) xs h.0))
-  | inr n ↦ omega (arith, count_by-cons p x xs, ap (λ b. cond {A = ℕ} b 1 0) n, one_most p xs h.1)
-]
-
-Each-both : {X : Type 0} (P Q R : X → Type 0) → ((x : X) → P x → Q x → R x) → (xs : List X) → Each P xs → Each Q xs → Each R xs
-Each-both P Q R f [] h k = tt
-Each-both P Q R f (x ∷ xs) h k = (f x h.0 k.0, Each-both P Q R f xs h.1 k.1)
-
-Pairwise-both : {X : Type 0} (P Q R : X → X → Type 0) → ((a b : X) → P a b → Q a b → R a b) → (xs : List X) → Pairwise P xs → Pairwise Q xs → Pairwise R xs
-Pairwise-both P Q R f [] h k = tt
-Pairwise-both P Q R f (x ∷ xs) h k = (Each-both (P x) (Q x) (R x) (f x) xs h.0 k.0, Pairwise-both P Q R f xs h.1 k.1)
-
-any_none : {X : Type 0} (p : X → Bool) (xs : List X) → list_any p xs ≡ false → Each (λ x. p x ≡ false) xs
-any_none p [] h = tt
-any_none p (x ∷ xs) h = elim (cases_Bool (p x)) [
-  | inl b ↦ (let h' : true ≡ false = rw b at h in cc)
-  | inr b ↦ (let h' : list_any p xs ≡ false = rw b at h in (b, any_none p xs h'))
-]
-
--- courses that do not clash share no curriculum
-share_none : (i : Problem) (c d q : ℕ) → (c == d) ≡ false → clash i c d ≡ false → q < curriculum_count i → (has c (members i q) && has d (members i q)) ≡ false
-share_none i c d q other clear known = Each-at (λ m. (has c m && has d m) ≡ false) i.curricula (any_none (λ m. has c m && has d m) i.curricula no_mates) q [] known
-  where
-    by : (x y : Bool) → (x || y) ≡ false → y ≡ false
-    by true y h = cc
-    by false y h = h
-
-    no_mates : mates i c d ≡ false
-    no_mates = by _ (mates i c d) (rw other at clear)
-
--- two lectures of one curriculum in one slot would conflict
-apart : (i : Problem) (q s : ℕ) (a b : Placed) → q < curriculum_count i → conflicts i a b ≡ false → before a b ≡ true → in_slot (members i q) s a ≡ true → in_slot (members i q) s b ≡ false
-apart i q s a b known none order here = elim (cases_Bool (in_slot (members i q) s b)) [
-  | inr n ↦ n
-  | inl y ↦ (
-      let first = and_parts (has a.course (members i q)) (a.slot == s) here in
-      let second = and_parts (has b.course (members i q)) (b.slot == s) y in
-      let same : (a.slot == b.slot) ≡ true = grind (arith, nat_tests, first.1, second.1) in
-      let other : (a.course == b.course) ≡ false = grind (arith, nat_tests, same, order) in
-      let no_clash : clash i a.course b.course ≡ false = (rw same at none) in
-      let not_both = share_none i a.course b.course q other no_clash known in
-      absurd (let z : true ≡ false = sym (ap₂ (λ x y. x && y) first.0 second.0) ∙ not_both in cc))
-]
-
-pub one_there : (i : Problem) (t : List Placed) (q s : ℕ) → Lawful i t → q < curriculum_count i → by_slot (members i q) t s ≤ 1
-one_there i t q s h known = one_most (in_slot (members i q) s) t (Pairwise-both (λ a b. conflicts i a b ≡ false) (λ a b. before a b ≡ true) (λ a b. in_slot (members i q) s a ≡ true → in_slot (members i q) s b ≡ false) (λ a b c o. apart i q s a b known c o) t h.conflict_free h.timetable.ascending)
-
 -- what holds of each number that passes
 below_each : (P : ℕ → Type 0) (p : ℕ → Bool) (n : ℕ) → ((k : ℕ) → k < n → p k ≡ true → P k) → Each P (below p n)
 below_each P p zero h = tt
@@ -173,8 +117,8 @@ module _ (i : Problem) (l : Placed) where
           gone : count_by p w.removed.items ≡ count_by p v.removed.items + 1
           gone = ap (count_by p) removed ∙ sum_by-append (λ x. cond (p x) 1 0) v.removed.items (l ∷ []) ∙ ap (λ n. count_by p v.removed.items + n) (count_by-cons p l [] ∙ ap (λ b. cond {A = ℕ} b 1 0 + 0) here)
 
-          by : (b : Bool) → cond b ((at v.counts.now.curricula q l.slot 0 + count_by p v.added.items) - count_by p v.removed.items) 0 ≤ 1 → cond b ((at w.counts.now.curricula q l.slot 0 + count_by p w.added.items) - count_by p w.removed.items) 0 ≡ 0
-          by true k = omega (arith, k, gone, ap (count_by p) added, ap (λ c. at c.curricula q l.slot 0) counts)
+          by : (b : Bool) → cond b ((cond (is_marked_in v.counts.now.curricula q l.slot) 1 0 + count_by p v.added.items) - count_by p v.removed.items) 0 ≤ 1 → cond b ((cond (is_marked_in w.counts.now.curricula q l.slot) 1 0 + count_by p w.added.items) - count_by p w.removed.items) 0 ≡ 0
+          by true k = omega (arith, k, gone, ap (count_by p) added, ap (λ c. cond {A = ℕ} (is_marked_in c.curricula q l.slot) 1 0) counts)
           by false k = refl
 
       step : (qs : List ℕ) → Each (λ q. seen_curriculum i v q l.slot ≤ 1) qs → Each (λ q. in_slot (members i q) l.slot l ≡ true) qs → Each (λ q. seen_curriculum i w q l.slot ≡ 0) qs

@@ -5,6 +5,7 @@ use Rattle.std.proofs.lemmas.Bool.{cases_lt, ne_eqb, lt-ltb, le-ltb}
 use Rattle.std.proofs.lemmas.List.Sums.{sum_by-cons, sum_by-append, length-filter}
 use Rattle.ctt_problem.specs.Lists.{has}
 use Rattle.ctt_problem.specs.Belonging.{curricula_of}
+use Rattle.ctt_problem.specs.BitRows.{is_marked_in}
 use Rattle.ctt_problem.specs.Problem.{Problem, course_count, room_count, curriculum_count, slot_count, members, day_of, period_of}
 use Rattle.ctt_problem.specs.Timetable.{Fits, course_row}
 use Rattle.ctt_problem.specs.declared.placed.Placed.{Placed}
@@ -20,6 +21,7 @@ use Rattle.ctt_grid.specs.declared.later.Later.{Later}
 use Rattle.ctt_problem.proofs.BelongingLemmas.{curricula_fit}
 use Rattle.ctt_problem.proofs.MarkLemmas.{count_below_same}
 use Rattle.ctt_grid.proofs.CountedLemmas.{days_counted}
+use Rattle.ctt_grid.proofs.OnceLemmas.{number_there}
 
 pub turned_and : (a b : Bool) → (a && b) ≡ (b && a)
 turned_and true true = refl
@@ -70,7 +72,7 @@ module _ (i : Problem) (v : Later) (t : List Placed) (h : Sees i v t) where
 
   pub curriculum_is : Each (Fits i) t → (q : ℕ) → q < curriculum_count i → (s : ℕ) → seen_curriculum i v q s ≡ by_slot (members i q) t s
   curriculum_is fit q lq s = elim (cases_lt s (slot_count i)) [
-    | inl lt ↦ rw (lt-ltb s (slot_count i) lt) (seen_is (in_slot (members i q) s) (at v.counts.now.curricula q s 0) (h.counts.curricula.counts q s lq lt))
+    | inl lt ↦ rw (lt-ltb s (slot_count i) lt) (seen_is (in_slot (members i q) s) (cond (is_marked_in v.counts.now.curricula q s) 1 0) (number_there i h.base q s (is_marked_in v.counts.now.curricula q s) h.lawful lq (h.counts.curricula.slots q s lq)))
     | inr le ↦ rw (le-ltb s (slot_count i) le) (sym (none_there i (members i q) s t le (slots_fit i t fit)))
   ]
 
@@ -86,6 +88,7 @@ module _ (i : Problem) (v : Later) (t : List Placed) (h : Sees i v t) where
 pub sees_come : (i : Problem) (l : Placed) (t u : List Placed) (v w : Later) → IsMore l t u → Sees i v t → w.counts.now ≡ v.counts.now → w.removed.items ≡ v.removed.items → w.added.items ≡ v.added.items ++ l ∷ [] → Sees i w u
 sees_come i l t u v w more h counts removed added = record {
   base = h.base;
+  lawful = h.lawful;
   counts = subst (λ x. AreCounts i h.base x) (sym counts) h.counts;
   balance = λ f. omega (arith, more f, h.balance f, ap (sum_by f) removed, ap (sum_by f) added ∙ sum_by-append f v.added.items (l ∷ []), sum_by-cons f l []);
 }
@@ -94,6 +97,7 @@ sees_come i l t u v w more h counts removed added = record {
 pub sees_leave : (i : Problem) (l : Placed) (t u : List Placed) (v w : Later) → IsMore l u t → Sees i v t → w.counts.now ≡ v.counts.now → w.added.items ≡ v.added.items → w.removed.items ≡ v.removed.items ++ l ∷ [] → Sees i w u
 sees_leave i l t u v w more h counts added removed = record {
   base = h.base;
+  lawful = h.lawful;
   counts = subst (λ x. AreCounts i h.base x) (sym counts) h.counts;
   balance = λ f. omega (arith, more f, h.balance f, ap (sum_by f) added, ap (sum_by f) removed ∙ sum_by-append f v.removed.items (l ∷ []), sum_by-cons f l []);
 }

@@ -1,9 +1,7 @@
 -- Writes to a table.
-use Rattle.std.proofs.Common.{◌≡◌, ◌≢◌, ℕ, suc, ◌+◌, ◌*◌, ◌<◌, ◌≤◌, Bool, true, false, cond, ◌&&◌, ◌==◌, List, length, take, get_or, set, count_by, refl, ◌∙◌, sym, ap, ap₂, arith, inl, inr}
+use Rattle.std.proofs.Common.{◌≡◌, ◌≢◌, ℕ, suc, ◌+◌, ◌*◌, ◌<◌, ◌≤◌, Bool, true, false, cond, ◌&&◌, ◌==◌, List, length, get_or, set, refl, ◌∙◌, sym, ap, ap₂, arith, inl, inr}
 use Rattle.std.proofs.lemmas.Bool.{cases_Bool, cases_eq, cases_order, eq-eqb, ne_eqb, eqb-true, and_parts}
-use Rattle.std.proofs.lemmas.Bool.Decides.{nat_tests}
-use Rattle.std.proofs.lemmas.List.Sums.{sum_by_more, sum_by-take-le}
-use Rattle.ctt_grid.specs.Tables.{Grid, at, Adds, one_at, in_column}
+use Rattle.ctt_grid.specs.Tables.{Grid, at, Adds, one_at}
 use Rattle.std.proofs.lemmas.List.{get_or-set_same, get_or-set_other}
 use Rattle.std.proofs.Math.Nat.{mul-le-mul_right}
 
@@ -47,24 +45,3 @@ set_more old new row column n rows width is wrote = record { rows = rows; width 
           rw y (omega (arith, is, here)))
       | inr no' ↦ rw no' (omega arith)
     ]
-
--- one more row of a column
-pub column_more : (rows : List ℕ) (n row column : ℕ) → n < length rows → row ≡ get_or rows n row → (r k : ℕ) → in_column (take (n + 1) rows) column r k ≡ one_at row column r k + in_column (take n rows) column r k
-column_more rows n row column lt is r k =
-    ap (λ m. cond (k == column) m 0) (sum_by_more (λ q. cond (q == r) 1 0) rows n row lt ∙ ap (λ q. count_by (λ q. q == r) (take n rows) + cond (q == r) 1 0) (sym is))
-    ∙ by (k == column) (count_by (λ q. q == r) (take n rows)) (row == r) (r == row) (grind (arith, nat_tests))
-  where
-    by : (b : Bool) (m : ℕ) (x y : Bool) → x ≡ y → cond b (m + cond x 1 0) 0 ≡ cond (y && b) 1 0 + cond b m 0
-    by true m true y e = rw (sym e) (omega arith)
-    by true m false y e = rw (sym e) (omega arith)
-    by false m x true e = omega arith
-    by false m x false e = omega arith
-
--- the next row has not yet been counted as often as at the end
-pub one_left : (rows : List ℕ) (n row column : ℕ) → n < length rows → row ≡ get_or rows n row → in_column (take n rows) column row column + 1 ≤ in_column rows column row column
-one_left rows n row column lt is =
-    let more = column_more rows n row column lt is row column in
-    let one : one_at row column row column ≡ 1 = rw (eq-eqb row row refl, eq-eqb column column refl) refl in
-    let most : count_by (λ q. q == row) (take (n + 1) rows) ≤ count_by (λ q. q == row) rows = sum_by-take-le (λ q. cond (q == row) 1 0) rows (n + 1) in
-    let there : (m : ℕ) → cond (column == column) m 0 ≡ m = λ m. rw (eq-eqb column column refl) refl in
-    omega (arith, more, one, most, there (count_by (λ q. q == row) (take (n + 1) rows)), there (count_by (λ q. q == row) rows))

@@ -3,8 +3,10 @@ use Rattle.std.specs.Prelude.{◌≡◌, ◌≤◌, length, ℕ, ◌+◌, ◌-�
 use Rattle.std.specs.List.{AllByRecursion as Each}
 use Rattle.ctt_problem.specs.Lists.{count_below}
 use Rattle.ctt_problem.specs.Belonging.{curricula_of}
+use Rattle.ctt_problem.specs.BitRows.{is_marked_in}
 use Rattle.ctt_problem.specs.Problem.{Problem, slot_count, members, day_of}
 use Rattle.ctt_problem.specs.declared.placed.Placed.{Placed}
+use Rattle.ctt_rules.specs.Hard.{Lawful}
 use Rattle.ctt_grid.specs.Joining.{on_day, in_room, in_slot, joining_by}
 use Rattle.ctt_grid.specs.Tables.{at}
 use Rattle.ctt_grid.specs.Counts.{AreCounts}
@@ -29,7 +31,7 @@ seen_lectures v c = seen v (λ l. l.course == c) (at v.counts.now.lectures 0 c 0
 
 -- the number of lectures of curriculum q in slot s; 0 past the last slot
 abbrev pub seen_curriculum : Problem → Later → ℕ → ℕ → ℕ
-seen_curriculum i v q s = cond (nat_lt s (slot_count i)) (seen v (in_slot (members i q) s) (at v.counts.now.curricula q s 0)) 0
+seen_curriculum i v q s = cond (nat_lt s (slot_count i)) (seen v (in_slot (members i q) s) (cond (is_marked_in v.counts.now.curricula q s) 1 0)) 0
 
 -- the number of days on which course c has a lecture
 abbrev pub seen_days : Problem → Later → ℕ → ℕ
@@ -50,6 +52,7 @@ OneThere i v l = Each (λ q. seen_curriculum i v q l.slot ≤ 1) (curricula_of i
 -- the corrected counts are those of the timetable t
 pub record Sees (i : Problem) (v : Later) (t : List Placed) : Type 0 where
   pub base : List Placed
+  pub lawful : Lawful i base
   pub counts : AreCounts i base v.counts.now
   pub balance : (f : Placed → ℕ) → sum_by f t + sum_by f v.removed.items ≡ sum_by f base + sum_by f v.added.items
 

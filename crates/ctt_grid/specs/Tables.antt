@@ -1,5 +1,5 @@
 -- A table of a fixed size.
-use Rattle.std.specs.Prelude.{◌≡◌, ◌<◌, ◌≤◌, ℕ, ◌+◌, ◌*◌, cond, ◌&&◌, ◌==◌, List, get_or, count_by, refl}
+use Rattle.std.specs.Prelude.{◌≡◌, ◌<◌, ◌≤◌, ℕ, ◌+◌, ◌*◌, cond, ◌&&◌, ◌==◌, List, get_or, refl}
 use Rattle.std.specs.Coded.{Coded, code_by, coded×, coded_ℕ, coded_list}
 
 -- rows of one width, stored one after another
@@ -27,10 +27,6 @@ pub record Adds (old new : Grid ℕ) (w : ℕ → ℕ → ℕ) : Type 0 where
 -- 1 at one place, 0 elsewhere
 abbrev pub one_at : ℕ → ℕ → ℕ → ℕ → ℕ
 one_at row column r k = cond (r == row && k == column) 1 0
-
--- in one column, how often each row is listed; 0 elsewhere
-abbrev pub in_column : List ℕ → ℕ → ℕ → ℕ → ℕ
-in_column rows column r k = cond (k == column) (count_by (λ q. q == r) rows) 0
 
 -- each count is at most 2,000
 abbrev pub AreFew : Grid ℕ → Type 0

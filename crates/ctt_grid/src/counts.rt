@@ -1,12 +1,14 @@
 //! Counts of the lectures of a timetable.
 
-ghost use Rattle.std.specs.Prelude.{◌≡◌, ◌<◌, true, IfOk, []};
+ghost use Rattle.std.specs.Prelude.{◌≡◌, true, IfOk, []};
+ghost use Rattle.ctt_problem.specs.Belonging.{curricula_of};
+ghost use Rattle.ctt_problem.specs.BitRows.{AddsMarks};
 ghost use Rattle.ctt_problem.specs.Timetable.{Fits};
-ghost use Rattle.ctt_grid.specs.Counts.{AreCounts, HaveSizes, HaveRoom, HaveNone, HaveLecture, AddsLecture};
+ghost use Rattle.ctt_grid.specs.Counts.{AreCounts, HaveSizes, HaveRoom, HaveLecture, AddsLecture, TakesMarks, in_one_slot};
 
 use crate::table::Table;
-use crate::tally::{add_column, add_one, take_column, take_one};
-use ctt_problem::{CourseNo, Instance, Placed, SlotNo};
+use crate::tally::{add_one, mark_slot, take_one, unmark_slot};
+use ctt_problem::{BitRows, CourseNo, Instance, Placed, SlotNo};
 use std::alloc::{AllocError, Global};
 
 /// The counts from which the costs of a timetable are computed.
@@ -18,8 +20,9 @@ pub(crate) struct Counts {
     pub(crate) days: Table<u16>,
     /// The lectures of each course (row) in each room (column).
     pub(crate) rooms: Table<u16>,
-    /// The lectures of each curriculum (row) in each slot (column).
-    pub(crate) curricula: Table<u16>,
+    /// The slots in which each curriculum has a lecture: a row for each curriculum. A lawful
+    /// timetable has no second lecture of a curriculum in a slot, so this is also their number.
+    pub(crate) curricula: BitRows,
 }
 
 impl Counts {
@@ -36,7 +39,7 @@ impl Counts {
             lectures: Table::new(alloc, 1, courses, 0)?,
             days: Table::new(alloc, courses, instance.days() as usize, 0)?,
             rooms: Table::new(alloc, courses, instance.rooms() as usize, 0)?,
-            curricula: Table::new(alloc, curricula, slots, 0)?,
+            curricula: BitRows::new(alloc, curricula, slots)?,
         })
     }
 
@@ -56,8 +59,9 @@ impl Counts {
         requires fits { Fits instance.now lecture.now }
         requires sizes { HaveSizes instance.now self.old }
         requires room { HaveRoom self.old }
-        requires own { HaveNone instance.now lecture.now self.old }
-        ensures { AddsLecture instance.now lecture.now self.old self.new }
+        ensures counts { AddsLecture instance.now lecture.now self.old self.new }
+        ensures curricula { AddsMarks self.old.curricula self.new.curricula
+            (in_one_slot (curricula_of instance.now lecture.now.course) lecture.now.slot) }
     {
         instance.limits_hold();
         let course = lecture.course.get() as usize;
@@ -66,7 +70,7 @@ impl Counts {
         add_one(&mut self.days, course, day);
         add_one(&mut self.rooms, course, lecture.room.get() as usize);
         let curricula = instance.curricula_of(lecture.course);
-        add_column(&mut self.curricula, curricula, lecture.slot.get() as usize);
+        mark_slot(&mut self.curricula, curricula, lecture.slot);
     }
 
     /// Removes one lecture from the counts.
@@ -74,7 +78,9 @@ impl Counts {
         requires fits { Fits instance.now lecture.now }
         requires sizes { HaveSizes instance.now self.old }
         requires there { HaveLecture instance.now lecture.now self.old }
-        ensures { AddsLecture instance.now lecture.now self.new self.old }
+        ensures counts { AddsLecture instance.now lecture.now self.new self.old }
+        ensures curricula { TakesMarks self.old.curricula self.new.curricula
+            (in_one_slot (curricula_of instance.now lecture.now.course) lecture.now.slot) }
     {
         instance.limits_hold();
         let course = lecture.course.get() as usize;
@@ -83,6 +89,6 @@ impl Counts {
         take_one(&mut self.days, course, day);
         take_one(&mut self.rooms, course, lecture.room.get() as usize);
         let curricula = instance.curricula_of(lecture.course);
-        take_column(&mut self.curricula, curricula, lecture.slot.get() as usize);
+        unmark_slot(&mut self.curricula, curricula, lecture.slot);
     }
 }

@@ -174,13 +174,13 @@ impl<'a> Later<'a> {
         ensures value { result ≡ seen_curriculum instance.now self.now curriculum slot }
         ensures bound { result ≤ 5000000000 }
     {
-        let count = self
+        let busy = self
             .counts
             .curricula
-            .get(curriculum.get() as usize, slot.get() as usize);
+            .is_marked(curriculum.get() as usize, slot.get() as usize);
         let more = in_slot(instance, &self.added, curriculum, slot);
         let less = in_slot(instance, &self.removed, curriculum, slot);
-        (u64::from(count) + more).saturating_sub(less)
+        (u64::from(busy) + more).saturating_sub(less)
     }
 
     /// Adds a lecture and returns what it adds to the penalty.

@@ -1,11 +1,13 @@
-//! Updates of tables of counts.
+//! Updates of tables of counts and of marks.
 
-ghost use Rattle.std.specs.Prelude.{◌≡◌, ℕ, ◌+◌, ◌<◌, ◌≤◌, true};
+ghost use Rattle.std.specs.Prelude.{◌≡◌, ◌<◌, ◌≤◌, true};
 ghost use Rattle.std.specs.List.{AllByRecursion as Each};
-ghost use Rattle.ctt_grid.specs.Tables.{at, Adds, one_at, in_column};
+ghost use Rattle.ctt_problem.specs.BitRows.{AddsMarks};
+ghost use Rattle.ctt_grid.specs.Counts.{TakesMarks, in_one_slot};
+ghost use Rattle.ctt_grid.specs.Tables.{at, Adds, one_at};
 
 use crate::table::Table;
-use ctt_problem::CurriculumNo;
+use ctt_problem::{BitRows, CurriculumNo, SlotNo};
 
 /// Adds 1 to the count in a row and a column.
 pub(crate) fn add_one(counts: &mut Table<u16>, row: usize, column: usize)
@@ -29,28 +31,24 @@ pub(crate) fn take_one(counts: &mut Table<u16>, row: usize, column: usize)
     counts.set(row, column, count - 1);
 }
 
-/// Adds 1 in one column of each of these rows.
-pub(crate) fn add_column(counts: &mut Table<u16>, rows: &[CurriculumNo], column: usize)
-    requires rows { Each (λ r. r < counts.old.rows) rows.now }
-    requires column { column < counts.old.width }
-    requires few { (r : ℕ) → r < counts.old.rows
-        → in_column rows.now column r column + at counts.old r column 0 ≤ 1 }
-    ensures { Adds counts.old counts.new (in_column rows.now column) }
+/// Marks a slot in the rows of these curricula.
+pub(crate) fn mark_slot(table: &mut BitRows, curricula: &[CurriculumNo], slot: SlotNo)
+    requires curricula { Each (λ q. q < table.old.rows) curricula.now }
+    requires slot { slot < table.old.width }
+    ensures { AddsMarks table.old table.new (in_one_slot curricula.now slot) }
 {
-    for row in rows {
-        add_one(counts, row.get() as usize, column);
+    for curriculum in curricula {
+        table.mark(curriculum.get() as usize, slot.get() as usize);
     }
 }
 
-/// Subtracts 1 in one column of each of these rows.
-pub(crate) fn take_column(counts: &mut Table<u16>, rows: &[CurriculumNo], column: usize)
-    requires rows { Each (λ r. r < counts.old.rows) rows.now }
-    requires column { column < counts.old.width }
-    requires some { (r : ℕ) → r < counts.old.rows
-        → in_column rows.now column r column ≤ at counts.old r column 0 }
-    ensures { Adds counts.new counts.old (in_column rows.now column) }
+/// Unmarks a slot in the rows of these curricula.
+pub(crate) fn unmark_slot(table: &mut BitRows, curricula: &[CurriculumNo], slot: SlotNo)
+    requires curricula { Each (λ q. q < table.old.rows) curricula.now }
+    requires slot { slot < table.old.width }
+    ensures { TakesMarks table.old table.new (in_one_slot curricula.now slot) }
 {
-    for row in rows {
-        take_one(counts, row.get() as usize, column);
+    for curriculum in curricula {
+        table.unmark(curriculum.get() as usize, slot.get() as usize);
     }
 }

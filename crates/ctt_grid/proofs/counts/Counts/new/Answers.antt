@@ -18,9 +18,9 @@ returns c =
       lectures = (a.rows.0, a.rows.1 ∙ courses);
       days = (b.rows.0 ∙ courses, b.rows.1 ∙ c.days.ensures.exact);
       rooms = (d.rows.0 ∙ courses, d.rows.1 ∙ c.rooms.ensures.exact);
-      curricula = (e.rows.0 ∙ curricula, e.rows.1 ∙ slots);
+      curricula = (e.size.0 ∙ curricula, e.size.1 ∙ slots);
     })
     (λ r k lr lk. a.cells r k lr (omega (arith, lk, courses)))
     (λ r k lr lk. b.cells r k (omega (arith, lr, courses)) (omega (arith, lk, c.days.ensures.exact)))
     (λ r k lr lk. d.cells r k (omega (arith, lr, courses)) (omega (arith, lk, c.rooms.ensures.exact)))
-    (λ r k lr lk. e.cells r k (omega (arith, lr, curricula)) (omega (arith, lk, slots)))
+    e.marks

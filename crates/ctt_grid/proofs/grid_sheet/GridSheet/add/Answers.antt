@@ -20,7 +20,7 @@ joining_of-joining-requires-clause-own c =
     let g = c.self.inside.tables in
     let t = listed i g.rooms in
     let lawful : Lawful i (with l t) = subst (λ b. Lawful b.problem (with l b.list)) (sym c.self.view_is) c.requires.lawful in
-    none_yet i l t (with l t) c.now.result (more_with l t) c.self.invariant.tables_are.lawful lawful (sees_now i t c.now.result g.counts c.self.invariant.tables_are.counts_are c.now.ensures.counts c.now.ensures.removed c.now.ensures.added)
+    none_yet i l t (with l t) c.now.result (more_with l t) c.self.invariant.tables_are.lawful lawful (sees_now i t c.now.result g.counts c.self.invariant.tables_are.lawful c.self.invariant.tables_are.counts_are c.now.ensures.counts c.now.ensures.removed c.now.ensures.added)
 
 pub invariant_of-self : goal.invariant_of-self
 invariant_of-self c =
@@ -30,7 +30,7 @@ invariant_of-self c =
     let t = listed i g.rooms in
     let fits : Fits i l = subst (λ b. Fits b.problem l) (sym c.self.view_is) c.requires.fits in
     let lawful : Lawful i (with l t) = subst (λ b. Lawful b.problem (with l b.list)) (sym c.self.view_is) c.requires.lawful in
-    let sees : Sees i c.now.result t = sees_now i t c.now.result g.counts c.self.invariant.tables_are.counts_are c.now.ensures.counts c.now.ensures.removed c.now.ensures.added in
+    let sees : Sees i c.now.result t = sees_now i t c.now.result g.counts c.self.invariant.tables_are.lawful c.self.invariant.tables_are.counts_are c.now.ensures.counts c.now.ensures.removed c.now.ensures.added in
     record {
       tables_are = c.add.ensures.tables;
       cost_is = costs_more i t (with l t) l c.now.result c.joining_of-joining.result (more_with l t) c.self.invariant.tables_are.lawful lawful fits sees c.joining_of-joining.ensures.value c.self.inside.cost c.with_lecture-self-inside.result c.self.invariant.cost_is c.with_lecture-self-inside.ensures ∙ ap (penalty i) (sym c.add.ensures.list);

@@ -24,7 +24,7 @@ joining_of-joining-requires-clause-own c =
     let there : room_at l.course l.slot t ≡ Some l.room = subst (λ b. room_at l.course l.slot b.list ≡ Some l.room) (sym c.self.view_is) c.requires.there in
     let more = more_without l.course l.slot l.room t c.self.invariant.tables_are.lawful.timetable.ascending there in
     let counted : AreCounts i left c.remove.new.self.counts = subst (λ u. AreCounts i u c.remove.new.self.counts) c.remove.ensures.list c.remove.ensures.tables.counts_are in
-    none_yet i l left t c.now.result more (without_lawful i t l.course l.slot c.self.invariant.tables_are.lawful) c.self.invariant.tables_are.lawful (sees_now i left c.now.result c.remove.new.self.counts counted c.now.ensures.counts c.now.ensures.removed c.now.ensures.added)
+    none_yet i l left t c.now.result more (without_lawful i t l.course l.slot c.self.invariant.tables_are.lawful) c.self.invariant.tables_are.lawful (sees_now i left c.now.result c.remove.new.self.counts (without_lawful i t l.course l.slot c.self.invariant.tables_are.lawful) counted c.now.ensures.counts c.now.ensures.removed c.now.ensures.added)
 
 pub invariant_of-self : goal.invariant_of-self
 invariant_of-self c =
@@ -36,7 +36,7 @@ invariant_of-self c =
     let there : room_at l.course l.slot t ≡ Some l.room = subst (λ b. room_at l.course l.slot b.list ≡ Some l.room) (sym c.self.view_is) c.requires.there in
     let more = more_without l.course l.slot l.room t c.self.invariant.tables_are.lawful.timetable.ascending there in
     let counted : AreCounts i left c.remove.new.self.counts = subst (λ u. AreCounts i u c.remove.new.self.counts) c.remove.ensures.list c.remove.ensures.tables.counts_are in
-    let sees : Sees i c.now.result left = sees_now i left c.now.result c.remove.new.self.counts counted c.now.ensures.counts c.now.ensures.removed c.now.ensures.added in
+    let sees : Sees i c.now.result left = sees_now i left c.now.result c.remove.new.self.counts (without_lawful i t l.course l.slot c.self.invariant.tables_are.lawful) counted c.now.ensures.counts c.now.ensures.removed c.now.ensures.added in
     record {
       tables_are = c.remove.ensures.tables;
       cost_is = costs_less i left t l c.now.result c.joining_of-joining.result more (without_lawful i t l.course l.slot c.self.invariant.tables_are.lawful) c.self.invariant.tables_are.lawful fits sees c.joining_of-joining.ensures.value c.self.inside.cost c.without_lecture-self-inside.result c.self.invariant.cost_is c.without_lecture-self-inside.ensures ∙ ap (penalty i) (sym c.remove.ensures.list);

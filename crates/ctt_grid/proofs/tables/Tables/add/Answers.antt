@@ -1,9 +1,8 @@
 use Rattle.std.proofs.Common.{◌≡◌}
 use Rattle.ctt_problem.specs.Timetable.{with}
 use Rattle.ctt_grid.specs.Grids.{listed, AreTables}
-use Rattle.ctt_grid.proofs.CountsLemmas.{counts_more, have_none}
+use Rattle.ctt_grid.proofs.CountsLemmas.{counts_more}
 use Rattle.ctt_grid.proofs.FewLemmas.{have_room}
-use Rattle.ctt_grid.proofs.MeetingLemmas.{one_there}
 use Rattle.ctt_board.proofs.MoreLemmas.{more_with}
 use Rattle.ctt_grid.proofs.SheetLemmas.{places, made_of}
 use Rattle.ctt_grid.proofs.tables.Tables.add.Goals.{After-lay}
@@ -11,13 +10,6 @@ use Rattle.ctt_grid.proofs.tables.Tables.add.Goals as goal
 
 pub add-requires-clause-room : goal.add-requires-clause-room
 add-requires-clause-room c = have_room c.args.instance.now (listed c.args.instance.now c.args.self.now.rooms) c.args.self.now.counts c.requires.tables.counts_are c.requires.tables.lawful.timetable c.limits_hold.ensures
-
-pub add-requires-clause-own : goal.add-requires-clause-own
-add-requires-clause-own c =
-    let i = c.args.instance.now in
-    let l = c.args.lecture.now in
-    let t = listed i c.args.self.now.rooms in
-    have_none i l t (with l t) (more_with l t) c.requires.fits c.args.self.now.counts c.requires.tables.counts_are (λ q lt. one_there i (with l t) q l.slot c.requires.lawful lt)
 
 module _ (c : After-lay) where
   whole : AreTables c.args.instance.now c.lay.new.self × (listed c.args.instance.now c.lay.new.self.rooms ≡ with c.args.lecture.now (listed c.args.instance.now c.args.self.now.rooms))
@@ -27,7 +19,7 @@ module _ (c : After-lay) where
       let g = c.args.self.now in
       let t = listed i g.rooms in
       let laid = c.lay.ensures.places t (places i g c.add.new.self c.requires.tables) c.requires.empty c.requires.lawful in
-      made_of i (with l t) c.lay.new.self c.add.new.self c.requires.lawful laid c.lay.ensures.counts (counts_more i l t (with l t) (more_with l t) c.requires.fits g.counts c.add.new.self c.add.ensures c.requires.tables.counts_are)
+      made_of i (with l t) c.lay.new.self c.add.new.self c.requires.lawful laid c.lay.ensures.counts (counts_more i l t (with l t) (more_with l t) c.requires.fits g.counts c.add.new.self c.add.ensures.counts c.add.ensures.curricula c.requires.tables.counts_are)
 
 pub returns-clause-tables : goal.returns-clause-tables
 returns-clause-tables c = (whole c).0

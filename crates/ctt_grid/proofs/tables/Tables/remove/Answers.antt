@@ -21,7 +21,7 @@ module _ (c : After-lift) where
       let left = without l.course l.slot t in
       let more = more_without l.course l.slot l.room t c.requires.tables.lawful.timetable.ascending c.requires.there in
       let lifted = c.lift.ensures.places t (places i g c.take.new.self c.requires.tables) c.requires.there c.requires.tables.lawful in
-      made_of i left c.lift.new.self c.take.new.self (without_lawful i t l.course l.slot c.requires.tables.lawful) lifted c.lift.ensures.counts (counts_less i l left t more c.requires.fits c.take.new.self g.counts c.take.ensures c.requires.tables.counts_are)
+      made_of i left c.lift.new.self c.take.new.self (without_lawful i t l.course l.slot c.requires.tables.lawful) lifted c.lift.ensures.counts (counts_less i l left t more c.requires.fits c.take.new.self g.counts c.take.ensures.counts c.requires.tables.lawful c.take.ensures.curricula c.requires.tables.counts_are)
 
 pub returns-clause-tables : goal.returns-clause-tables
 returns-clause-tables c = (whole c).0
