@@ -264,7 +264,9 @@ def texts_of(name):
 def worked_desks():
     """Each worked desk: its name, its opening, its script, a side file with its option or none, and whether its first planner goes
     away when another one begins, with the draft that he has open."""
-    texts, scripts = texts_of("texts.rt"), {**texts_of("worked.rt"), **texts_of("blocked.rt")}
+    texts, scripts = texts_of("texts.rt"), {}
+    for name in ("worked.rt", "blocked.rt", "offered.rt"):
+        scripts.update(texts_of(name))
     with open(os.path.join(TRIALS, "tables.rt"), encoding="utf-8") as file:
         text = file.read()
     # each place that names the ways of a desk, but the one that says what they are
