@@ -27,7 +27,7 @@ use std::marker::Model;
 #[derive(Drop)]
 pub struct Drafting<'i, S: Timetable, J: Naming> {
     pub(crate) planner: Planner<S, J>,
-    pub(crate) draft: Draft<'i, S>,
+    pub(crate) draft: Box<Draft<'i, S>>,
     pub(crate) since: Front<J>,
 }
 
@@ -42,12 +42,12 @@ impl<'i, S: Timetable, J: Naming> Model for Drafting<'i, S, J> {
     ghost view = { λ d. record {
       planner = d.planner;
       since = d.since;
-      base = d.draft.base;
-      asked = d.draft.asked;
+      base = d.draft.value.base;
+      asked = d.draft.value.asked;
     } };
 
-    ghost invariant = { λ d. (d.draft.problem ≡ J.problem)
-        × (d.draft.base ≡ after J.problem J.opening d.since)
+    ghost invariant = { λ d. (d.draft.value.problem ≡ J.problem)
+        × (d.draft.value.base ≡ after J.problem J.opening d.since)
         × IsPrefix d.since d.planner.front };
 }
 
@@ -65,10 +65,10 @@ fn asked_again<'i, S: Sheet<'i>>(
 }
 
 /// Ends a draft, and returns its calls with their replies. Allocates nothing.
-pub(crate) fn end_draft<'i, S: Sheet<'i>>(draft: Draft<'i, S>) -> AskedCalls
-    ensures { result ≡ draft.entry.asked }
+pub(crate) fn end_draft<'i, S: Sheet<'i>>(draft: Box<Draft<'i, S>>) -> AskedCalls
+    ensures { result ≡ draft.entry.value.asked }
 {
-    let Work { asked, changes } = draft.finish();
+    let Work { asked, changes } = Box::into_inner(draft).finish();
     let_go(changes);
     AskedCalls::new(asked)
 }

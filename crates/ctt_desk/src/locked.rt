@@ -157,22 +157,22 @@ impl<'i, S: Sheet<'i>, J: Naming> Locked<S, J> {
         number: PlannerNo,
         committed: u64,
         front: &mut Front<J>,
-        draft: Draft<'i, S>,
-    ) -> Result<(), (Draft<'i, S>, Cause)>
-        requires problem { draft.problem ≡ J.problem }
+        draft: Box<Draft<'i, S>>,
+    ) -> Result<(), (Box<Draft<'i, S>>, Cause)>
+        requires problem { draft.value.problem ≡ J.problem }
         requires planner { number < J.planners }
         ensures legal { Legal J.problem J.opening self.old }
         ensures fresh { IfOk result (λ _.
-            IsFreshAt J.problem J.opening self.old number committed draft.entry) }
+            IsFreshAt J.problem J.opening self.old number committed draft.entry.value) }
         ensures journal { IfOk result (λ _.
-            self.new ≡ self.old ++ entry_of number draft.entry.asked ∷ []) }
+            self.new ≡ self.old ++ entry_of number draft.entry.value.asked ∷ []) }
         ensures front { IfOk result (λ _. front.new ≡ self.new) }
         ensures begins { IfOk result (λ _. IsPrefix front.old self.old) }
         ensures seen { Legal J.problem J.opening front.new }
         ensures err { IfErr result (λ refused. (self.new ≡ self.old)
             × (refused.0 ≡ draft.entry)
             × IsCause J.problem J.opening self.old number committed front.old front.new
-            draft.entry refused.1) }
+            draft.entry.value refused.1) }
     {
         if !front.begins(&self.front) {
             return Err((draft, Cause::NotYours(self.front.len())));
@@ -213,13 +213,13 @@ impl<'i, S: Sheet<'i>, J: Naming> Locked<S, J> {
         &mut self,
         rt: &R,
         number: PlannerNo,
-        draft: Draft<'i, S>,
-    ) -> Result<(), (Draft<'i, S>, Cause)>
-        requires problem { draft.problem ≡ J.problem }
+        draft: Box<Draft<'i, S>>,
+    ) -> Result<(), (Box<Draft<'i, S>>, Cause)>
+        requires problem { draft.value.problem ≡ J.problem }
         requires planner { number < J.planners }
-        requires settles { Settles draft (after J.problem J.opening self.old) }
+        requires settles { Settles draft.value (after J.problem J.opening self.old) }
         ensures journal { IfOk result (λ _.
-            self.new ≡ self.old ++ entry_of number draft.entry.asked ∷ []) }
+            self.new ≡ self.old ++ entry_of number draft.entry.value.asked ∷ []) }
         ensures err { IfErr result (λ refused. (self.new ≡ self.old)
             × (refused.0 ≡ draft.entry) × (refused.1 ≡ OutOfMemory)) }
     {
@@ -230,7 +230,7 @@ impl<'i, S: Sheet<'i>, J: Naming> Locked<S, J> {
         let Some(front) = extend(&self.front, &self.head, number, &draft) else {
             return Err((draft, Cause::NoMemory));
         };
-        let work = draft.finish();
+        let work = Box::into_inner(draft).finish();
         work.settle(&mut self.sheet);
         self.sheet.lawful();
         let Work { asked, changes } = work;

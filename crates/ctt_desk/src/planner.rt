@@ -248,12 +248,13 @@ fn stale_on<'i, S: Sheet<'i>, J: Naming>(draft: &Draft<'i, S>, shown: &Shown<S, 
 fn draft_on<'i, S: Sheet<'i>, J: Naming>(
     alloc: Global,
     shown: &Shown<S, J>,
-) -> Result<Draft<'i, S>, NoMemory>
-    ensures problem { IfOk result (λ draft. draft.problem ≡ shown.now.problem) }
-    ensures base { IfOk result (λ draft. draft.base ≡ shown.now.list) }
-    ensures asked { IfOk result (λ draft. draft.asked ≡ []) }
+) -> Result<Box<Draft<'i, S>>, NoMemory>
+    ensures problem { IfOk result (λ draft. draft.value.problem ≡ shown.now.problem) }
+    ensures base { IfOk result (λ draft. draft.value.base ≡ shown.now.list) }
+    ensures asked { IfOk result (λ draft. draft.value.asked ≡ []) }
 {
-    Draft::open(alloc, &shown.sheet)
+    let draft = Draft::open(alloc, &shown.sheet)?;
+    Ok(Box::new(alloc, draft)?)
 }
 
 /// Answers a look at a sheet.

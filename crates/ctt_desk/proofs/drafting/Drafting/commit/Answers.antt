@@ -30,7 +30,7 @@ same_draft n k f p since d number committed front = ap (λ x. draft_of x since d
 
 pub commit-outcome-requires : goal.commit-outcome-requires
 commit-outcome-requires g c κs =
-    let of : c.self.inside.draft.problem ≡ g.J.Naming.problem = c.self.invariant.0 in
+    let of : c.self.inside.draft.value.problem ≡ g.J.Naming.problem = c.self.invariant.0 in
     let one : c.number-number.result < g.J.Naming.planners = omega (arith, c.number-number.ensures.number, c.number-number.ensures.of_desk) in
     search rules
 
@@ -43,7 +43,7 @@ returns-in-Ok-clause-ok g c =
     let committed = c.committed-committed.ensures.committed in
     let front = c.front-front.ensures.same in
     let p = c.self.inside.planner in
-    let d = c.self.inside.draft in
+    let d = c.self.inside.draft.value in
     let since = c.self.inside.since in
     let v = draft_of (planner_of n k c.front-front.result) since d in
     let f : c.with_receipt.result.1 ≡ c.commit-outcome.new.front = c.with_receipt.ensures.receipt in
@@ -76,7 +76,7 @@ returns-in-NotYours-clause-err g c =
     let number = c.number-number.ensures.number in
     let committed = c.committed-committed.ensures.committed in
     let p = c.self.inside.planner in
-    let d = c.self.inside.draft in
+    let d = c.self.inside.draft.value in
     let since = c.self.inside.since in
     let v = draft_of (planner_of n k c.front-front.result) since d in
     let f = c.commit-outcome.new.front in

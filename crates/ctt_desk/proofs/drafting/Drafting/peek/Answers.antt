@@ -1,4 +1,4 @@
-use Rattle.std.proofs.Common.{rules, ◌≡◌, List, Result, Ok, Err, sym, subst}
+use Rattle.std.proofs.Common.{rules, ◌≡◌, ◌∙◌, List, Result, Ok, Err, sym, ap, subst}
 use Rattle.std.specs.Prelude.{IfOk}
 use Rattle.ctt_problem.specs.Problem.{Problem, IsProblem}
 use Rattle.ctt_problem.specs.declared.placed.Placed.{Placed}
@@ -8,6 +8,7 @@ use Rattle.ctt_edits.specs.Looks.{LookFits, shown}
 use Rattle.ctt_edits.specs.declared.call.Call.TheVariants.{Look as Looks}
 use Rattle.ctt_edits.specs.declared.looks.Look.{Look}
 use Rattle.ctt_edits.specs.declared.reply.Reply.{Reply}
+use Rattle.ctt_draft.specs.DraftValues.{DraftValue}
 use Rattle.ctt_desk.specs.Planners.{present_of}
 use Rattle.ctt_desk.proofs.drafting.Drafting.peek.Goals as goal
 
@@ -18,7 +19,7 @@ told_fits i t look (Err e) is fits = tt
 
 pub peek-requires : goal.peek-requires
 peek-requires g c κs =
-    let fits : LookFits c.self.inside.draft.problem c.args.look.now = subst (λ i. LookFits i c.args.look.now) (sym c.self.invariant.0) c.requires in
+    let fits : LookFits c.deref-3.result.now.problem c.args.look.now = subst (λ i. LookFits i c.args.look.now) (sym (ap (λ (d : DraftValue). d.problem) c.deref-3.ensures ∙ c.self.invariant.0)) c.requires in
     search rules
 
 pub returns-clause-fits : goal.returns-clause-fits

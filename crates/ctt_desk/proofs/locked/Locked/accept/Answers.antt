@@ -1,5 +1,6 @@
 use Rattle.std.proofs.Common.{rules, ◌≡◌, ◌<◌, ◌++◌, ◌∷◌, [], length, arith, ◌+◌, slice_set, sym, ap, ◌∙◌, subst, List}
-use Rattle.ctt_draft.specs.DraftValues.{Settles}
+use Rattle.ctt_draft.specs.Drafts.{calls_of, changes}
+use Rattle.ctt_draft.specs.DraftValues.{DraftValue, Settles}
 use Rattle.ctt_draft.specs.declared.asked.Asked.{Asked}
 use Rattle.ctt_core.specs.Runs.{after, Legal}
 use Rattle.ctt_core.specs.declared.journal.JournalEntry.{JournalEntry}
@@ -21,28 +22,30 @@ pub new-update-requires : goal.new-update-requires
 new-update-requires g c =
     let i = g.J.Naming.problem in
     let t0 = g.J.Naming.opening in
-    let d = c.args.draft in
+    let d = c.args.draft.value in
     let before : List JournalEntry = c.again.result in
     let is : before ≡ c.args.self.now = c.again.ensures.same ∙ c.self.invariant.2 ∙ c.self.view_is in
     let settles : Settles d (after i t0 before) = subst (λ (j : List JournalEntry). Settles d (after i t0 j)) (sym is) c.requires.settles in
     let told : c.in-Some.front ≡ c.self.inside.front ++ entry_of c.args.number d.asked ∷ [] = search rules in
     let longer : c.again-2.result ≡ before ++ entry_of c.args.number d.asked ∷ [] = c.again-2.ensures.same ∙ told ∙ ap (λ (l : List JournalEntry). l ++ entry_of c.args.number d.asked ∷ []) (sym c.again.ensures.same) in
-    leads_more i t0 before c.again-2.result c.args.number d c.finish-work.result.changes.items c.requires.problem settles c.finish-work.ensures.changes longer
+    let made : c.finish-work.result.changes.items ≡ changes d.problem d.base (calls_of d.asked) = c.finish-work.ensures.changes ∙ ap (λ (x : DraftValue). changes x.problem x.base (calls_of x.asked)) c.into_inner.ensures in
+    leads_more i t0 before c.again-2.result c.args.number d c.finish-work.result.changes.items c.requires.problem settles made longer
 
 pub invariant_of-self-2 : goal.invariant_of-self-2
 invariant_of-self-2 g c =
     let i = g.J.Naming.problem in
     let t0 = g.J.Naming.opening in
-    let d = c.args.draft in
+    let d = c.args.draft.value in
     let e : JournalEntry = entry_of c.args.number d.asked in
     let h : List JournalEntry = c.self.inside.journal.items in
     let all : List JournalEntry = c.push.new.self.items in
     let entered : all ≡ h ++ entry_of c.args.number c.finish-work.result.asked.items ∷ [] = search rules in
-    let longer : all ≡ h ++ e ∷ [] = entered ∙ ap (λ (xs : List Asked). h ++ entry_of c.args.number xs ∷ []) c.finish-work.ensures.asked in
+    let longer : all ≡ h ++ e ∷ [] = entered ∙ ap (λ (xs : List Asked). h ++ entry_of c.args.number xs ∷ []) (c.finish-work.ensures.asked ∙ ap (λ (x : DraftValue). x.asked) c.into_inner.ensures) in
     let told : c.in-Some.front ≡ c.self.inside.front ++ e ∷ [] = search rules in
     let front : c.in-Some.front ≡ all = told ∙ ap (λ (l : List JournalEntry). l ++ e ∷ []) c.self.invariant.2 ∙ sym longer in
     let settles : Settles d (after i t0 h) = subst (λ (j : List JournalEntry). Settles d (after i t0 j)) (sym c.self.view_is) c.requires.settles in
-    let leads : Leads i t0 c.finish-work.result.changes.items h all = leads_more i t0 h all c.args.number d c.finish-work.result.changes.items c.requires.problem settles c.finish-work.ensures.changes longer in
+    let made : c.finish-work.result.changes.items ≡ changes d.problem d.base (calls_of d.asked) = c.finish-work.ensures.changes ∙ ap (λ (x : DraftValue). changes x.problem x.base (calls_of x.asked)) c.into_inner.ensures in
+    let leads : Leads i t0 c.finish-work.result.changes.items h all = leads_more i t0 h all c.args.number d c.finish-work.result.changes.items c.requires.problem settles made longer in
     let standing : Standing i (g.S.Rooms.problem c.settle.new.sheet) t0 (g.S.Rooms.list c.settle.new.sheet) all =
     stands_more i (g.S.Rooms.problem c.self.inside.sheet) (g.S.Rooms.problem c.settle.new.sheet) t0 (g.S.Rooms.list c.self.inside.sheet) (g.S.Rooms.list c.settle.new.sheet) h all c.finish-work.result.changes.items c.self.invariant.0 leads
     (subst (Legal i t0) (c.again-2.ensures.same ∙ front) c.again-2.ensures.legal) c.settle.ensures.problem c.settle.ensures.list c.lawful-2.ensures
