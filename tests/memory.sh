@@ -168,7 +168,7 @@ line_of_one() {
     return 1
 }
 
-try_trials 'the trials' "$trials" 29
+try_trials 'the trials' "$trials" 32
 try_trials 'the trials of the program' "$program_trials" 34
 of_trials=$((passed + failed))
 done_without=0
