@@ -1,6 +1,6 @@
 -- The value of a desk: its state, its answers and its next state, none of which depends on a run; a
 -- law says that the answers are those of the reference desk.
-use Rattle.std.specs.Prelude.{ℕ, ◌+◌, ◌-◌, ◌^◌, ◌<◌, ◌≡◌, ◌⊎◌, true, List, [], ◌∷◌, ◌++◌, length, take, Option, Some, None, slice_index_or, slice_set, IfSome}
+use Rattle.std.specs.Prelude.{ℕ, ◌+◌, ◌-◌, ◌^◌, ◌<◌, ◌≤◌, ◌≡◌, ◌⊎◌, true, List, [], ◌∷◌, ◌++◌, length, take, Option, Some, None, slice_index_or, slice_set, IfSome}
 use Rattle.ctt_problem.specs.Problem.{Problem}
 use Rattle.ctt_problem.specs.declared.placed.Placed.{Placed}
 use Rattle.ctt_rules.specs.Hard.{Lawful}
@@ -143,13 +143,21 @@ goes_on v _ _ = v
 abbrev pub IsAnswerTo : DeskValue → Event → Answer → Type 0
 IsAnswerTo v event answer = (answer ≡ answer_of v event) ⊎ ((answer ≡ NoMemory) × (may_want event (answer_of v event) ≡ true))
 
+-- if no draft was accepted since the draft's snapshot was taken, this is the desk's timetable, of n
+-- accepted drafts
+pub record IsCounted (list : List Placed) (n : ℕ) (d : OpenValue) : Type 0 where
+  pub since : d.since ≤ n
+  pub base : d.since ≡ n → d.draft.base ≡ list
+
 -- the invariant of a desk: its timetable and its open drafts are of its instance, its opening is
--- lawful, and it has fewer than 2^16 planners
-pub record IsDesk (i sheet_problem : Problem) (opening : List Placed) (drafts : List (Option OpenValue)) : Type 0 where
+-- lawful, it has fewer than 2^16 planners, and a draft since whose snapshot none was accepted has
+-- the timetable as its snapshot
+pub record IsDesk (i sheet_problem : Problem) (opening list : List Placed) (journal : List JournalEntry) (drafts : List (Option OpenValue)) : Type 0 where
   pub same : sheet_problem ≡ i
   pub opening_lawful : Lawful i opening
   pub few : length drafts < 2 ^ 16
   pub drafts_of : (p : ℕ) → IfSome (draft_at drafts p) (λ d. d.draft.problem ≡ i)
+  pub counted : (p : ℕ) → IfSome (draft_at drafts p) (IsCounted list (length journal))
 
 -- there is a draft, and it can be settled on the desk's timetable
 abbrev pub IsFresh : DeskValue → Option OpenValue → Type 0

@@ -63,7 +63,8 @@ impl<'i, S: Timetable> Model for Desk<'i, S> {
     } };
 
     ghost invariant = { λ d.
-        IsDesk d.instance.now (S.problem d.sheet) d.opening.items d.drafts.items };
+        IsDesk d.instance.now (S.problem d.sheet) d.opening.items (S.list d.sheet)
+        d.journal.items d.drafts.items };
 }
 
 /// Returns a list with `None`, no draft, for each planner.

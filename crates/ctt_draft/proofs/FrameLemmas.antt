@@ -18,7 +18,8 @@ use Rattle.ctt_edits.specs.declared.call.Call.{Call}
 use Rattle.ctt_edits.specs.declared.row.Row.{Row}
 use Rattle.ctt_edits.proofs.CallLemmas.{reply_same, cells_same}
 use Rattle.ctt_edits.proofs.ReadLemmas.{AgreeOn, agree_on}
-use Rattle.ctt_draft.specs.Drafts.{after_call, replies, made, changes, all_read_course, all_read_slot, all_reads, same_lecture, same_list, differs, stale}
+use Rattle.ctt_draft.specs.DraftValues.{DraftValue, IsTold, Settles}
+use Rattle.ctt_draft.specs.Drafts.{calls_of, after_call, replies, made, changes, all_read_course, all_read_slot, all_reads, same_lecture, same_list, differs, stale}
 use Rattle.ctt_draft.specs.Laws.{DraftFrame, SettlingFits}
 use Rattle.ctt_draft.proofs.CallRuns.{lawful_after_call, whole_is, changes_fit}
 
@@ -77,6 +78,14 @@ differs_by false t u r h = elim (cases_Bool (same_list (row r t) (row r u))) [
   | inr n ↦ sym (ap not n)
 ]
 
+-- no row of a timetable differs from itself, so nothing is stale there
+pub none_stale : (i : Problem) (t : List Placed) (calls : List Call) → stale i t t calls ≡ None
+none_stale i t calls = none (all_reads i calls)
+  where
+    none : (rows : List Row) → find (differs t t) rows ≡ None
+    none [] = refl
+    none (r ∷ rows) = rw (same_list_refl (row r t)) (none rows)
+
 first_none : {X : Type 0} (p : X → Bool) (xs : List X) → find p xs ≡ None → Each (λ x. p x ≡ false) xs
 first_none p [] h = tt
 first_none p (x ∷ xs) h = elim (cases_Bool (p x)) [
@@ -101,3 +110,9 @@ draft_frame i base now calls h k f fresh =
 pub settling_fits : SettlingFits
 settling_fits i base now calls h k f fresh =
     subst (λ list. ChangesFit i list now) (draft_frame i base now calls h k f fresh).changes_same (changes_fit i now calls k f)
+
+-- a draft can be settled on its snapshot
+pub settles_at_once : (d : DraftValue) → Lawful d.problem d.base → IsTold d.problem d.base d.asked → Settles d d.base
+settles_at_once d h told =
+    let none = none_stale d.problem d.base (calls_of d.asked) in
+    record { fit = settling_fits d.problem d.base d.base (calls_of d.asked) h h told.fit none; same = draft_frame d.problem d.base d.base (calls_of d.asked) h h told.fit none }

@@ -86,8 +86,9 @@ impl<'i, S: Sheet<'i>> Desk<'i, S> {
         match &self.drafts[place] {
             None => Answer::NoDraft,
             Some(drafting) => {
-                let stale = drafting.draft.stale(&self.sheet).unwrap();
-                let behind = (self.journal.len() as u64).saturating_sub(drafting.since);
+                let accepted = self.journal.len() as u64;
+                let stale = drafting.stale(&self.sheet, accepted);
+                let behind = accepted.saturating_sub(drafting.since);
                 Answer::Draft(Standing::of(&drafting.draft, behind, stale))
             }
         }
@@ -156,7 +157,7 @@ impl<'i, S: Sheet<'i>> Desk<'i, S> {
         let place = planner.get() as usize;
         let found = match &self.drafts[place] {
             None => return Answer::NoDraft,
-            Some(drafting) => drafting.draft.stale(&self.sheet).unwrap(),
+            Some(drafting) => drafting.stale(&self.sheet, self.journal.len() as u64),
         };
         match found {
             Some(row) => {

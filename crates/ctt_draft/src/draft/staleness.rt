@@ -34,6 +34,16 @@ impl<'i, S: Sheet<'i>> Draft<'i, S> {
         Ok(None)
     }
 
+    /// Computes nothing: its contract says that the draft is not stale on its snapshot, and that its
+    /// changes fit there.
+    pub fn fresh(&self)
+        ensures row { stale self.now.problem self.now.base self.now.base (calls_of self.now.asked)
+            ≡ None }
+        ensures settles { Settles self.now self.now.base }
+    {
+        self.lawful();
+    }
+
     /// Brings the draft up to date: if none of the rows that it read differs on a sheet, that
     /// sheet's timetable becomes its snapshot, and its calls are unchanged. Otherwise returns the
     /// first row that differs, and the draft is unchanged. The draft is also unchanged if memory
