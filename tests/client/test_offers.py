@@ -12,7 +12,7 @@ from office.instance import read_instance, read_solution
 from office.keys import KeyNames
 from office.labels import Labels, Name
 from office.offers import Offer, read_offers, read_slots
-from office.reasons import short_reason, short_swap_reason, slot_reason, swap_reason
+from office.reasons import reason, short_reason, slot_reason
 from office.scope import Closure, Scope
 from office.timetable import Lecture, Timetable
 from office.week import View
@@ -81,9 +81,17 @@ class Told(OfficeTest):
         found = slot_reason(self.instance, course, slot, fault)
         return said(found), said(short_reason(self.instance, course, slot, fault))
 
-    def swap_told(self, fault, slot, course="geo", old=(0, 1)):
-        found = swap_reason(self.now, course, old, slot, fault)
-        return said(found), said(short_swap_reason(self.now, course, slot, fault))
+    def swap_told(self, fault, slot, course="geo", old=(0, 1), **others):
+        """What is said where the desk refuses each swap for one fault, but those with others."""
+        start, end = f"swap {course} {old[0]} {old[1]}", f"{slot[0]} {slot[1]}"
+        prices = {
+            f"price {start} {one} {end}": others.get(one, f"refused {fault}")
+            for one in self.instance.courses
+        }
+        desk = Desk({f"slots {start} * * *": "slots 6" + 6 * f" - {fault}", **prices})
+        desk.instance, desk.now = self.instance, self.now
+        carry = Carry(desk, SWAP, course, Lecture(course, "A", *old))
+        return said(carry.reason(slot)), said(carry.short_reason(slot))
 
     def test_of_a_slot(self):
         no_room = ("each room is taken, barred or blocked then", "no room")
@@ -133,7 +141,7 @@ class Told(OfficeTest):
             self.swap_told("samecourse", (1, 2)), ("both are lectures of geo", "no swap")
         )
         self.assertEqual(
-            self.swap_told("already", (1, 2)), ("geo has a lecture there already", "has one")
+            self.swap_told("already", (1, 2)), ("geo has a lecture there already", "no swap")
         )
         self.assertEqual(
             self.swap_told("unavailable", (0, 0)), ("geo is unavailable then", "closed")
@@ -146,15 +154,51 @@ class Told(OfficeTest):
         told = "with alg: curriculum q1 has geo then", "clash geo"
         self.assertEqual(self.swap_told("clash geo", (1, 0), "top", (0, 2)), told)
         self.now.put("alg", (0, 2), "A")
-        told = "with alg: alg has a lecture there already", "no swap"
+        told = "with alg: one has a lecture there already", "no swap"
         self.assertEqual(self.swap_told("already", (1, 0), "top", (0, 2)), told)
         self.block(Scope("teacher", "t1", 0, 1))
         told = "with alg: t1 is blocked then: ill (ben at seat 1)", "no swap"
         self.assertEqual(self.swap_told("unavailable", (1, 0)), told)
         for pair in (("geo", "B"), ("alg", "A")):
             self.instance.barred = {pair}
-            told = f"with alg: {pair[1]} is barred for {pair[0]}", "no swap"
+            told = "with alg: the room of one is barred for the other", "no swap"
             self.assertEqual(self.swap_told("barred", (1, 0)), told)
+
+    def test_of_several_partners(self):
+        """The first one that is refused as the slot is; nothing is guessed if none is."""
+        self.now.put("top", (1, 0), "A")
+        self.block(Scope("teacher", "t1", 0, 1))
+        told = "t1 is blocked then: ill (ben at seat 1)"
+        for answer, other in (
+            ("refused unavailable", "alg"),
+            ("refused barred", "top"),
+            ("no memory", "top"),
+            ("price 3", "top"),
+        ):
+            found = self.swap_told("unavailable", (1, 0), alg=answer)
+            self.assertEqual(found, (f"with {other}: {told}", "no swap"))
+        found = self.swap_told("unavailable", (1, 0), alg="no memory", top="refused clash geo")
+        self.assertEqual(found, ("the desk has not said what it would cost", "no swap"))
+
+    def test_of_an_edit(self):
+        """A swap that is refused tells of which lecture the fault is where the instance says so."""
+        self.block(Scope("teacher", "t1", 0, 1))
+        for edit, fault, told in (
+            ("swap geo 0 1 alg 0 0", "unavailable", "geo is unavailable then"),
+            ("swap geo 0 1 alg 1 0", "unavailable", "t1 is blocked then: ill (ben at seat 1)"),
+            ("swap top 0 2 alg 1 0", "clash geo", "curriculum q1 has geo then"),
+            ("swap alg 0 0 top 0 2", "clash geo", "curriculum q1 has geo then"),
+            ("swap geo 0 1 alg 1 0", "barred", "the room of one is barred for the other"),
+            ("swap geo 0 1 alg 1 0", "roomtaken top", "top is in its room then"),
+            ("swap geo 0 1 alg 1 0", "already", "one has a lecture there already"),
+            ("swap geo 0 1 alg 1 0", "notplaced", "one does not stand there any more"),
+            ("swap geo 0 1 geo 1 2", "samecourse", "both are lectures of geo"),
+            ("swap geo 0 1 alg 1 0", "strange", "strange"),
+            ("move alg 0 0 B 1 1", "barred", "B is barred for alg"),
+            ("reroom alg B 0 0", "roomtaken top", "top is in B then"),
+            ("drop alg 0 1", "notplaced", "no lecture of alg stands there any more"),
+        ):
+            self.assertEqual(said(reason(self.instance, edit, fault)), told, (edit, fault))
 
     def test_names(self):
         """Courses, rooms and teachers by their names."""
@@ -259,27 +303,38 @@ class Asked(OfficeTest):
         )
 
     def test_swap(self):
-        """The lectures that stand in a slot are asked one by one, when they are wanted."""
+        """The lectures that stand in a slot are asked one by one, when they are wanted: what they
+        cost, or why none can be."""
         swaps = "slots swap alg 0 0 * * *"
         price = "price swap alg 0 0 {} 0 2"
+        refused = "price swap alg 0 0 {} 0 1"
         desk = Desk(
             {
                 swaps: "slots 6 - samecourse - clash geo 4 swap alg 0 0 top 0 2 - already "
                 "- notplaced - unavailable",
                 price.format("geo"): "refused clash geo",
                 price.format("top"): "price 4",
+                refused.format("geo"): "refused unavailable",
+                refused.format("top"): "refused clash geo",
             }
         )
         desk.now.put("geo", (0, 2), "A")
+        desk.now.put("top", (0, 1), "B")
         carry = Carry(desk, SWAP, "alg", self.ALG)
         self.assertEqual(said(carry.best_told())[:26], "Cheapest: +4 with top, day")
         self.assertEqual(desk.asked, [swaps])
         short = [said(carry.short_reason((0, at))) for at in (0, 1)]
         self.assertEqual(short, ["no swap", "clash geo"])
-        self.assertEqual(said(carry.reason((1, 1))), "no lecture there to swap with")
         self.assertEqual(desk.asked, [swaps])
+        self.assertEqual(said(carry.reason((1, 1))), "no lecture there to swap with")
+        self.assertEqual(desk.asked[1:], ["slot 1 1"])
+        desk.asked.clear()
+        self.assertEqual(said(carry.reason((0, 1))), "curriculum q1 has geo then")
+        asked = ["slot 0 1", refused.format("geo"), refused.format("top")]
+        self.assertEqual(desk.asked, asked)
+        desk.asked.clear()
         self.assertEqual(carry.at((0, 2)), [Offer(4, "swap alg 0 0 top 0 2", "top")])
-        self.assertEqual(desk.asked[1:], ["slot 0 2", price.format("geo"), price.format("top")])
+        self.assertEqual(desk.asked, ["slot 0 2", price.format("geo"), price.format("top")])
 
     def test_refused(self):
         """What makes every edit fail is said of each slot."""
@@ -358,6 +413,36 @@ class AtDesk(OfficeTest):
                 furthest = max(faults, key=lambda fault: FAULTS.index(fault.split(" ")[0]))
                 self.assertEqual(carry._fault(slot), furthest, (carry.kind, slot))
                 self.assertTrue(said(carry.short_reason(slot)) and said(carry.reason(slot)))
+                if carry.kind == SWAP:
+                    found = said(carry.reason(slot)), said(carry.short_reason(slot))
+                    self.assertEqual(found, self.swap_told(planning, carry, slot, furthest))
+
+    def swap_told(self, planning, carry, slot, fault):
+        """Why nothing can change places with it at a slot: by a question for each lecture there,
+        and one for a move to the room of the first that is refused as the slot is."""
+        start, end = f"{carry.course} {carry.slot[0]} {carry.slot[1]}", f"{slot[0]} {slot[1]}"
+        there = planning.lectures(f"slot {end}")
+        shortly = fault if fault.startswith("clash ") else "no swap"
+        if not [one for one in there if one != carry.lecture]:
+            return "no lecture there to swap with", shortly
+        if carry.course in [one.course for one in there] and slot != carry.slot:
+            said_alone = {
+                "already": f"{carry.course} has a lecture there already",
+                "samecourse": f"both are lectures of {carry.course}",
+            }
+            return said_alone[fault], shortly
+        edits = {one: f"swap {start} {one.course} {end}" for one in there}
+        answers = {one: planning.look(f"price {edits[one]}") for one in there}
+        first = [one for one in there if answers[one] == f"refused {fault}"][0]
+        told = said(reason(planning.instance, edits[first], fault))
+        moved = planning.look(f"price move {start} {first.room} {end}")
+        kind, *other = fault.split(" ")
+        if kind == "unavailable" and moved == "refused unavailable":
+            return told, "closed"
+        is_there = other and other[0] in [one.course for one in there]
+        if kind == "clash" and is_there and planning.instance.cause(carry.course, other[0])[1]:
+            return told, shortly
+        return f"with {first.course}: {told}", shortly
 
     def test_small(self):
         """Every lecture and every missing one, to move, to swap and to place."""
@@ -423,6 +508,25 @@ class AtDesk(OfficeTest):
             board.press(key)
             board.rows(24, 80)
         self.assertEqual(len(lines), 1)
+
+    def test_lines_of_a_swap(self):
+        """Why there is no swap is asked of the slot at the cursor alone, once."""
+        self.open("day", COMP07, "1", "--start", COMP07_SOL)
+        board = Board(self.planning("day", 0))
+        board.show_view(View("course", "c0109"))
+        board.set_cursor((4, 1))
+        board.rows(24, 80)
+        board.press("s")
+        board.rows(24, 80)
+        lines = self.lines(board.planning)
+        for key in ("left", "up", "down", "up"):
+            board.press(key)
+        for _ in range(2):
+            text = "\n".join("".join(text for text, _ in row) for row in board.rows(24, 80))
+            self.assertIn("cannot stand there: its teacher t067 teaches c0120 then", text)
+        first = board.planning.lectures("slot 3 0")[0].course
+        asked = ["show slot 3 0", f"show price swap c0109 4 1 {first} 3 0"]
+        self.assertEqual(lines, asked)
 
 
 class Large(OfficeTest):

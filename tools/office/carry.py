@@ -10,11 +10,12 @@ from office.offers import Offer, Told, offer_of, read_offers, read_slots
 from office.planning import Planning, answer_told
 from office.reasons import (
     ROOM_FAULTS,
+    alone_reason,
+    partner_reason,
     reason,
     short_reason,
     short_swap_reason,
     slot_reason,
-    swap_reason,
 )
 from office.timetable import Lecture, Slot
 from office.words import words_of
@@ -93,12 +94,17 @@ class Carry:
     def _ask_swaps(self, slot: Slot) -> List[Offer]:
         """The lectures of a slot to change places with, by price: each that stands there is
         asked."""
-        end, found = f"{slot[0]} {slot[1]}", []
-        for other in self.planning.lectures(f"slot {end}"):
-            edit = self._edit(other.course, end)
+        found = []
+        for other in self._partners(slot):
+            edit = self._edit(other.course, f"{slot[0]} {slot[1]}")
             kind, *price = words_of(self.planning.look(f"price {edit}"))
             found += [offer_of(int(price[0]), edit)] if kind == "price" else []
         return sorted(found, key=lambda offer: offer.price)
+
+    def _partners(self, slot: Slot) -> List[Lecture]:
+        """The lectures of a slot, as the desk says, without the one that is picked up."""
+        there = self.planning.lectures(f"slot {slot[0]} {slot[1]}")
+        return [one for one in there if (one.course, one.slot) != (self.course, self.slot)]
 
     def chosen(self, slot: Slot) -> Optional[Offer]:
         """The offer that the key for rooms has come to."""
@@ -150,17 +156,17 @@ class Carry:
 
     def short_reason(self, slot: Slot) -> Notice:
         """Why nothing is offered at a slot, in two words."""
-        planning, fault = self.planning, self._fault(slot)
+        instance, fault = self.planning.instance, self._fault(slot)
         if self.kind == SWAP and not self.refusal:
-            return short_swap_reason(planning.known.present(), self.course, slot, fault)
-        return short_reason(planning.instance, self.course, slot, fault)
+            return short_swap_reason(instance, self.course, slot, fault)
+        return short_reason(instance, self.course, slot, fault)
 
     def reason(self, slot: Slot) -> Notice:
-        """Why nothing is offered at a slot."""
+        """Why nothing is offered at a slot; of a swap, and where rooms are few, this asks the
+        desk."""
         instance, fault = self.planning.instance, self._fault(slot)
-        if self.kind == SWAP and self.slot is not None and not self.refusal:
-            present = self.planning.known.present()
-            return swap_reason(present, self.course, self.slot, slot, fault)
+        if self.kind == SWAP and not self.refusal:
+            return self._swap_reason(slot, fault)
         if fault.startswith(ROOM_FAULTS) and len(instance.rooms) <= FEW:
             return say("rooms", reasons=self._room_reasons(slot))
         return slot_reason(instance, self.course, slot, fault)
@@ -174,6 +180,19 @@ class Carry:
             if answer.startswith("refused "):
                 found.append(reason(instance, edit, answer[8:]))
         return found
+
+    def _swap_reason(self, slot: Slot, fault: str) -> Notice:
+        """Why no lecture of a slot can change places with it: the first one that the desk refuses
+        as it does the slot."""
+        partners = self._partners(slot)
+        if any(other.course == self.course for other in partners):
+            return alone_reason(self.course, fault)
+        for other in partners:
+            edit = self._edit(other.course, f"{slot[0]} {slot[1]}")
+            if self.planning.look(f"price {edit}") == f"refused {fault}":
+                return partner_reason(self.planning.instance, edit, fault)
+        is_alone = fault in ("notplaced", "samecourse")
+        return say("no partner" if is_alone else "not told")
 
     # what is told
 

@@ -1,12 +1,12 @@
 """Why an edit is refused, as notices."""
 from __future__ import annotations
 
-from typing import Dict, List, Optional
+from typing import Dict, List
 
 from office.blocked import by_told
 from office.instance import Instance
 from office.notice import NOTHING, Notice, say
-from office.timetable import Lecture, Slot, Timetable
+from office.timetable import Slot
 from office.words import words_of
 
 # the faults of an edit that say nothing but what they are
@@ -16,6 +16,12 @@ ALONE: Dict[str, str] = {
     "notplaced": "not placed",
     "sameslot": "same slot",
     "samecourse": "same course",
+}
+# those of a swap that may be of either lecture: the desk does not say of which
+OF_ONE: Dict[str, str] = {
+    "already": "one already",
+    "notplaced": "one not placed",
+    "barred": "one barred",
 }
 # those that are about a room
 ROOM_FAULTS = ("roomtaken", "barred", "blocked")
@@ -32,25 +38,52 @@ SHORT: Dict[str, str] = {
 def reason(instance: Instance, edit: str, fault: str) -> Notice:
     """A fault of an edit."""
     words, (kind, *other) = words_of(edit), words_of(fault)
-    course = words[1]
-    at = {"place": 2, "reroom": 2, "move": 4}.get(words[0])
+    if words[0] == "swap":
+        return swap_reason(instance, words, fault)
+    course, slot = words[1], slot_of(words)
+    room = words[4] if words[0] == "move" else words[2]
     if kind == "clash":
-        return clash_reason(instance, clashing(instance, words, other[0]), other[0])
+        return clash_reason(instance, course, other[0])
     if kind == "roomtaken":
-        if at is None:
-            return say("its room taken", other=other[0])
-        return say("room taken", other=other[0], room=words[at])
+        return say("room taken", other=other[0], room=room)
     if kind == "barred":
-        if at is None:
-            return say("its room barred", course=course)
-        return say("barred", room=words[at], course=course)
-    if kind == "blocked" and at is not None:
-        return room_reason(instance, words[at], slot_of(words))
-    if kind == "unavailable" and words[0] == "swap":
-        return say("one unavailable")
+        return say("barred", room=room, course=course)
+    if kind == "blocked":
+        return room_reason(instance, room, slot)
     if kind == "unavailable":
-        return away_reason(instance, course, slot_of(words))
+        return away_reason(instance, course, slot)
     return alone_reason(course, fault)
+
+
+def swap_reason(instance: Instance, words: List[str], fault: str) -> Notice:
+    """A fault of a swap."""
+    kind, *other = words_of(fault)
+    is_first = is_of_first(instance, words, fault)
+    course = words[1] if is_first else words[4]
+    if kind == "clash":
+        return clash_reason(instance, course, other[0])
+    if kind == "unavailable":
+        back = int(words[2]), int(words[3])
+        return away_reason(instance, course, slot_of(words) if is_first else back)
+    if kind == "roomtaken":
+        return say("its room taken", other=other[0])
+    return say(OF_ONE[kind]) if kind in OF_ONE else alone_reason(words[1], fault)
+
+
+def is_of_first(instance: Instance, words: List[str], fault: str) -> bool:
+    """Whether the instance says that a fault of a swap is one of its first lecture."""
+    kind, *other = words_of(fault)
+    if kind == "clash":
+        return other[0] in instance.mates[words[1]]
+    return kind == "unavailable" and slot_of(words) in instance.closed[words[1]]
+
+
+def partner_reason(instance: Instance, edit: str, fault: str) -> Notice:
+    """A fault of a swap with the name of the partner; without it, if the first lecture has it."""
+    words, told = words_of(edit), reason(instance, edit, fault)
+    if is_of_first(instance, words, fault):
+        return told
+    return say("partner", other=words[4], reason=told)
 
 
 def alone_reason(course: str, fault: str) -> Notice:
@@ -79,13 +112,6 @@ def away_reason(instance: Instance, course: str, slot: Slot) -> Notice:
             why = say("reason told", why=closure.why) if closure.why else NOTHING
             return say("away", scope=closure.scope, because=why, by=by_told(closure))
     return say("unavailable", course=course)
-
-
-def clashing(instance: Instance, words: List[str], other: str) -> str:
-    """The course of an edit that clashes with another one."""
-    if words[0] == "swap" and other not in instance.mates[words[1]]:
-        return words[4]
-    return words[1]
 
 
 def clash_reason(instance: Instance, course: str, other: str) -> Notice:
@@ -118,49 +144,10 @@ def short_reason(instance: Instance, course: str, slot: Slot, fault: str) -> Not
     return say(SHORT.get(kind, "cell no room"))
 
 
-def swap_reason(timetable: Timetable, course: str, old: Slot, slot: Slot, fault: str) -> Notice:
-    """A fault of a slot, where a lecture can change places with none: its own fault, or the one of
-    a lecture there that cannot stand in its place."""
-    instance, (kind, *other) = timetable.instance, words_of(fault) or [""]
-    if kind in ("notplaced", "sameslot") or (kind == "samecourse" and slot == old):
-        return say("no partner")
-    if kind == "clash" and other[0] in instance.mates[course]:
-        return clash_reason(instance, course, other[0])
-    if kind == "unavailable" and slot in instance.closed[course]:
-        return away_reason(instance, course, slot)
-    room = timetable.room_at(course, old) or ""
-    for partner in timetable.of_slot(slot):
-        found = partner_reason(timetable, partner, Lecture(course, room, *old), fault)
-        if found is not None and partner.course != course:
-            return say("partner", other=partner.course, reason=found)
-    return say("not told") if not fault else alone_reason(course, fault)
-
-
-def partner_reason(
-    timetable: Timetable, partner: Lecture, lecture: Lecture, fault: str
-) -> Optional[Notice]:
-    """What a fault says of a lecture that might change places with another one; None if it is not
-    about it."""
-    instance, (kind, *other) = timetable.instance, words_of(fault) or [""]
-    if kind == "clash" and other[0] in instance.mates[partner.course]:
-        return clash_reason(instance, partner.course, other[0])
-    if kind == "unavailable" and lecture.slot in instance.closed[partner.course]:
-        return away_reason(instance, partner.course, lecture.slot)
-    if kind == "barred":
-        pairs = [(partner.course, lecture.room), (lecture.course, partner.room)]
-        barred = [say("barred", course=c, room=r) for c, r in pairs if (c, r) in instance.barred]
-        return barred[0] if barred else None
-    if kind == "already" and timetable.room_at(lecture.course, partner.slot) is None:
-        is_there = timetable.room_at(partner.course, lecture.slot) is not None
-        return say("already", course=partner.course) if is_there else None
-    return None
-
-
-def short_swap_reason(timetable: Timetable, course: str, slot: Slot, fault: str) -> Notice:
-    """The same in two words; of a fault of a lecture there, that none serves."""
-    instance, kind = timetable.instance, (words_of(fault) or [""])[0]
+def short_swap_reason(instance: Instance, course: str, slot: Slot, fault: str) -> Notice:
+    """The same in two words, where a lecture can change places with none."""
+    kind = (words_of(fault) or [""])[0]
     is_away = kind == "unavailable" and slot in instance.closed[course]
-    has_one = kind == "already" and timetable.room_at(course, slot) is not None
-    if kind in ("", "clash") or is_away or has_one:
+    if kind in ("", "clash") or is_away:
         return short_reason(instance, course, slot, fault)
     return say("cell no swap")
