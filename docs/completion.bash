@@ -38,21 +38,61 @@ _timedesk_names() {
     _timedesk_words "$1" "${names[@]}"
 }
 
+# The commands, the options that have no value behind them, and a function that sets `options` to
+# those of a command: tools/flags.py makes them of the help.
+# the words of timedesk, by tools/flags.py
+_timedesk_commands=(check compare week page run audit crew desk journal list mend where)
+_timedesk_bare='--csv --explain --help --json --name --strict --version'
+_timedesk_known() {
+    case $1 in
+    '') options='--help --version' ;;
+    check) options='--barred --blocked --explain --help --json --name --strict' ;;
+    compare) options='--barred --blocked --csv --help --json --strict' ;;
+    week) options='--barred --blocked --course --curriculum --help --room --teacher' ;;
+    page) options='--barred --blocked --days --help' ;;
+    run) options='--barred --blocked --help --journal --start' ;;
+    audit) options='--barred --blocked --help --start' ;;
+    crew) options='--barred --blocked --help' ;;
+    desk) options='--barred --blocked --help --minutes --start' ;;
+    journal) options='--barred --blocked --help' ;;
+    list) options='--barred --blocked --help --start' ;;
+    mend) options='--barred --blocked --help' ;;
+    where) options='--help' ;;
+    *) options=--help ;;
+    esac
+}
+# end of words
+# the words of office, by tools/flags.py
+_office_commands=(open sit web status close block unblock blocks log show diff revert import export publish)
+_office_bare='--costs --csv --follow --help --html --ics --json --links --plain --unproved --web'
+_office_known() {
+    case $1 in
+    '') options='--help --unproved' ;;
+    open) options='--after --barred --blocked --help --instance --labels --login-header --logins --planners --port --socket --start --url --web' ;;
+    sit) options='--help --name --plain' ;;
+    web) options='--help --links --login-header --logins --new-key --port --socket --url' ;;
+    status) options='--help' ;;
+    close) options='--help --wait' ;;
+    block) options='--help --why' ;;
+    unblock) options='--help --why' ;;
+    blocks) options='--help' ;;
+    log) options='--help --json' ;;
+    show) options='--at --costs --course --csv --curriculum --help --html --ics --room --teacher' ;;
+    diff) options='--course --curriculum --help --room --teacher' ;;
+    revert) options='--help --name --seat' ;;
+    import) options='--help --output' ;;
+    export) options='--at --help --output' ;;
+    publish) options='--follow --help --json' ;;
+    *) options=--help ;;
+    esac
+}
+# end of words
+
 # Adds the options of a command that are not given yet.
 _timedesk_options() {
     local option options='' one='--(course|curriculum|room|teacher)'
-    case $2 in
-    check) options='--barred --blocked --explain --json --name --strict' ;;
-    compare) options='--barred --blocked --csv --json --strict' ;;
-    week) options='--barred --blocked --course --curriculum --room --teacher' ;;
-    run) options='--barred --blocked --journal --start' ;;
-    audit | list) options='--barred --blocked --start' ;;
-    desk) options='--barred --blocked --minutes --start' ;;
-    page) options='--barred --blocked --days' ;;
-    crew | journal | mend) options='--barred --blocked' ;;
-    '') options='--version' ;;
-    esac
-    for option in $options --help; do
+    _timedesk_known "$2"
+    for option in $options; do
         # a week is that of one thing alone
         if [[ $3 != *" $option "* ]] && ! [[ $option =~ ^$one$ && $3 =~ \ $one\  ]]; then
             _timedesk_words "$1" "$option"
@@ -71,7 +111,7 @@ _timedesk() {
             option=
         elif [[ $word == --* ]]; then
             given+="$word "
-            [[ $word =~ ^--(csv|json|name|explain|strict|help|version|unproved|proved|build)$ ]] || option=$word
+            [[ " $_timedesk_bare --unproved --proved --build " == *" $word "* ]] || option=$word
         elif [[ -z $command ]]; then
             command=$word
         else
@@ -86,7 +126,7 @@ _timedesk() {
     fi
     case $command:${option:-$place} in
     *:--course | *:--curriculum | *:--room | *:--teacher) _timedesk_names "$typed" "$option" "$instance" ;;
-    :1 | help:1) _timedesk_words "$typed" check compare week page run crew desk journal audit list mend where help ;;
+    :1 | help:1) _timedesk_words "$typed" "${_timedesk_commands[@]}" help ;;
     *:--days) _timedesk_words "$typed" mon,tue,wed,thu,fri ;;
     help:*) ;;
     where:1) _timedesk_files "$typed" '' ;;
@@ -124,7 +164,6 @@ _office_folders() {
 # Completes a word of office.
 _office() {
     local typed=${COMP_WORDS[COMP_CWORD]} word option='' given=' ' command='' day='' kind='' place=0 options=''
-    local places='--login-header --logins --port --socket --url'
     COMPREPLY=()
     for word in "${COMP_WORDS[@]:1:COMP_CWORD-1}"; do
         if [[ $word == = ]]; then
@@ -133,7 +172,7 @@ _office() {
             option=
         elif [[ $word == --* || $word == -o ]]; then
             given+="$word "
-            [[ $word =~ ^--(costs|csv|follow|help|html|ics|json|links|plain|unproved|web)$ ]] || option=$word
+            [[ " $_office_bare " == *" $word "* ]] || option=$word
         elif [[ -z $command ]]; then
             command=$word
         else
@@ -143,23 +182,9 @@ _office() {
         fi
     done
     [[ $typed != = ]] || typed=
-    case $command in
-    '') options='--unproved' ;;
-    open) options="--after --barred --blocked --instance --labels --planners --start --web $places" ;;
-    web) options="--links --new-key $places" ;;
-    sit) options='--name --plain' ;;
-    close) options='--wait' ;;
-    block | unblock) options='--why' ;;
-    show) options='--at --costs --course --csv --curriculum --html --ics --room --teacher' ;;
-    log) options='--json' ;;
-    diff) options='--course --curriculum --room --teacher' ;;
-    revert) options='--name --seat' ;;
-    import) options='--output' ;;
-    export) options='--at --output' ;;
-    publish) options='--follow --json' ;;
-    esac
     if [[ -z $option && $typed == -* ]]; then
-        for option in $options --help; do
+        _office_known "$command"
+        for option in $options; do
             [[ $given == *" $option "* ]] || _timedesk_words "$typed" "$option"
         done
         return
@@ -175,7 +200,7 @@ _office() {
         _timedesk_names "$typed" "$option" "${day%:*}/instance.ctt"
         ;;
     *:--*) ;;
-    :0) _timedesk_words "$typed" block blocks close diff export import log open publish revert show sit status unblock web ;;
+    :0) _timedesk_words "$typed" "${_office_commands[@]}" ;;
     block:1 | unblock:1) _timedesk_words "$typed" course room teacher ;;
     block:2 | unblock:2) _timedesk_names "$typed" "--$kind" "$day/instance.ctt" ;;
     *:0 | diff:1) _office_days "$typed" ;;
