@@ -202,7 +202,7 @@ class Rules:
 
     def mates(self, courses):
         """The courses that are in a curriculum with one of these, and these."""
-        members = [some for _, some in self.instance.curricula if some & set(courses)]
+        members = [some for _, some in self.instance.curricula if {*some} & {*courses}]
         return set(courses).union(*members)
 
     def reads(self, words):

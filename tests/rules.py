@@ -12,6 +12,12 @@ def line(finding):
     return " ".join(map(str, finding.values())) + "\n"
 
 
+def lectures_in(text):
+    """The lectures that a solution lists: course, room, day and period, in its order."""
+    words = [word.decode() for word in text.split()]
+    return [(c, r, int(d), int(p)) for c, r, d, p in zip(words[0::4], words[1::4], words[2::4], words[3::4])]
+
+
 class Instance:
     """An instance by the text of its file, and the texts of its barred rooms and of its closures, if there are such."""
 
@@ -34,7 +40,7 @@ class Instance:
         self.rooms = [(take(), int(take())) for _ in range(rooms)]
         room_number = {room[0]: r for r, room in enumerate(self.rooms)}
         take()
-        self.curricula = [(take(), {number[take()] for _ in range(int(take()))}) for _ in range(curricula)]
+        self.curricula = [(take(), list(dict.fromkeys(number[take()] for _ in range(int(take()))))) for _ in range(curricula)]
         take()
         self.listed = {(number[take()], int(take()), int(take())) for _ in range(constraints)}
         self.barred, self.blocked, self.closed = set(), set(), set()
@@ -84,9 +90,7 @@ class Instance:
         """Its lectures: course, day, period and room, as numbers, in order."""
         number = {course[0]: c for c, course in enumerate(self.courses)}
         room_number = {room[0]: r for r, room in enumerate(self.rooms)}
-        words = [word.decode() for word in text.split()]
-        entries = zip(words[0::4], words[1::4], words[2::4], words[3::4])
-        return sorted((number[c], int(d), int(p), room_number[r]) for c, r, d, p in entries)
+        return sorted((number[c], d, p, room_number[r]) for c, r, d, p in lectures_in(text))
 
     def causes(self, c, d):
         """Why two courses clash."""

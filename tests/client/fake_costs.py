@@ -1,5 +1,5 @@
 """What a timetable costs, in plain Python, for the desk of the tests."""
-from office.words import words_of
+from fake_words import words_of
 
 
 class Costs:

@@ -1,6 +1,6 @@
 #!/usr/bin/env python3
 """A desk in plain Python, beside which the program is tested, and which makes faults: FAULT names
-one. It mends, too. Any other command is PROGRAM's."""
+one. Any other command is PROGRAM's. Nothing here is the client's."""
 import contextlib
 import os
 import select
@@ -8,25 +8,24 @@ import sys
 import threading
 
 HERE = os.path.dirname(os.path.dirname(os.path.dirname(os.path.abspath(__file__))))
-sys.path.insert(0, os.path.join(HERE, "tools"))
+sys.path.append(os.path.join(HERE, "tests"))
 
 from fake_draft import FakeDraft  # noqa: E402
 from fake_looks import FakeLooks  # noqa: E402
 from fake_week import FakeWeek  # noqa: E402
-from fake_words import TURNS, bad_word  # noqa: E402
-from office.edits import LENGTHS, normal_form  # noqa: E402
-from office.instance import COMMANDS, read_instance, read_solution  # noqa: E402
-from office.words import encoded, words_of  # noqa: E402
+from fake_words import EDITS, FIRST, TURNS, bad_word  # noqa: E402
+from fake_words import normal_form, to_bytes, words_of  # noqa: E402
+from plain_instance import instance_of, lectures_of  # noqa: E402
 
 FAULT = os.environ.get("FAULT")
 PROGRAM = os.environ.get("PROGRAM", os.path.join(HERE, "crates/ctt_tool/out/ctt_tool"))
 
 
 class FakeDesk:
-    def __init__(self, instance, start, planners, minutes, blocked=()):
+    def __init__(self, instance, start, planners, minutes):
         self.instance, self.minutes = instance, minutes
         self.looks = FakeLooks(instance)
-        self.newest = FakeWeek(instance, start, blocked)
+        self.newest = FakeWeek(instance, start)
         self.count = 0
         self.is_full = False
         self.lines = 0
@@ -76,8 +75,8 @@ class FakeDesk:
         courses, slots = self.looks.rows(words)
         draft.courses |= courses
         draft.slots |= slots
-        if words[0] in LENGTHS:
-            line = normal_form(line)
+        if words[0] in EDITS:
+            line = normal_form(words)
             fault = draft.now.fault(line)
             answer = f"refused {fault}" if fault else "done"
             if not fault:
@@ -187,7 +186,7 @@ class FakeDesk:
         return f"done {back}" if answer == "done" else answer
 
     def help(self, planner, draft):
-        return "words " + " ".join(sorted(COMMANDS))
+        return "words " + " ".join(sorted(FIRST))
 
     def leave(self, planner, draft):
         self.drafts[planner] = None
@@ -205,21 +204,11 @@ def options(words):
     return files, found
 
 
-def read_entries(path):
-    """The entries of a side file of closures; none without one."""
-    if path is None:
-        return []
-    with open(path) as file:
-        words = file.read().split()
-    return [words[at : at + 4] for at in range(2, 2 + 4 * int(words[1]), 4)]
-
-
 def keep(words):
     files, found = options(words)
-    instance = read_instance(files[0], found.get("--barred"))
-    start = read_solution(found["--start"]) if "--start" in found else []
-    blocked, minutes = read_entries(found.get("--blocked")), found.get("--minutes", os.devnull)
-    desk = FakeDesk(instance, start, len(files) - 1, minutes, blocked)
+    instance = instance_of(files[0], found.get("--barred"), found.get("--blocked"))
+    start, minutes = lectures_of(found.get("--start")), found.get("--minutes", os.devnull)
+    desk = FakeDesk(instance, start, len(files) - 1, minutes)
     # the office holds the other ends, so that none of these waits
     seats = {}
     for planner, seat in enumerate(files[1:]):
@@ -234,7 +223,7 @@ def keep(words):
             for line in filter(bytes.split, whole):
                 answer = desk.faulty_answer(planner, line.decode(errors="replace"))
                 with contextlib.suppress(BrokenPipeError):
-                    os.write(answers, encoded(answer) + b"\n" if answer else b"")
+                    os.write(answers, to_bytes(answer) + b"\n" if answer else b"")
                 left = left or answer == "left"
             if left:
                 os.close(lines)
@@ -243,25 +232,8 @@ def keep(words):
     print(f"journal {desk.count}\ncosts {' '.join(map(str, desk.looks.costs.whole(desk.newest)))}")
 
 
-def mend(words):
-    """Prints those lectures of a solution that can be placed one after another, and names the
-    others."""
-    files, found = options(words)
-    instance = read_instance(files[0], found.get("--barred"))
-    timetable = FakeWeek(instance, (), read_entries(found.get("--blocked")))
-    for course, room, day, period in read_solution(files[1]):
-        fault = timetable.placing_fault(course, (day, period), room)
-        if fault is None:
-            timetable.by_course[course][day, period] = room
-            print(course, room, day, period)
-        else:
-            print(f"timedesk: set aside {course} {room} {day} {period} {fault}", file=sys.stderr)
-
-
 if __name__ == "__main__":
     if sys.argv[1:2] == ["desk"]:
         keep(sys.argv[2:])
-    elif sys.argv[1:2] == ["mend"]:
-        mend(sys.argv[2:])
     else:
         os.execv(PROGRAM, ["timedesk", *sys.argv[1:]])

@@ -1,6 +1,5 @@
 """A draft of the desk of the tests."""
-from office.edits import LENGTHS
-from office.words import words_of
+from fake_words import EDITS, words_of
 
 
 class FakeDraft:
@@ -10,7 +9,7 @@ class FakeDraft:
 
     def edits(self):
         return [
-            call for call, answer in self.calls if answer == "done" and words_of(call)[0] in LENGTHS
+            call for call, answer in self.calls if answer == "done" and words_of(call)[0] in EDITS
         ]
 
     def make(self, edit):

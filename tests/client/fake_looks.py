@@ -1,12 +1,8 @@
 """What the desk of the tests answers to looks, in plain Python, and the rows on which calls
 depend."""
 from fake_costs import Costs
-from office.edits import LENGTHS
-
-# the faults in the order in which they are looked for
-FAULTS = (
-    "notplaced sameslot samecourse already full unavailable barred blocked clash roomtaken".split()
-)
+from fake_words import EDITS
+from plain_desk import FAULTS
 
 
 class FakeLooks:
@@ -110,7 +106,7 @@ class FakeLooks:
     def rows(self, words):
         """The courses and the slots on which an edit or a look depends."""
         kind, rest, instance = words[0], words[1:], self.instance
-        if kind in LENGTHS:
+        if kind in EDITS:
             ends = {"place": [2], "move": [4], "swap": [1, 4], "reroom": [2], "drop": []}[kind]
             slots = {(int(rest[at]), int(rest[at + 1])) for at in ends}
             return {rest[0], rest[3]} if kind == "swap" else {rest[0]}, slots

@@ -5,14 +5,14 @@ one that is wrong there is seen."""
 class FakeWeek:
     """Which lectures stand, by courses: the room of each slot."""
 
-    def __init__(self, instance, lectures=(), blocked=()):
-        self.instance, self.blocked = instance, blocked
+    def __init__(self, instance, lectures=()):
+        self.instance = instance
         self.by_course = {name: {} for name in instance.courses}
         for course, room, day, period in lectures:
             self.by_course[course][day, period] = room
 
     def copy(self):
-        made = FakeWeek(self.instance, (), self.blocked)
+        made = FakeWeek(self.instance)
         made.by_course = {course: dict(row) for course, row in self.by_course.items()}
         return made
 
@@ -25,23 +25,6 @@ class FakeWeek:
 
     def room_at(self, course, slot):
         return self.by_course[course].get(slot)
-
-    def is_blocked(self, kind, name, slot):
-        """Whether an entry of the side file blocks a room, a teacher or a course in a slot."""
-        day, period = slot
-        return any(
-            entry[:2] == [kind, name]
-            and entry[2] in ("*", str(day))
-            and entry[3] in ("*", str(period))
-            for entry in self.blocked
-        )
-
-    def is_away(self, course, slot):
-        """Whether a course cannot be in a slot."""
-        teacher = self.instance.courses[course].teacher
-        is_listed = slot in self.instance.unavailable[course]
-        is_teacher = self.is_blocked("teacher", teacher, slot)
-        return is_listed or is_teacher or self.is_blocked("course", course, slot)
 
     def clash(self, one, other):
         """Whether two courses have a teacher or a curriculum in common."""
@@ -56,11 +39,11 @@ class FakeWeek:
             return "already"
         if self.missing(course) < 1:
             return "full"
-        if self.is_away(course, slot):
+        if slot in instance.unavailable[course]:
             return "unavailable"
         if (course, room) in instance.barred:
             return "barred"
-        if self.is_blocked("room", room, slot):
+        if slot in instance.blocked[room]:
             return "blocked"
         there = self.in_slot(slot)
         faults = [f"clash {other}" for other, _ in there if self.clash(course, other)]

@@ -1,4 +1,4 @@
-"""Lines of a seat, for the desk of the tests: which word of a line cannot stand."""
+"""Lines of a seat, for the desk of the tests: their words, and which of these cannot stand."""
 # what stands behind the first word of a look or an edit: a course, a room, a teacher, a curriculum,
 # a day, a period; what may be open in an edit pattern has a capital letter
 LOOKS = dict(
@@ -10,6 +10,25 @@ PATTERNS = dict(place="cRDP", move="cdpRDP", swap="cdp***", reroom="cRdp")
 # the same where the new slot is left open
 SLOT_PATTERNS = dict(place="cR**", move="cdpR**", swap="cdp***")
 TURNS = ("open", "commit", "refresh", "abandon", "status", "redo", "undo", "help", "leave")
+# all words that a line may begin with
+FIRST = (*TURNS, *FORMS, "show", "peek", "cheapest", "slots", "price")
+
+
+def to_bytes(line):
+    """The bytes of a line, also those that are no text."""
+    return line.encode("utf-8", "surrogateescape")
+
+
+def words_of(line):
+    """The words of a line, parted as the desk parts them: by bytes."""
+    return [word.decode("utf-8", "surrogateescape") for word in to_bytes(line).split()]
+
+
+def normal_form(words):
+    """An edit as the desk writes it: its numbers without zeros in front."""
+    kind, *rest = words
+    told = [str(int(word)) if of in "dp" else word for of, word in zip(EDITS[kind], rest)]
+    return " ".join([kind, *told])
 
 
 def bad_word(instance, words):

@@ -13,6 +13,7 @@ import unittest
 sys.dont_write_bytecode = True
 HERE = os.path.dirname(os.path.dirname(os.path.dirname(os.path.abspath(__file__))))
 sys.path.insert(0, os.path.join(HERE, "tools"))
+sys.path.append(os.path.join(HERE, "tests"))
 PROGRAM = os.path.abspath(
     os.environ.get("PROGRAM", os.path.join(HERE, "crates/ctt_tool/out/ctt_tool"))
 )
@@ -166,6 +167,12 @@ class OfficeTest(unittest.TestCase):
         """The number of the desk's process."""
         with open(os.path.join(self.path(day), "office")) as file:
             return int(file.read().split()[1])
+
+    def drafts_in(self, day):
+        """How many drafts the minutes of a day hold, as the program reads them."""
+        words = ["journal", self.path(f"{day}/instance.ctt"), self.path(f"{day}/minutes")]
+        done = subprocess.run([PROGRAM, *words], capture_output=True, text=True, check=True)
+        return int(done.stdout.split()[1])
 
     def left_in(self, day):
         return sorted(os.listdir(self.path(day)))

@@ -3,18 +3,11 @@ import os
 import signal
 import time
 
-from support import FAKE, PATIENCE, SMALL, SMALL_SOL, OfficeTest, wait_until
+from support import PATIENCE, SMALL, SMALL_SOL, OfficeTest, wait_until
 from test_day import SLOW
 
 
 class Changes(OfficeTest):
-    def setUp(self):
-        super().setUp()
-        with os.popen(f"{self.program} --help") as text:
-            # a program that cannot mend yet is helped out
-            self.program = self.program if "\n  mend " in text.read() else FAKE
-        self.environment["TIMEDESK"] = self.program
-
     def before(self, *words):
         """A day that is closed."""
         self.end(self.open("monday", SMALL, "1", *words))

@@ -3,6 +3,7 @@ import os
 import random
 
 from fake_week import FakeWeek
+from plain_instance import instance_of
 from support import PROGRAM, SMALL, OfficeTest
 
 from office.block import find_scope
@@ -171,13 +172,12 @@ class SideFile(OfficeTest):
         path = self.path("blocked")
         with open(path, "wb") as file:
             file.write(blocked_text(instance.closures))
-        entries = [scope.words().split(" ") for scope in (R, T, C)]
         edits = ["place geo A 0 1", "place geo B 0 1", "place geo A 1 2"]
-        for sides, blocked, wanted in (
-            (["--blocked", path], entries, ["refused blocked", "done", "refused unavailable"]),
-            ([], [], ["done", "done", "done"]),
+        for sides, wanted in (
+            (["--blocked", path], ["refused blocked", "done", "refused unavailable"]),
+            ([], ["done", "done", "done"]),
         ):
-            week = FakeWeek(instance, (), blocked)
+            week = FakeWeek(instance_of(SMALL, *sides[1:]))
             for edit, answer in zip(edits, wanted):
                 scratch = Scratch([PROGRAM, "run", SMALL, "-", *sides])
                 self.assertEqual(scratch.answers([edit]), [answer])

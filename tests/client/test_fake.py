@@ -5,6 +5,7 @@ from support import OfficeTest
 from test_known import PLANNERS, Drawn, Seats
 
 from fake_desk import FakeDesk
+from plain_instance import lectures_of
 from office.instance import read_solution
 from office.known import Known
 
@@ -72,7 +73,7 @@ class Beside(OfficeTest):
         drawn = Drawn(self, seed)
         start = read_solution(drawn.start) if drawn.start else []
         seats = Seats(self, drawn)
-        fake = FakeDesk(drawn.instance, start, PLANNERS, os.devnull, drawn.blocked)
+        fake = FakeDesk(drawn.plain, lectures_of(drawn.start), PLANNERS, os.devnull)
         knowns = [Known(drawn.instance, start) for _ in range(PLANNERS)]
         for _ in range(80):
             planner = drawn.draw.randrange(PLANNERS)

@@ -3,6 +3,7 @@ from support import SMALL, SMALL_SOL, OfficeTest
 from test_known import Drawn
 
 from fake_week import FakeWeek
+from plain_instance import lectures_of
 from office.edits import Redone, Story, courses_of, is_edit, read_prices
 from office.instance import read_instance, read_solution
 from office.known import Known
@@ -36,7 +37,8 @@ class Reading(OfficeTest):
             self.setUp()
             drawn = Drawn(self, seed)
             start = read_solution(drawn.start) if drawn.start else []
-            known, week = Known(drawn.instance, start), FakeWeek(drawn.instance, start)
+            known = Known(drawn.instance, start)
+            week = FakeWeek(drawn.plain, lectures_of(drawn.start))
             for _ in range(100):
                 edit = drawn.edit(known)
                 if week.fault(edit) is None:

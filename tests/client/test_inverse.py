@@ -3,6 +3,7 @@ import random
 import unittest
 
 from fake_week import FakeWeek
+from plain_instance import instance_of
 from support import COMP07, COMP07_SOL, PROGRAM, SMALL
 
 from office.drafts import make_draft
@@ -14,6 +15,9 @@ from office.shifts import Shift
 from office.timetable import Timetable
 
 
+PLAIN = instance_of(COMP07)
+
+
 def invert(timetable, shifts):
     """The inverse, by a desk of the program."""
     scratch = Scratch([PROGRAM, "run", COMP07, "-"], timetable.lectures())
@@ -22,7 +26,7 @@ def invert(timetable, shifts):
 
 def week_of(timetable):
     """The same for the desk of the tests, which says what can be made."""
-    return FakeWeek(timetable.instance, timetable.lectures())
+    return FakeWeek(PLAIN, timetable.lectures())
 
 
 def make(timetable, edit):

@@ -2,22 +2,21 @@
 import os
 import random
 import subprocess
-import sys
 
-from support import HERE, PROGRAM, OfficeTest
+from support import PROGRAM, OfficeTest
 
-sys.path.append(os.path.join(HERE, "tests"))
-from drawn import draw_instance, draw_solution  # noqa: E402
-from fake_desk import FakeDesk  # noqa: E402
-from fake_week import FakeWeek  # noqa: E402
-from rules import Instance as Plain  # noqa: E402
+from drawn import draw_instance, draw_solution
+from fake_desk import FakeDesk
+from fake_week import FakeWeek
+from plain_instance import file_of_closures, instance_of, lectures_of
+from rules import Instance as Plain
 
-from office.closures import blocked_now, blocked_text  # noqa: E402
-from office.edits import Redone, Story  # noqa: E402
-from office.instance import read_instance, read_solution  # noqa: E402
-from office.known import Known  # noqa: E402
-from office.minutes import Minutes  # noqa: E402
-from office.scope import Scope  # noqa: E402
+from office.closures import blocked_now
+from office.edits import Redone, Story
+from office.instance import read_instance, read_solution
+from office.known import Known
+from office.minutes import Minutes
+from office.scope import Scope
 
 DRAWS = int(os.environ.get("DRAWS", "200"))
 PLANNERS = 3
@@ -39,6 +38,7 @@ class Drawn:
         self.options = ["--barred", self.barred] if barred is not None else []
         self.instance = read_instance(self.words[0], self.barred)
         self.blocked = self.block(test)
+        self.plain = instance_of(self.words[0], self.barred, self.blocked)
         run = subprocess.run(
             [PROGRAM, "run", *self.words, os.devnull, "--start", start, *self.options],
             capture_output=True,
@@ -48,9 +48,9 @@ class Drawn:
             self.options += ["--start", start]
 
     def block(self, test):
-        """Blocks something in every second instance; answers the entries of the side file."""
+        """Blocks something in every second instance; answers the side file, if there is one."""
         if self.draw.random() < 0.5:
-            return []
+            return None
         instance = self.instance
         named = [("room", name) for name in instance.rooms]
         named += [("teacher", name) for name in instance.teachers]
@@ -63,10 +63,10 @@ class Drawn:
             )
             for _ in range(self.draw.randrange(5))
         ]
-        closures = [blocked_now(scope, "", None, "") for scope in scopes]
-        instance.block(closures)
-        self.options += ["--blocked", self.write(test, "drawn.blocked", blocked_text(closures))]
-        return [scope.words().split(" ") for scope in scopes]
+        instance.block([blocked_now(scope, "", None, "") for scope in scopes])
+        path = self.write(test, "drawn.blocked", file_of_closures(scopes))
+        self.options += ["--blocked", path]
+        return path
 
     @staticmethod
     def write(test, name, text):
@@ -175,7 +175,7 @@ class Scripts(OfficeTest):
         # the program answers the script so far: each line is drawn by what is known after the
         # answers before
         seats = Seats(self, drawn)
-        fake = FakeDesk(drawn.instance, start, PLANNERS, os.devnull, drawn.blocked)
+        fake = FakeDesk(drawn.plain, lectures_of(drawn.start), PLANNERS, os.devnull)
         knowns = [Known(drawn.instance, start) for _ in range(PLANNERS)]
         stories = [Story() for _ in range(PLANNERS)]
         for _ in range(60):
@@ -215,7 +215,7 @@ class Scripts(OfficeTest):
         self.assertEqual(story.made, known.made)
         if story.is_open:
             timetable = known.base.copy()
-            week = FakeWeek(drawn.instance, timetable.lectures(), drawn.blocked)
+            week = FakeWeek(drawn.plain, timetable.lectures())
             for edit in story.edits:
                 self.assertIsNone(week.fault(edit))
                 self.assertEqual(timetable.make(edit), week.make(edit))
