@@ -6,8 +6,8 @@ import subprocess
 import sys
 import unittest
 
+from changed_rules import HALL, MOVE, REROOM, Parts
 from support import HERE, PATIENCE, SMALL, SMALL_SOL, wait_until
-from test_parts import HALL, MOVE, REROOM, Parts
 
 from office.closures import blocked_text, read_closures, standing
 from office.folder import Day
