@@ -20,12 +20,12 @@ from office.closures import (
 from office.exporting import export_day
 from office.folder import Day
 from office.importing import import_folder
-from office.instance import read_instance, read_solution
 from office.label_files import read_labels
 from office.scope import Scope
 
 sys.path.insert(0, os.path.join(HERE, "tests"))
 from drawn import PIECES, draw_instance, draw_solution  # noqa: E402
+from plain_instance import PlainInstance, file_of_closures, lectures_of, text_of  # noqa: E402
 from rules import Instance as Rules  # noqa: E402
 
 DRAWN = 21
@@ -59,7 +59,7 @@ def draw_labels(draw, instance):
 
 class ThereAndBack(Tables):
     def make_day(self, draw, number, pieces):
-        """The folder of a day that nobody has opened yet."""
+        """The folder of a day that nobody has opened yet, and its closures."""
         day = Day(self.path(f"day{number}"))
         os.mkdir(day.path)
         text, barred = draw_instance(draw, pieces)
@@ -71,10 +71,10 @@ class ThereAndBack(Tables):
         if barred is not None:
             files[day.barred] = barred
         if draw.random() < 0.7:
-            labels = draw_labels(draw, read_instance_of(text, self.path("x")))
+            labels = draw_labels(draw, PlainInstance(text))
             for file, table in zip(("labels.csv", "times.csv"), labels):
                 files[day.file(file)] = table.encode()
-        closures = self.draw_closures(draw, read_instance_of(text, self.path("x")), start)
+        closures = self.draw_closures(draw, PlainInstance(text), start)
         held = closures_text(closures)
         files[closures_path(day)] = held
         if closures:
@@ -85,7 +85,7 @@ class ThereAndBack(Tables):
         for path, written in files.items():
             with open(path, "wb") as file:
                 file.write(written)
-        return day
+        return day, closures
 
     @staticmethod
     def draw_closures(draw, instance, start):
@@ -103,7 +103,13 @@ class ThereAndBack(Tables):
             period = draw.choice([None, *range(instance.periods)])
             scope = Scope(*draw.choice(named), day, period)
             if not any(
-                scope.has_slot((d, p)) and scope.is_about(instance, course, room)
+                day in (None, d)
+                and period in (None, p)
+                and scope.name == {
+                    "course": course,
+                    "teacher": instance.courses[course].teacher,
+                    "room": room,
+                }[scope.kind]
                 for course, room, d, p in stands
             ):
                 scopes.append(scope)
@@ -115,30 +121,37 @@ class ThereAndBack(Tables):
         kinds = list(PIECES)
         for number in range(DRAWN):
             kind = kinds[number % len(kinds)]
-            day = self.make_day(draw, number, {kind: PIECES[kind]})
+            day, closures = self.make_day(draw, number, {kind: PIECES[kind]})
             with self.subTest(number), redirect_stdout(StringIO()):
                 tables, plan = self.path(f"tables{number}"), self.path(f"plan{number}")
                 export_day(day, None, tables)
                 import_folder(tables, plan, False)
                 barred = day.barred if day.barred_words() else None
-                wanted = read_instance(day.instance, barred)
-                wanted.block(read_closures(day))
                 new = os.path.join(plan, "barred")
-                found = read_instance(
-                    os.path.join(plan, "instance.ctt"), new if os.path.exists(new) else None
-                )
-                self.assertEqual(found, wanted)
-                found.block(read_closures(Day(plan)))
-                self.assertEqual(found.closed, wanted.closed)
-                self.assertEqual(found.blocked, wanted.blocked)
-                for part in ("courses", "rooms", "curricula", "teachers"):
-                    self.assertEqual(list(getattr(found, part)), list(getattr(wanted, part)))
                 self.assertEqual(os.path.exists(new), barred is not None)
+                files = [text_of(day.instance), text_of(barred)]
+                made = [text_of(os.path.join(plan, "instance.ctt")), text_of(barred and new)]
+                self.check_instance(PlainInstance(*made), PlainInstance(*files))
+                # and with what is blocked
+                files.append(self.text_of(closures))
+                made.append(self.text_of(read_closures(Day(plan))))
+                wanted = PlainInstance(*files)
+                self.check_instance(PlainInstance(*made), wanted)
                 self.assertEqual(
-                    sorted(read_solution(os.path.join(plan, "start.sol"))),
-                    sorted(read_solution(day.start)),
+                    sorted(lectures_of(os.path.join(plan, "start.sol"))),
+                    sorted(lectures_of(day.start)),
                 )
                 self.check_labels(day, plan, wanted)
+
+    @staticmethod
+    def text_of(closures):
+        return file_of_closures([closure.scope for closure in closures])
+
+    def check_instance(self, found, wanted):
+        """All is the same, in the same order."""
+        self.assertEqual(vars(found), vars(wanted))
+        for part in ("courses", "rooms", "curricula", "teachers"):
+            self.assertEqual(list(getattr(found, part)), list(getattr(wanted, part)))
 
     def test_of_a_draft(self):
         """The newest timetable, or that after a draft."""
@@ -173,12 +186,6 @@ class ThereAndBack(Tables):
         for room in instance.rooms:
             self.assertEqual(new.room(room), old.room(room))
             self.assertEqual(new.short("room", room), old.short("room", room))
-
-
-def read_instance_of(text, path):
-    with open(path, "wb") as file:
-        file.write(text)
-    return read_instance(path)
 
 
 if __name__ == "__main__":

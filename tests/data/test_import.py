@@ -5,12 +5,12 @@ import unittest
 from contextlib import redirect_stdout
 from io import StringIO
 
+from plain_instance import instance_of, lectures_of
 from support import HERE, PROGRAM, OfficeTest
 
 from office.closures import read_closures
 from office.folder import Day
 from office.importing import import_folder
-from office.instance import read_instance, read_solution
 from office.label_files import read_labels
 from office.scope import Scope
 from office.refused import Refused
@@ -226,11 +226,11 @@ class Codes(Tables):
         new = "Linear.Algebra,Ada Byron,1,1,3\nLinear Algebra,"
         self.change("courses.csv", "Linear Algebra,", new)
         self.imported(to="next")
-        courses = list(read_instance(self.path("next/instance.ctt")).courses)
+        courses = list(instance_of(self.path("next/instance.ctt")).courses)
         self.assertEqual(courses[:2], ["Linear.Algebra", "Linear-Algebra"])
         self.change("courses.csv", "Linear.Algebra,", "Linear Algebra !,")
         self.imported(to="last")
-        courses = list(read_instance(self.path("last/instance.ctt")).courses)
+        courses = list(instance_of(self.path("last/instance.ctt")).courses)
         self.assertEqual(courses[:2], ["Linear-Algebra-2", "Linear-Algebra"])
 
     def test_codes_are_written_or_named(self):
@@ -240,9 +240,9 @@ class Codes(Tables):
         self.change("rooms.csv", "Cellar,20", "Cellar,20,h3")
         self.change("lectures.csv", "Linear Algebra,Hall 2", "Linear Algebra,h2")
         self.imported()
-        instance = read_instance(self.path("plan/instance.ctt"))
+        instance = instance_of(self.path("plan/instance.ctt"))
         self.assertEqual(list(instance.rooms), ["h2", "Room-1-01", "h3"])
-        self.assertEqual(read_solution(self.path("plan/start.sol"))[0][1], "h2")
+        self.assertEqual(lectures_of(self.path("plan/start.sol"))[0][1], "h2")
         labels = read_labels(self.path("plan"))
         self.assertEqual((labels.room("h2"), labels.short("room", "h2")), ("Hall 2 (h2)", "H2"))
 
@@ -251,7 +251,7 @@ class Codes(Tables):
         self.change("curricula.csv", "Mathematics, first", '",\nNobody,\n"Mathematics, first')
         self.change("curricula.csv", '"",\n', "")
         self.imported()
-        curricula = read_instance(self.path("plan/instance.ctt")).curricula
+        curricula = instance_of(self.path("plan/instance.ctt")).curricula
         self.assertEqual(list(curricula.items())[0], ("Nobody", []))
 
 

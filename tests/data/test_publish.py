@@ -10,6 +10,7 @@ import unittest
 from urllib.parse import unquote
 
 from browser import Pages, read_calendar, with_browser, with_reader
+from plain_instance import instance_of
 from support import HERE, PATIENCE, SMALL, SMALL_SOL, wait_until
 from test_weeks import LABELS, TERM, Weeks, small_times
 
@@ -69,7 +70,7 @@ class Files(Publishing):
         printed, said = self.publish()
         self.assertEqual(printed, "")
         self.assertIn("office: day, at its start: 0 lectures changed, 19 files of 19 written", said)
-        instance = read_instance(SMALL)
+        instance = instance_of(SMALL)
         wanted = {"index.html", "changes.html", "published.json"}
         for kind, codes in (
             ("course", instance.courses),

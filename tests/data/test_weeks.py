@@ -8,12 +8,12 @@ import subprocess
 import unittest
 
 from browser import Pages, read_calendar, with_browser, with_reader
+from plain_instance import instance_of, lectures_of
 from support import COMP07, COMP07_SOL, PROGRAM, SMALL, SMALL_SOL, OfficeTest, said
 
 from office.board import Board
 from office.folder import Day
 from office.ics import folded
-from office.instance import read_instance, read_solution
 from office.refused import Refused
 from office.week import View
 from office.zones import changes, check_zone, offsets
@@ -88,7 +88,7 @@ class Text(Weeks):
         day = self.make_day()
         found = self.show(day.path, "--teacher", "t1").decode().splitlines()
         self.assertEqual(found[0], "t1: 2 courses")
-        lectures = [row for row in read_solution(SMALL_SOL) if row[0] in ("alg", "top")]
+        lectures = [row for row in lectures_of(SMALL_SOL) if row[0] in ("alg", "top")]
         self.assertEqual(sum(line.startswith("  period ") for line in found), len(lectures))
         for course, room, number, period in lectures:
             heading = found.index(f"day {number + 1}")
@@ -179,10 +179,10 @@ class Csv(Weeks):
         day = self.labelled()
         found = self.show(day.path, "--curriculum", "q1", "--csv").decode("utf-8-sig")
         rows = list(csv.DictReader(io.StringIO(found, newline="")))
-        members = read_instance(SMALL).curricula["q1"]
+        members = instance_of(SMALL).curricula["q1"]
         wanted = sorted(
             (d + 1, p + 1, course, room)
-            for course, room, d, p in read_solution(SMALL_SOL)
+            for course, room, d, p in lectures_of(SMALL_SOL)
             if course in members
         )
         self.assertEqual(
@@ -210,7 +210,7 @@ class Calendars(Weeks):
         found = read_calendar(self.show(day.path, "--teacher", "t1", "--ics"))
         self.assertEqual((found["name"], found["errors"]), ("Ada Byron", []))
         wanted = []
-        for course, room, number, period in read_solution(SMALL_SOL):
+        for course, room, number, period in lectures_of(SMALL_SOL):
             if course not in ("alg", "top"):
                 continue
             date = datetime.date(2026, 10, 12 if number == 0 else 15)
@@ -236,7 +236,7 @@ class Calendars(Weeks):
 
     @with_reader
     def test_a_moved_lecture_keeps_its_events(self):
-        lectures = read_solution(SMALL_SOL)
+        lectures = lectures_of(SMALL_SOL)
         taken = {(day, period) for course, _, day, period in lectures if course == "geo"}
         course, room, day, period = next(row for row in lectures if row[0] == "geo")
         others = [(d, p) for d in range(2) for p in range(3) if (d, p) not in taken]
@@ -260,7 +260,7 @@ class Calendars(Weeks):
     def test_a_lecture_without_a_time(self):
         rows = small_times().replace("1,2,Mon,10:15,11:45", "1,2,Mon,,")
         day = self.labelled(times=rows)
-        courses = {c for c, _, d, p in read_solution(SMALL_SOL) if (d, p) == (0, 1)}
+        courses = {c for c, _, d, p in lectures_of(SMALL_SOL) if (d, p) == (0, 1)}
         status, printed, said = self.office("show", day.path, "--course", courses.pop(), "--ics")
         self.assertEqual((status, printed), (1, ""))
         self.assertEqual(said, "office: times.csv has no time for Mon, period 2\n")
