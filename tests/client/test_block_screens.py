@@ -1,9 +1,9 @@
 """Two planners at two real screens, whose room is blocked under an open draft."""
 import unittest
 
+from at_terminals import TO_BEST
 from support import COMP07, COMP07_SOL, OFFICE, OfficeTest, wait_until
 from terminal import Terminals, has_tmux
-from test_screen import TO_BEST
 
 from office.folder import Day
 from office.parts import parts_of
