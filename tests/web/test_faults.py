@@ -4,8 +4,6 @@ import threading
 
 from served import SMALL, BrowserTest, cell, skip_without_browser
 
-from office.minutes import read_minutes
-
 # a desk that can write files of 600 bytes
 LIMITED = """#!/usr/bin/env python3
 import os, resource, signal, sys
@@ -107,7 +105,7 @@ class Faults(BrowserTest):
         anna.sees("Nothing can be committed any more", "#banner")
         ben.sees("Nothing can be committed any more", "#banner")
         # the last one may be torn
-        written = len(read_minutes(self.path("day/minutes")))
+        written = self.drafts_in("day")
         for one in (anna, ben):
             told = one.run("return document.querySelectorAll('#news .drafts > li').length")
             self.assertEqual(told, min(written, 30))

@@ -17,7 +17,6 @@ from served import (
 
 from office.commit_notes import CommitNote, keep_commit_note
 from office.folder import Day
-from office.minutes import read_minutes
 
 FROM, BEST = (4, 1), (4, 3)
 SEEN = {"course": "c0109", "room": "r01", "at": FROM}
@@ -262,7 +261,7 @@ class Small(WebTest):
         self.serve("day")
         self.sit("day", 2, "open\nplace alg A 1 0\ncommit\n" + "open\ncost\ncommit\n" * 30)
         # the last one may be torn
-        written = len(read_minutes(self.path("day/minutes")))
+        written = self.drafts_in("day")
         self.ask("hello", {"name": "anna"})
         held = self.ask("pick_up_missing", {"course": "geo"})[1]["picture"]["held"]
         slot = next(one for one in held["slots"] if one["at"] == held["best"])
