@@ -26,14 +26,14 @@ show slots place top * * *
 ";
 
 /// Lines that name a slot, or no edit that leads to another slot.
-pub(crate) const BAD_SLOTS: &str = "0 open
-0 slots place top * 0 1
+pub(crate) const BAD_SLOTS: &str = "0 slots place top * 0 1
 0 slots move geo 0 1 * * 1
 0 slots swap geo 0 1 top 0 2
 0 slots reroom geo * 0 1
 0 slots drop geo 0 1
 0 slots 5 place top * * *
 0 slots
+0 open
 0 slots place top * * *
 ";
 
