@@ -17,8 +17,6 @@ from served import (
 )
 from terminal import Terminals, has_tmux
 
-from office.minutes import read_minutes
-
 FROM, BEST = (4, 1), (4, 3)
 # as many drawn days, and acts of each
 DAYS, ACTS = (20, 300) if os.environ.get("FULL") else (2, 120)
@@ -128,7 +126,7 @@ class Days(BrowserTest):
         for window in windows:
             self.settle(window)
         # what was committed last is heard of
-        count = len(read_minutes(self.path(f"{day}/minutes")))
+        count = self.drafts_in(day)
         for window in windows:
             window.wait(HEARD, count)
         courses = ["c0109", "c0097", "c0014", "c0084"] if big else ["geo", "alg", "top"]
