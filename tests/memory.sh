@@ -183,8 +183,11 @@ for words in 'check small.ctt s.sol --json --barred barred' 'check small.ctt sma
     rm -f journal
     "$program" $words >out 2>err
     wanted=$?
-    mapfile -t without < <(dispensable $words)
-    for later in '' REFUSE_LATER=1; do
+    rounds=('' REFUSE_LATER=1)
+    # two threads ask as they come, so a round may pass over the only request of a line
+    [ "$words" != 'crew small.ctt one' ] || rounds+=('' '')
+    for later in "${rounds[@]}"; do
+        [ -n "$later" ] || mapfile -t without < <(dispensable $words)
         for ((number = 1; ; number++)); do
             rm -f journal
             env LD_PRELOAD="$room/refuse.so" MET=met REFUSE=$number $later "$program" $words >out.now 2>err.now
