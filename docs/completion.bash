@@ -42,22 +42,22 @@ _timedesk_names() {
 # those of a command: tools/flags.py makes them of the help.
 # the words of timedesk, by tools/flags.py
 _timedesk_commands=(check compare week page run audit crew desk journal list mend where)
-_timedesk_bare='--csv --explain --help --json --name --strict --version'
+_timedesk_bare='--byte --csv --explain --faults --help --json --name --plain --point --sentences --sort --strict --version'
 _timedesk_known() {
     case $1 in
     '') options='--help --version' ;;
-    check) options='--barred --blocked --explain --help --json --name --strict' ;;
-    compare) options='--barred --blocked --csv --help --json --strict' ;;
-    week) options='--barred --blocked --course --curriculum --help --room --teacher' ;;
-    page) options='--barred --blocked --days --help' ;;
-    run) options='--barred --blocked --help --journal --start' ;;
-    audit) options='--barred --blocked --help --start' ;;
-    crew) options='--barred --blocked --help' ;;
-    desk) options='--barred --blocked --help --minutes --start' ;;
-    journal) options='--barred --blocked --help' ;;
-    list) options='--barred --blocked --help --start' ;;
-    mend) options='--barred --blocked --help' ;;
-    where) options='--help' ;;
+    check) options='--barred --blocked --csv --explain --help --json --name --point --sentences --strict' ;;
+    compare) options='--barred --blocked --csv --faults --help --json --pairs --point --sort --strict' ;;
+    week) options='--barred --blocked --course --curriculum --help --point --room --teacher' ;;
+    page) options='--barred --blocked --course --curriculum --days --grids --help --plain --point --room --teacher' ;;
+    run) options='--barred --blocked --help --journal --point --start' ;;
+    audit) options='--barred --blocked --help --point --start' ;;
+    crew) options='--barred --blocked --help --point' ;;
+    desk) options='--barred --blocked --help --minutes --point --start' ;;
+    journal) options='--barred --blocked --help --point' ;;
+    list) options='--barred --blocked --help --point --start' ;;
+    mend) options='--barred --blocked --help --point' ;;
+    where) options='--byte --help' ;;
     *) options=--help ;;
     esac
 }
@@ -128,6 +128,7 @@ _timedesk() {
     *:--course | *:--curriculum | *:--room | *:--teacher) _timedesk_names "$typed" "$option" "$instance" ;;
     :1 | help:1) _timedesk_words "$typed" "${_timedesk_commands[@]}" help ;;
     *:--days) _timedesk_words "$typed" mon,tue,wed,thu,fri ;;
+    *:--grids) _timedesk_words "$typed" curricula teachers courses rooms ;;
     help:*) ;;
     where:1) _timedesk_files "$typed" '' ;;
     where:*) ;;

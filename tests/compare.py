@@ -1,5 +1,6 @@
 #!/usr/bin/env python3
-"""Compares the rows of `compare` with a plain reading of the rules, and tries `where`, `check --name` and standard input.
+"""Compares the rows of `compare` with a plain reading of the rules, also those of `--sort`, `--pairs` and `--faults`, and tries `where`,
+`check --name` and standard input.
 
 PROGRAM names another program. The last line is 'N passed, M failed'.
 """
@@ -24,22 +25,39 @@ COUNTS = ["lectures", "conflicts", "availability", "occupancy", "barred", "block
 FILES = ["plain.sol", 'a "quoted", one.sol', "wide 数学.sol", "two\nlines.sol", "long-" + "x" * 30 + ".sol"]
 
 
-def columns(instance):
+HARD, COSTS = COUNTS[:6], COUNTS[6:]
+
+
+def columns(*instances):
     """The names of the columns. Blocked rooms have one only if there are some."""
-    return ["file", *(key for key in COUNTS if key != "blocked" or instance.blocked), "total", "lawful", "complete"]
+    hard = [key for key in HARD if key != "blocked" or any(instance.blocked for instance in instances)]
+    return ["file", *hard, "violations", *COSTS, "total", "lawful", "complete"]
 
 
 def row(instance, file, t):
     """The cells of a solution."""
     counts, lawful, complete = instance.count(t)
-    total = sum(counts[kind] for kind in ("capacity", "days", "compactness", "stability"))
-    cells = {"file": file, **counts, "total": total, "lawful": lawful, "complete": complete}
+    sums = {"violations": sum(counts[kind] for kind in HARD), "total": sum(counts[kind] for kind in COSTS)}
+    cells = {"file": file, **counts, **sums, "lawful": lawful, "complete": complete}
     return {key: cells[key] for key in columns(instance)}
 
 
+def refused_row(head, file, fault):
+    """The cells of a file that is refused."""
+    return {**dict.fromkeys(head), "file": file, "fault": fault}
+
+
 def words(cells):
-    """The cells as words, with yes or no for what is true or false."""
-    return [{True: "yes", False: "no"}[cell] if isinstance(cell, bool) else str(cell) for cell in cells.values()]
+    """The cells as words, with yes or no for what is true or false, and nothing for what there is not."""
+    answers = {True: "yes", False: "no", None: ""}
+    return [answers[cell] if cell is None or isinstance(cell, bool) else str(cell) for cell in cells.values()]
+
+
+def rank(cells):
+    """What a row of an instance is sorted by: lawful and complete, then lawful, then the others, then those that are refused; by the
+    total, and by the bytes of the name."""
+    kind = 3 if cells["lawful"] is None else 0 if cells["complete"] else 1 if cells["lawful"] else 2
+    return kind, cells["total"] or 0, cells["file"].encode()
 
 
 def aligned(head, rows):
@@ -59,16 +77,38 @@ def csv_text(head, rows):
     return out.getvalue()
 
 
-def check_rows(name, given, head, rows, said=""):
-    """Compares all forms of a comparison, given the names of its columns, and its rows."""
+def json_of(rows):
+    """The rows as JSON, their keys in the order of their bytes."""
+    return json.dumps(rows, sort_keys=True, ensure_ascii=False, separators=(",", ":")) + "\n"
+
+
+def check_rows(name, given, head, rows, said="", refused=()):
+    """Compares all forms of a comparison, given the names of its columns, its rows, and those of the files that are refused, each with
+    its number among all."""
     if said:
         status = strict = 1
     else:
         status, strict = 0, 0 if all(each["complete"] for each in rows) else 5 if all(each["lawful"] for each in rows) else 4
     check_run(f"{name}: aligned", "compare", *given, wanted=aligned(head, rows), said=said, status=status)
     check_run(f"{name}: CSV", "compare", *given, "--csv", "--strict", wanted=csv_text(head, rows), said=said, status=strict)
-    text = json.dumps(rows, ensure_ascii=False, separators=(",", ":")) + "\n"
-    check_run(f"{name}: JSON", "compare", *given, "--json", wanted=text, said=said, status=status)
+    check_run(f"{name}: JSON", "compare", *given, "--json", wanted=json_of(rows), said=said, status=status)
+    best = sorted(rows, key=rank)
+    check_run(f"{name}: the best first", "compare", *given, "--sort", wanted=aligned(head, best), said=said, status=status)
+    check_run(f"{name}: the best first, as CSV", "compare", "--sort", "--csv", *given, wanted=csv_text(head, best), said=said, status=status)
+    # a row for each file, also for those that are refused
+    head, every = [*head, "fault"], [{**cells, "fault": None} for cells in rows]
+    for at, cells in refused:
+        every.insert(at, cells)
+    check_run(f"{name}: faults", "compare", *given, "--faults", "--csv", wanted=csv_text(head, every), said=said, status=status)
+    check_run(f"{name}: faults as JSON", "compare", *given, "--json", "--faults", wanted=json_of(every), said=said, status=status)
+    best = json_of(sorted(every, key=rank))
+    check_run(f"{name}: faults last", "compare", *given, "--json", "--faults", "--sort", wanted=best, said=said, status=status)
+    check_run(f"{name}: no faults when aligned", "compare", *given, "--faults", wanted=aligned(head[:-1], rows), said=said, status=status)
+
+
+def write(file, text):
+    with open(file, "wb") as opened:
+        opened.write(text)
 
 
 def check_drawn(folder):
@@ -79,20 +119,24 @@ def check_drawn(folder):
         blocked = draw_blocked(draw, Instance(text, barred))
         instance = Instance(text, barred, blocked)
         given = words_of(write_files(folder, text, b"", barred, blocked))
-        rows, said, files = [], "", []
+        rows, said, files, left_out, points = [], "", [], [], []
         for file in FILES[:SOLUTIONS]:
             files.append(os.path.join(folder, file))
             solution = draw_solution(draw, instance)
             refused = draw.random() < 0.1
-            with open(files[-1], "wb") as opened:
-                opened.write(b"one" if refused else solution)
+            write(files[-1], b"one" if refused else solution)
             if refused:
                 ended, _, complaint = call("check", given[0], files[-1], *given[2:])
-                check(f"drawn solutions {n}: refused", ended, 1)
-                said += f"{files[-1]}: {complaint}"
+                check(f"drawn solutions {n}: refused", (ended, complaint[:19]), (1, "timedesk: solution "))
+                points += [complaint.replace("timedesk: ", f"timedesk: {files[-1]}: ", 1), f"{files[-1]}:1:1: S3: no course one\n"]
+                said += points[-2]
+                left_out.append((len(files) - 1, refused_row([*columns(instance), "fault"], files[-1], complaint[19:].rstrip("\n"))))
             else:
                 rows.append(row(instance, files[-1], instance.read_solution(solution)))
-        check_rows(f"drawn solutions {n}", [given[0], *files, *given[2:]], columns(instance), rows, said)
+        check_rows(f"drawn solutions {n}", [given[0], *files, *given[2:]], columns(instance), rows, said, left_out)
+        words_given = ["compare", "--point", given[0], *files, *given[2:]]
+        said, status = "".join(points), 1 if points else 0
+        check_run(f"drawn solutions {n}: points", *words_given, wanted=aligned(columns(instance), rows), said=said, status=status)
 
 
 def check_examples(folder):
@@ -103,16 +147,97 @@ def check_examples(folder):
     check_rows("comp07", [instance, solution], head, rows)
     check_rows("comp07, many times", [instance, *[solution] * 100], head, rows * 100)
     none = os.path.join(folder, "none.sol")
-    check_rows("no file", [instance, none, solution], head, rows, f"{none}: timedesk: cannot read {none}\n")
+    unread = refused_row([*head, "fault"], none, "cannot read")
+    check_rows("no file", [instance, none, solution], head, rows, f"timedesk: {none}: cannot read\n", [(0, unread)])
     check_run("no instance", "compare", none, solution, said=f"timedesk: cannot read {none}\n", status=3)
     check_full("no place for the rows", "compare", instance, solution)
-    named = {"file": solution}
     for option in (), ("--explain",):
         _, printed, _ = call("check", instance, solution, "--json", *option)
-        wanted = json.dumps(named, ensure_ascii=False)[:-1] + "," + printed[1:]
-        check_run("a name", "check", instance, solution, "--json", "--name", *option, wanted=wanted.replace('": ', '":', 1))
+        wanted = json_of({**json.loads(printed), "file": solution})
+        check_run("a name", "check", instance, solution, "--json", "--name", *option, wanted=wanted)
     _, printed, _ = call("check", instance, solution)
     check_run("no name without JSON", "check", instance, solution, "--name", wanted=printed)
+
+
+def check_list(name, text, head, groups, folder):
+    """Compares all forms of a comparison of pairs, by the text of their list: each group has what is said of its files, and its rows, of
+    which those of refused files have a fault."""
+    file, said = os.path.join(folder, "list.txt"), "".join(said for said, _ in groups)
+    with open(file, "wb") as opened:
+        opened.write(text)
+    every = [cells for _, rows in groups for cells in rows]
+    best = [cells for _, rows in groups for cells in sorted(rows, key=rank)]
+    status = 1 if said else 0
+
+    def whole(rows):
+        return [{key: cells[key] for key in head} for cells in rows if cells["fault"] is None]
+
+    def with_faults(rows):
+        return [{key: cells[key] for key in [*head, "fault"]} for cells in rows]
+
+    check_run(f"{name}: aligned", "compare", "--pairs", file, wanted=aligned(head, whole(every)), said=said, status=status)
+    check_run(f"{name}: the best first", "compare", "--sort", "--pairs", file, wanted=aligned(head, whole(best)), said=said, status=status)
+    wanted = csv_text([*head, "fault"], with_faults(best))
+    check_run(f"{name}: CSV", "compare", "--pairs", file, "--csv", "--faults", "--sort", wanted=wanted, said=said, status=status)
+    check_run(f"{name}: JSON", "compare", "--json", "--pairs", file, wanted=json_of(whole(every)), said=said, status=status)
+    with open(file, "rb") as given:
+        done = subprocess.run([PROGRAM, "compare", "--pairs", "-", "--json", "--faults"], stdin=given, capture_output=True, timeout=300)
+    wanted = (status, json_of(with_faults(every)), said)
+    check(f"{name}: of standard input", (done.returncode, done.stdout.decode(), done.stderr.decode()), wanted)
+
+
+def check_pairs(folder):
+    """Draws lists of pairs: of some instances, of which some are refused, with solutions in any order."""
+    draw = random.Random(73)
+    for n in range(DRAWN // 2):
+        named, groups, head = [], [], ["instance", *columns()]
+        for number in range(draw.randint(1, 3)):
+            text, _ = draw_instance(draw)
+            instance, ctt = Instance(text), os.path.join(folder, draw.choice(["a", "数学", "long-name"]) + f"{number}.ctt")
+            is_cut = draw.random() < 0.2
+            write(ctt, text[:6] if is_cut else text)
+            said, rows = (f"timedesk: {ctt}: instance I2 2\n" if is_cut else ""), []
+            for at in range(draw.randint(1, 4)):
+                file = os.path.join(folder, f"{draw.choice('abc')}{number}-{at}.sol")
+                solution = b"one" if draw.random() < 0.2 else draw_solution(draw, instance)
+                write(file, solution)
+                fault = "I2 2" if is_cut else "S3 1" if solution == b"one" else None
+                cells = refused_row(head, file, fault) if fault else {**row(instance, file, instance.read_solution(solution)), "fault": None}
+                rows.append({**cells, "instance": ctt})
+                said += f"timedesk: {file}: solution S3 1\n" if fault == "S3 1" else ""
+            named.append([f"{ctt}{draw.choice([' ', chr(9), '   '])}{cells['file']}" for cells in rows])
+            groups.append((said, rows))
+        # the lines of an instance keep their order; the instances that of their first lines
+        lines, order = [], list(range(len(named)))
+        turns = [number for number, of in enumerate(named) for _ in of]
+        draw.shuffle(turns)
+        order.sort(key=turns.index)
+        for number in turns:
+            lines.append(named[number].pop(0) + draw.choice(["", " ", "\r", "\n", "\n \t"]))
+        text = "\n".join(lines) + draw.choice(["", "\n"])
+        check_list(f"drawn pairs {n}", text.encode(), head, [groups[number] for number in order], folder)
+    check_list("no pair", b" \n", ["instance", *columns()], [], folder)
+    instance, solution = pair_of(EXAMPLES, "comp07")
+    pair = f"{instance} {solution}\n"
+    for text, fault in (
+        (pair + "one", "P2 2"), ("one two three\n" + pair, "P2 1"), (f"{pair}\n - {solution}", "P3 3"), (f"{instance} -", "P3 1"),
+        ("one\n- -", "P2 1"), (f"{pair}nowhere nowhere\n{pair}one", "P2 4"),
+    ):
+        write(os.path.join(folder, "list.txt"), text.encode())
+        check_run(f"pairs {text}", "compare", "--pairs", os.path.join(folder, "list.txt"), said=f"timedesk: pairs {fault}\n", status=1)
+    write(os.path.join(folder, "list.txt"), pair.encode() + b"a\xff b\n")
+    check_run("pairs of bytes", "compare", "--pairs", os.path.join(folder, "list.txt"), said="timedesk: pairs P1 2\n", status=1)
+    none = os.path.join(folder, "none")
+    check_run("no list of pairs", "compare", "--pairs", none, said=f"timedesk: cannot read {none}\n", status=3)
+    beside = "timedesk: --pairs names the files: no INSTANCE, SOLUTION, --barred or --blocked beside it\n"
+    for more in [instance], [instance, solution], ["--barred", "-"], ["--blocked", none]:
+        check_run("files beside pairs", "compare", *more, "--pairs", none, said=beside, status=2)
+    for few in [], [instance]:
+        check_run("nothing to compare", "compare", *few, said="timedesk: compare needs an INSTANCE and a SOLUTION, or --pairs\n", status=2)
+    # each instance is read once, also where a thousand lines name it
+    write(os.path.join(folder, "list.txt"), pair.encode() * 1000)
+    status, printed, said = call("compare", "--pairs", os.path.join(folder, "list.txt"))
+    check("a thousand pairs", (status, len(printed.splitlines()), said), (0, 1001, ""))
 
 
 def check_standard_input():
@@ -136,27 +261,58 @@ def shown(file, text, number):
     return f"{file}:{1 + text.count(bytes([10]), 0, start)}:{1 + len(lead)}: {word}\n{line}\n{mark}\n"
 
 
+def place(file, front):
+    """The place in a file behind these bytes: line and column, which is a character."""
+    lead = front.split(b"\n")[-1]
+    return f"{file}:{1 + front.count(bytes([10]))}:{1 + sum(byte & 0xC0 != 0x80 for byte in lead)}: "
+
+
+def check_bytes(folder):
+    """Finds each byte of a text with characters of one to four bytes, and with bytes that are none."""
+    file, text = os.path.join(folder, "bytes.txt"), "a\té数🎓\n\nb".encode() + b"\xff c\x80\n" + "é".encode()
+    write(file, text)
+    for number in range(len(text)):
+        front, what = text[:number], text[number]
+        lead = front.split(b"\n")[-1]
+        line = lead + text[number:].split(b"\n")[0]
+        mark = b"".join(b"\t" if byte == 9 else b" " for byte in lead if byte & 0xC0 != 0x80) + b"^"
+        wanted = f"{place(file, front)}0x{what:02x}\n".encode() + line + b"\n" + mark + b"\n"
+        done = subprocess.run([PROGRAM, "where", file, str(number), "--byte"], capture_output=True, timeout=300)
+        check(f"byte {number}", (done.returncode, done.stdout, done.stderr), (0, wanted, b""))
+    for number in len(text), len(text) + 7, 999999999:
+        said = f"{place(file, text)}the bytes end here, before byte {number}\n"
+        check_run(f"no byte {number}", "where", "--byte", file, str(number), said=said, status=1)
+    for number in "x", "1000000000", "":
+        check_run(f"no byte {number}", "where", "--byte", file, number, said=f"timedesk: no byte {number} in {file}\n", status=1)
+
+
 def check_words(folder):
     """Finds words of the examples, and of a text with blanks of all kinds."""
     odd = os.path.join(folder, "odd.txt")
-    with open(odd, "wb") as opened:
-        opened.write("\n\n a\tbé\v数学\fc \r\n\n\td\te".encode())
+    write(odd, "\n\n a\tbé\v数学\fc \r\n\n\td\te".encode())
     for file in (odd, *pair_of(EXAMPLES, "small")[:1], os.path.join(EXAMPLES, "s.sol")):
         text = read_files([file])[0]
         count = len(text.split())
         for number in range(1, count + 1):
             check_run(f"word {number}", "where", file, str(number), wanted=shown(file, text, number))
-        for word in ("0", str(count + 1), "x", "999999999999", ""):
+        for word in ("0", "x", "1000000000", "999999999999", ""):
             check_run(f"no word {word}", "where", file, word, said=f"timedesk: no word {word} in {file}\n", status=1)
-    none = os.path.join(folder, "none")
+        for number in count + 1, count + 7, 999999999:
+            said = f"{place(file, text.rstrip())}the words end here, before word {number}\n"
+            check_run(f"no word {number}", "where", file, str(number), said=said, status=1)
+    none, empty = os.path.join(folder, "none"), os.path.join(folder, "empty")
     check_run("words of no file", "where", none, "1", said=f"timedesk: cannot read {none}\n", status=3)
+    write(empty, b" \n\n ")
+    check_run("no word at all", "where", empty, "1", said=f"{empty}:1:1: the words end here, before word 1\n", status=1)
 
 
 def main():
     with tempfile.TemporaryDirectory() as folder:
         check_drawn(folder)
         check_examples(folder)
+        check_pairs(folder)
         check_words(folder)
+        check_bytes(folder)
     check_standard_input()
     end()
 

@@ -63,25 +63,29 @@ offers '' timedesk frobnicate
 offers $'--help\n--version' timedesk -
 
 # options
-offers $'--barred\n--blocked\n--explain\n--help\n--json\n--name\n--strict' timedesk check small.ctt monday.sol -
-offers $'--barred\n--blocked\n--help\n--strict' timedesk check small.ctt --json --name monday.sol --explain --
-offers $'--barred\n--blocked\n--csv\n--help\n--strict' timedesk compare small.ctt monday.sol --json --
-offers $'--help' timedesk where small.ctt 1 --
+offers $'--barred\n--blocked\n--csv\n--explain\n--help\n--json\n--name\n--point\n--sentences\n--strict' timedesk check small.ctt monday.sol -
+offers $'--barred\n--blocked\n--csv\n--help\n--point\n--sentences\n--strict' timedesk check small.ctt --json --name monday.sol --explain --
+offers $'--barred\n--blocked\n--csv\n--faults\n--help\n--pairs\n--point\n--sort\n--strict' timedesk compare small.ctt monday.sol --json --
+offers $'--byte\n--help' timedesk where small.ctt 1 --
 offers $'--explain' timedesk check --e
-offers $'--barred\n--blocked\n--course\n--curriculum\n--help\n--room\n--teacher' timedesk week small.ctt monday.sol --
-offers $'--barred\n--blocked\n--help' timedesk week small.ctt monday.sol --room A --
-offers $'--barred\n--blocked\n--days\n--help' timedesk page small.ctt monday.sol --
+offers $'--barred\n--blocked\n--course\n--curriculum\n--help\n--point\n--room\n--teacher' timedesk week small.ctt monday.sol --
+offers $'--barred\n--blocked\n--help\n--point' timedesk week small.ctt monday.sol --room A --
+offers $'--barred\n--blocked\n--course\n--curriculum\n--days\n--grids\n--help\n--plain\n--point\n--room\n--teacher' timedesk page small.ctt monday.sol --
+offers $'--barred\n--blocked\n--days\n--grids\n--help\n--point' timedesk page small.ctt monday.sol --plain --teacher t1 --
+offers $'courses\ncurricula\nrooms\nteachers' timedesk page small.ctt monday.sol --grids ''
+offers $'t1\nt2' timedesk page small.ctt monday.sol --plain --teacher ''
 offers 'mon,tue,wed,thu,fri' timedesk page small.ctt monday.sol --days ''
-offers $'--barred\n--blocked\n--help\n--journal\n--start' timedesk run small.ctt day.txt --
-offers $'--help\n--journal' timedesk run --start monday.sol --barred barred --blocked blocked small.ctt day.txt -
-offers $'--barred\n--blocked\n--help' timedesk crew --
-offers $'--barred\n--blocked\n--help\n--minutes\n--start' timedesk desk --
-offers $'--barred\n--blocked\n--help' timedesk journal --
-offers $'--barred\n--blocked\n--help\n--start' timedesk audit --
-offers $'--barred\n--blocked\n--help\n--start' timedesk list --
-offers $'--barred\n--blocked\n--help' timedesk mend --
+offers $'--barred\n--blocked\n--help\n--journal\n--point\n--start' timedesk run small.ctt day.txt --
+offers $'--help\n--journal\n--point' timedesk run --start monday.sol --barred barred --blocked blocked small.ctt day.txt -
+offers $'--barred\n--blocked\n--help\n--point' timedesk crew --
+offers $'--barred\n--blocked\n--help\n--minutes\n--point\n--start' timedesk desk --
+offers $'--barred\n--blocked\n--help\n--point' timedesk journal --
+offers $'--barred\n--blocked\n--help\n--point\n--start' timedesk audit --
+offers $'--barred\n--blocked\n--help\n--point\n--start' timedesk list --
+offers $'--barred\n--blocked\n--help\n--point' timedesk mend --
 # behind the last place of a command stand options
-offers $'--barred\n--blocked\n--help\n--name\n--strict' timedesk check small.ctt monday.sol --json --explain ''
+offers $'--barred\n--blocked\n--csv\n--help\n--name\n--point\n--sentences\n--strict' timedesk check small.ctt monday.sol --json --explain ''
+offers "$folders"$'\nday.txt\nmonday.ctt\nmonday.sol\nsmall.ctt\ntuesday.sol\ntwo words.ctt' timedesk compare --pairs ''
 
 # files
 offers "$folders"$'\n''monday.ctt'$'\n''small.ctt'$'\n''two words.ctt' timedesk check ''

@@ -4,6 +4,7 @@
 A run takes its files byte by byte. Where a read fails it has to say so with status 3, print nothing and read no more. Where a
 write to standard output or to a file fails, or takes nothing, behind some bytes, these bytes have to be a front of what is
 written else, and no more may be written there. A desk whose minutes fail tells no commit as written that is not, and goes on.
+If nobody reads standard output any more, a run ends as it does else, and says nothing of that.
 
 It needs a C compiler. PROGRAM names another program. The last line is 'N passed, M failed'.
 """
@@ -129,6 +130,44 @@ def check_desk(folder, made):
     check("there is no read behind the last line", desk.run(BAD_READ=before + len(typed) + 1)[4], "")
 
 
+def closed(folder, words, typed=b""):
+    """How a run ends whose standard output nobody reads any more, and what it says."""
+    read, write = os.pipe()
+    os.close(read)
+    try:
+        done = subprocess.run([PROGRAM, *words], cwd=folder, input=typed, stdout=write, stderr=subprocess.PIPE, timeout=60)
+    finally:
+        os.close(write)
+    return done.returncode, done.stderr.decode()
+
+
+def check_closed(folder):
+    """Closes standard output: a run does all that it does else, and ends as it does else; a write that fails otherwise still fails."""
+    for words, wanted in (
+        ("check small.ctt s.sol", (0, "")),
+        ("check small.ctt bad.sol", (1, "timedesk: solution S4 2\n")),
+        ("check small.ctt s0.sol --strict", (5, "")),
+        ("compare small.ctt s.sol bad.sol", (1, "timedesk: bad.sol: solution S4 2\n")),
+        ("run small.ctt phantom.txt --journal kept", (0, "")),
+        ("audit small.ctt told --start s0.sol --blocked blocked", (0, "")),
+        ("crew small.ctt own", (0, "")),
+        ("--help", (0, "")),
+    ):
+        check(f"{words}: nobody reads", closed(folder, words.split()), wanted)
+    stored = held(folder, "kept")
+    subprocess.run([PROGRAM, "run", "small.ctt", "phantom.txt", "--journal", "kept"], cwd=folder, capture_output=True, timeout=60, check=True)
+    check("the journal of a run that nobody reads", stored, held(folder, "kept"))
+    with open("/dev/full", "wb") as full:
+        done = subprocess.run([PROGRAM, "check", "small.ctt", "s.sol"], cwd=folder, stdout=full, stderr=subprocess.PIPE, timeout=60)
+    check("a full device", (done.returncode, done.stderr.decode()), (3, NOT_WRITTEN))
+    # a seat at - is not lost: all lines that were typed are done, and what they commit is written
+    typed = "".join(f"{line}\n" for line in TYPED).encode()
+    os.remove(os.path.join(folder, "kept"))
+    words = ["desk", "small.ctt", "-", "--minutes", "kept"]
+    check("a seat that nobody reads", closed(folder, words, typed), (0, CLOSED[2]))
+    check("its minutes", held(folder, "kept"), b"".join(ENTRIES))
+
+
 with tempfile.TemporaryDirectory() as room:
     shim = build(room, "devices")
     for example in ("small.ctt", "s.sol", "phantom.txt"):
@@ -137,6 +176,9 @@ with tempfile.TemporaryDirectory() as room:
     for example, text in (("told", JOURNAL), ("own", OWN), ("s0.sol", start), ("barred", "Barred: 0 END.\n"), ("blocked", BLOCKED)):
         with open(os.path.join(room, example), "w", encoding="ascii") as opened:
             opened.write(text)
+    with open(os.path.join(room, "bad.sol"), "w", encoding="ascii") as opened:
+        opened.write("alg r99 0 0\n")
+    check_closed(room)
     for command, read in (
         ("check small.ctt s.sol --blocked blocked --barred barred", ["small.ctt", "barred", "blocked", "s.sol"]),
         ("run small.ctt phantom.txt --journal kept", ["small.ctt", "phantom.txt"]),

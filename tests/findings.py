@@ -1,8 +1,10 @@
 #!/usr/bin/env python3
-"""Compares what `check --explain` finds in drawn solutions with a plain reading of the rules.
+"""Compares what `check --explain` finds in drawn solutions with a plain reading of the rules, as text, JSON, CSV and sentences.
 
 PROGRAM names another program. The last line is 'N passed, M failed'.
 """
+import csv
+import io
 import json
 import os
 import random
@@ -11,14 +13,50 @@ import tempfile
 
 sys.dont_write_bytecode = True
 from drawn import draw_blocked, draw_instance, draw_solution  # noqa: E402
-from program import EXAMPLES, NAMES, check, check_full, check_run, end, pair_of, read_files, words_of, write_files  # noqa: E402
+from program import EXAMPLES, NAMES, call, check, check_full, check_run, end, pair_of, read_files, words_of, write_files  # noqa: E402
+from plain_page import Page  # noqa: E402
 from rules import KINDS, Instance, line  # noqa: E402
 
 DRAWN = 400
+# the columns of the table of findings
+COLUMNS = ["kind", "curriculum", "teacher", "course", "other", "room", "day", "period", "placed", "stated", "days", "minimum", "rooms",
+           "points"]
+
+
+class Plain(Page):
+    """The sentences of a page without its markup."""
+
+    def __init__(self, instance):
+        self.instance, self.days = instance, ()
+
+    def named(self, name):
+        return name
 
 
 def json_text(members):
     return json.dumps(members, sort_keys=True, ensure_ascii=False, separators=(",", ":")) + "\n"
+
+
+def csv_text(rows):
+    out = io.StringIO()
+    csv.writer(out, lineterminator="\n").writerows(rows)
+    return out.getvalue()
+
+
+def cells_of(finding):
+    """The row of what is found. A conflict has what two courses share in the column of its kind."""
+    cells = dict(finding)
+    if "cause" in cells:
+        cells[cells.pop("cause")] = cells.pop("name")
+    row = [cells.pop(key, "") for key in COLUMNS]
+    assert not cells, cells
+    return row
+
+
+def sentences(instance, findings):
+    """What is found as sentences: what breaks a rule, and then what costs most."""
+    ranked = sorted(findings, key=lambda finding: ("points" in finding, -finding.get("points", 0)))
+    return "".join(Plain(instance).sentence(finding) + "\n" for finding in ranked)
 
 
 def check_sums(name, findings, members):
@@ -48,6 +86,16 @@ def check_files(name, files):
     found = json_text({**members, "findings": findings})
     check_run(f"{name}: JSON", "check", *words, "--explain", "--json", "--strict", wanted=found, status=status)
     check_run(f"{name}: strict", "check", *words, "--strict", wanted=text, status=status)
+    check_run(f"{name}: the file", "check", *words, "--name", "--json", wanted=json_text({**members, "file": words[1]}))
+    found = json_text({**members, "findings": findings, "file": words[1]})
+    check_run(f"{name}: the file and the findings", "check", *words, "--name", "--json", "--explain", "--csv", wanted=found)
+    counted = [one.split(" ", 1) for one in text.split("\n")[:-1]]
+    check_run(f"{name}: CSV", "check", *words, "--csv", "--sentences", wanted=csv_text(zip(*counted)))
+    table = csv_text([COLUMNS, *map(cells_of, findings)])
+    check_run(f"{name}: table", "check", *words, "--explain", "--csv", "--strict", wanted=table, status=status)
+    told = sentences(instance, findings)
+    check_run(f"{name}: sentences", "check", *words, "--sentences", "--strict", wanted=text + told, status=status)
+    check_run(f"{name}: lines and sentences", "check", *words, "--sentences", "--explain", wanted=text + "".join(map(line, findings)) + told)
     return findings, members["lawful"], members["complete"]
 
 
@@ -205,6 +253,25 @@ days alg 0 2 10
 days geo 0 1 5
 """),
 ]
+SMALL_TABLE = """\
+kind,curriculum,teacher,course,other,room,day,period,placed,stated,days,minimum,rooms,points
+capacity,,,alg,,A,0,0,,,,,,5
+capacity,,,top,,B,0,2,,,,,,10
+compactness,q1,,alg,,,1,0,,,,,,2
+compactness,q1,,geo,,,1,2,,,,,,2
+stability,,,alg,,,,,,,,,2,1
+"""
+SMALL_CSV = """\
+instance,lectures,conflicts,availability,occupancy,capacity,days,compactness,stability,total,lawful,complete
+Small,0,0,0,0,15,0,4,1,20,yes,yes
+"""
+SMALL_SENTENCES = """\
+top with 50 students is in room B with 40 seats on day 1, period 3
+alg with 30 students is in room A with 25 seats on day 1, period 1
+alg on day 2, period 1 is alone in curriculum q1
+geo on day 2, period 3 is alone in curriculum q1
+alg is in 2 rooms
+"""
 SMALL_JSON = (
     '{"availability":0,"capacity":15,"compactness":4,"complete":true,"conflicts":0,"days":0,"findings":['
     '{"course":"alg","day":0,"kind":"capacity","period":0,"points":5,"room":"A"},'
@@ -228,7 +295,11 @@ def check_worked(folder):
         check_files(f"{name}, counted", files)
     words = ["check", small, os.path.join(EXAMPLES, "s.sol"), "--explain", "--json"]
     check_run("the small solution as JSON", *words, wanted=SMALL_JSON)
-    for options in ["--explain"], ["--strict"], ["--explain", "--json", "--strict"]:
+    check_run("the small solution as a table", *words[:-1], "--csv", wanted=SMALL_TABLE)
+    check_run("the small solution as CSV", *words[:3], "--csv", wanted=SMALL_CSV)
+    _, report, _ = call(*words[:3])
+    check_run("the small solution in words", *words[:3], "--sentences", wanted=report + SMALL_SENTENCES)
+    for options in ["--explain"], ["--strict"], ["--explain", "--json", "--strict"], ["--explain", "--csv"], ["--sentences"]:
         check_full(f"a report that cannot be written, {options}", *words[:3], *options)
     check_files("the shipped solution", pair_of(EXAMPLES, "comp07"))
     for name in "wide", "markup":

@@ -20,6 +20,7 @@ import flags  # noqa: E402
 
 PROGRAM = os.path.abspath(os.environ.get("PROGRAM", str(HERE / "crates/ctt_tool/out/ctt_tool")))
 FLAG = "      --loud            Say it aloud, with --json or `-`\n"
+BARE = "--byte --csv --explain --faults --help --json --loud --name --plain --point --sentences --sort --strict --version"
 VALUED = "      --loud <VOICE>     Say it aloud\n"
 passed = failed = 0
 
@@ -66,9 +67,10 @@ equals("the files of help", sorted(file.stem for file in (HERE / "docs/help").it
 # the manual and the completions are made of it, and of the help of office
 equals("manual and completions", run(HERE, "--check", PROGRAM), (0, ""))
 
-# a week is that of one thing alone, as the manual says by bars
+# a week is that of one thing alone, and so is a page of one, as the manual says by bars
 for one, other in itertools.combinations(flags.EITHER[0], 2):
-    equals(f"week {one} {other}", call("week", "nowhere.ctt", "nowhere.sol", one, "x", other, "x")[0], 2)
+    for command in "week", "page":
+        equals(f"{command} {one} {other}", call(command, "nowhere.ctt", "nowhere.sol", one, "x", other, "x")[0], 2)
 
 with tempfile.TemporaryDirectory() as room:
     top = pathlib.Path(room)
@@ -89,12 +91,12 @@ with tempfile.TemporaryDirectory() as room:
     equals("a flag in the help alone", status, 1)
     equals("what it lacks", [line for line in said.splitlines() if "loud" in line], [
         "+.RB [ \\-\\-loud ]", "+.BR \\-\\-loud", "+Say it aloud, with \\-\\-json or \\fB\\-\\fR.",
-        "+_timedesk_bare='--csv --explain --help --json --loud --name --strict --version'",
-        "+    mend) options='--barred --blocked --help --loud' ;;"])
+        f"+_timedesk_bare='{BARE}'",
+        "+    mend) options='--barred --blocked --help --loud --point' ;;"])
     equals("a flag that is written", run(top, "--write"), (0, ""))
     equals("that flag", run(top, "--check"), (0, ""))
     equals("that flag completed", known(top, "timedesk", "mend"), [
-        "--barred --blocked --help --loud".split(), "--csv --explain --help --json --loud --name --strict --version".split()])
+        "--barred --blocked --help --loud --point".split(), BARE.split()])
     equals("a program without it", run(top, "--check", PROGRAM)[1].splitlines()[:2], ["docs/help/mend.txt:", "-" + FLAG.rstrip("\n")])
     # a flag cannot be one with a value elsewhere
     help_of_list = top / "docs/help/list.txt"

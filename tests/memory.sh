@@ -13,11 +13,10 @@
 # and by size: each of these, and no other, has to end as with memory if it is refused alone.
 # `collect` asks for room for all elements that may come, and, if that is refused, for one: so the
 # first of the two may be refused. `owned_words` collects the words of the command line, `serve`
-# slices of them, `Lectures::into_list` the lectures of a solution, and `clap` the letters of a word
-# that it does not know and of the name of each command, to find one that is like it (`chars_of` of
-# `strsim`). In the trials no other request may be done without but those of the solutions that they
-# read. So nothing of a commit takes memory once it is accepted: refused, it would end as with
-# memory.
+# slices of them, `compare` the lines of a list of pairs, and `clap` the letters of a word that it
+# does not know and of the name of each command, to find one that is like it (`chars_of` of
+# `strsim`). In the trials no request may be done without. So nothing of a commit takes memory once
+# it is accepted: refused, it would end as with memory.
 #
 # Of a crew of one planner each of his three lines has to be answered 'no memory' once; he then goes on with what he has. Of another crew
 # each line stands twice. One of them may be answered 'no memory': if it is the first of the two, the
@@ -26,11 +25,10 @@
 #
 # Desks with seats are played so by `tests/seats.py`.
 #
-# It needs a C compiler. TRIALS, PROGRAM_TRIALS and PROGRAM name other builds. The last line is 'N passed, M failed', of runs that met a refusal.
+# It needs a C compiler. TRIALS and PROGRAM name other builds. The last line is 'N passed, M failed', of runs that met a refusal.
 set -u
 here=$(CDPATH='' cd -- "$(dirname -- "${BASH_SOURCE[0]}")/.." && pwd) || exit 1
 trials=${TRIALS:-$here/crates/ctt_trials/out/ctt_trials}
-program_trials=${PROGRAM_TRIALS:-$here/crates/ctt_program_trials/out/ctt_program_trials}
 program=${PROGRAM:-$here/crates/ctt_tool/out/ctt_tool}
 room=$(mktemp -d) || exit 1
 trap 'rm -rf -- "$room"' EXIT
@@ -45,7 +43,6 @@ cd -- "$room" || exit 1
 word_size=24
 slice_size=16
 letter_size=4
-lecture_size=6
 head -n 4 s.sol >s0.sol
 printf '%s\n' 'journal 1' 'entry 0 3' 'place top A 0 1' 'refused roomtaken geo' 'slot 0 0' 'lectures 1 alg A 0 0' 'slots place top A * *' \
     'slots 6 - clash alg - roomtaken geo 20 place top A 0 2 - clash alg 20 place top A 1 1 - roomtaken geo' END. >told
@@ -62,6 +59,9 @@ printf '%s\n' 'planner 0' opened 'no memory' 'committed 1' 'journal 1' 'costs 0 
 printf '%s\n' 'planner 0' opened done 'no memory' 'journal 0' 'costs 0 20 0 0' >one.3
 # a solution of which some lectures are set aside
 printf '%s\n' 'alg A 0 0' 'alg B 1 0' 'geo B 0 0' 'geo A 1 2' 'top A 1 2' >mixed
+# a solution that is refused, and a list of pairs, of which some are
+echo 'alg r99 0 0' >bad.sol
+printf '%s\n' 'small.ctt s.sol' 'small.ctt bad.sol' 's.sol s.sol' 'small.ctt s0.sol' >pairs
 # a draft that is brought up to date, and one that turns out to be stale
 printf '%s\n' '0 open' '0 place geo A 0 1' '2 open' '2 slot 0 2' '1 open' '1 place top B 0 2' '1 commit' '0 refresh' '2 refresh' '0 slot 0 2' \
     '0 slots swap geo 0 1 * * *' '0 commit' >refreshed
@@ -82,11 +82,7 @@ lane() {
             $'1\ndone' | $'1 anew 0\ndone') echo again ;;
             $'0 anew 1\ndone') echo anew ;;
             $'0\ndone' | $'0 anew 0\ndone')
-                if [[ $met =~ ^more\ ([0-9]+)$ ]] && ((BASH_REMATCH[1] % lecture_size == 0)); then
-                    echo collected
-                else
-                    echo "FAILED: the trials, request $number ($met), which could be done without"
-                fi
+                echo "FAILED: the trials, request $number ($met), which could be done without"
                 ;;
             *) echo "FAILED: the trials, request $number" ;;
         esac
@@ -112,13 +108,11 @@ dispensable() {
     local name
     collected $(($# + 1)) "$word_size"
     collected $(($# + 1)) "$slice_size"
-    # of a solution that is read, its lectures
-    case "$*" in
-        *s0.sol*) collected $(($(wc -w <s0.sol) / 4)) "$lecture_size" ;;
-        *s.sol*) collected $(($(wc -w <s.sol) / 4)) "$lecture_size" ;;
-        *mixed*) collected $(($(wc -w <mixed) / 4)) "$lecture_size" ;;
-    esac
-    if [ "$1" = frobnicate ]; then
+    if [ "${2-}" = --pairs ]; then
+        # four lines and what is after the last of them: the room is doubled once
+        collected 4 "$slice_size"
+        collected 8 "$slice_size"
+    elif [ "$1" = frobnicate ]; then
         for name in $names; do
             letters "$1"
             letters "$name"
@@ -132,14 +126,13 @@ noted() { cat lane.* | grep -c "$@"; }
 passed=0
 failed=0
 
-# Tries these trials, which read so many solutions to their end.
+# Tries the trials.
 try_trials() {
-    local name=$1 solutions=$3 now
-    trials=$2
+    local now
     wanted=$("$trials")
     wanted=${wanted%again *}
     if [ -z "$wanted" ]; then
-        echo "$name print nothing"
+        echo 'the trials print nothing'
         exit 1
     fi
     for ((first = 1; first <= lanes; first++)); do
@@ -150,12 +143,7 @@ try_trials() {
     now=$(noted '')
     failed=$((failed + $(noted FAILED)))
     passed=$((passed + $(noted -v FAILED)))
-    if [ "$(noted collected)" != "$solutions" ]; then
-        failed=$((failed + 1))
-        echo "FAILED: $name read $solutions solutions, and $(noted collected) lists of lectures were made in another way"
-    fi
-    echo "$name met $now refusals: $(noted again) calls were made again, $(noted anew) cases were run anew, \
-$(noted collected) lists were made in another way"
+    echo "the trials met $now refusals: $(noted again) calls were made again, $(noted anew) cases were run anew"
 }
 
 # Which line of the crew of one wanted memory, by what was printed.
@@ -168,8 +156,7 @@ line_of_one() {
     return 1
 }
 
-try_trials 'the trials' "$trials" 32
-try_trials 'the trials of the program' "$program_trials" 34
+try_trials
 of_trials=$((passed + failed))
 done_without=0
 made_again=0
@@ -177,7 +164,9 @@ names=$("$program" --help | sed -n '/^Commands:$/,/^$/s/^  \([a-z]*\) .*/\1/p')
 for words in 'check small.ctt s.sol --json --barred barred' 'check small.ctt small.ctt' \
     'check small.ctt s.sol --json --blocked blocked --barred barred' 'check small.ctt small.ctt --blocked barred' 'week small.ctt s.sol --blocked blocked' \
     'check small.ctt s.sol --explain' 'check small.ctt s.sol --explain --json' 'compare small.ctt s.sol small.ctt' 'week small.ctt s.sol' 'week small.ctt s.sol --course geo' \
-    'page small.ctt s.sol' \
+    'page small.ctt s.sol' 'page small.ctt s.sol --plain --teacher t1' 'check small.ctt bad.sol --point' 'check small.ctt s.sol --csv' \
+    'check small.ctt s.sol --explain --csv' 'check small.ctt s.sol --sentences' 'compare small.ctt s.sol s0.sol s.sol --sort --json' \
+    'compare --pairs pairs --sort --faults --csv' 'compare --pairs pairs --point' 'where small.ctt 99' 'where small.ctt 5 --byte' \
     'run small.ctt refreshed --barred barred --journal journal' 'run small.ctt refreshed --blocked blocked --journal journal' 'audit small.ctt told --start s0.sol' \
     'journal small.ctt torn' 'list small.ctt told --start s0.sol' 'mend small.ctt mixed --barred barred' 'mend small.ctt mixed --blocked blocked' 'crew small.ctt twice' 'crew small.ctt one' 'where small.ctt 14' frobnicate; do
     rm -f journal
@@ -195,10 +184,6 @@ for words in 'check small.ctt s.sol --json --barred barred' 'check small.ctt sma
             [ -s met ] || break
             # answers may be printed before the memory for the journal is wanted, which is not stored then
             if [[ $words == *--journal* ]] && [ -s out.now ] && [ ! -e journal ] && cmp -s out out.now; then
-                : >out.now
-            fi
-            # a report is printed as it is found, so a front of it may be there
-            if [[ $words == *--explain* ]] && [ "$status" = 3 ] && head -c "$(stat -c %s out.now)" out | cmp -s - out.now; then
                 : >out.now
             fi
             is_same=no

@@ -36,7 +36,7 @@ def read_functions(crates):
     functions = {}
     for crate in crates:
         for path in sorted((HERE / "crates" / crate / "src").glob("**/*.rt")):
-            if path.name == "laws.rt":
+            if path.name.endswith("laws.rt"):
                 continue
             found = None
             for line in path.read_text(encoding="utf-8").splitlines():

@@ -136,6 +136,24 @@ For more information, try '--help'.
 # status 0
 run 'a report' 0 "$report" '' check small.ctt s.sol
 run 'a report as JSON' 0 "$json" '' check small.ctt s.sol --json
+run 'JSON before CSV' 0 "$json" '' check small.ctt s.sol --csv --json
+run 'a report as CSV' 0 'instance,lectures,conflicts,availability,occupancy,capacity,days,compactness,stability,total,lawful,complete
+Small,0,0,0,0,15,0,4,1,20,yes,yes
+' '' check small.ctt s.sol --csv --sentences
+run 'findings as a table' 0 'kind,curriculum,teacher,course,other,room,day,period,placed,stated,days,minimum,rooms,points
+capacity,,,alg,,A,0,0,,,,,,5
+capacity,,,top,,B,0,2,,,,,,10
+compactness,q1,,alg,,,1,0,,,,,,2
+compactness,q1,,geo,,,1,2,,,,,,2
+stability,,,alg,,,,,,,,,2,1
+' '' check small.ctt s.sol --csv --explain
+run 'a report with its file' 0 "${json/\"instance\"/\"file\":\"s.sol\",\"instance\"}" '' check small.ctt s.sol --json --name
+run 'findings in sentences' 0 "${report}top with 50 students is in room B with 40 seats on day 1, period 3
+alg with 30 students is in room A with 25 seats on day 1, period 1
+alg on day 2, period 1 is alone in curriculum q1
+geo on day 2, period 3 is alone in curriculum q1
+alg is in 2 rooms
+" '' check small.ctt s.sol --sentences
 printf 'alg A 0 0\ntop B 0 0\n' >clash.sol
 run 'a report on an unlawful solution' 0 "$unlawful" '' check small.ctt clash.sol
 # Checks a solution of the instance `small`, given as its text, against the eight counts and costs of its report, their total, and
@@ -366,6 +384,205 @@ complete yes
 truncate -s 67108864 longest
 run 'a file of as many bytes as are taken' 1 '' 'timedesk: instance I3 1
 ' check longest s.sol
+
+# where and why a file is refused: the second line of a fault, by --point. The sentences, lines and columns were written by hand.
+# A case is a text or a change of the instance by sed, the fault, the place and the sentence.
+points_at() {
+    local what=$1 words=$2 text coded placed sentence
+    while IFS='|' read -r text coded placed sentence; do
+        case $what in
+        instance) sed "$text" small.ctt >told ;;
+        *) printf '%b' "$text" >told ;;
+        esac
+        # shellcheck disable=SC2086
+        run "--point: $coded at $placed, $sentence" 1 '' "timedesk: $what $coded"$'\n'"told:$placed: ${coded%% *}: $sentence"$'\n' $words --point
+    done
+}
+points_at instance 'check told s.sol' <<'CASES'
+1s/Name/name/|I3 1|1:1|expected Name:, found name:
+2s/.*/Räume: 3/|I3 3|2:1|expected Courses:, found Räume:
+3s/Rooms/ /|I3 5|3:2|expected Rooms:, found :
+4s/Days:/2/|I3 7|4:1|expected Days:, found 2
+5s/:/ :/|I3 9|5:1|expected Periods_per_day:, found Periods_per_day
+6s/Curricula/CURRICULA/|I3 11|6:1|expected Curricula:, found CURRICULA:
+7s/Con/Ken/|I3 13|7:1|expected Constraints:, found Kenstraints:
+7s/.*/Min_Max_Daily_Lectures: 1 3/|I3 13|7:1|this is the extended format (.ectt), which is not read
+8s/COURSES:/alg/|I3 15|8:1|expected COURSES:, found alg
+11s/$/ 7/|I3 31|11:15|expected ROOMS:, found 7
+15s/.*/\t\tROOMS:/|I3 36|15:3|expected CURRICULA:, found ROOMS:
+16s/2/1/|I3 40|16:10|expected UNAVAILABILITY_CONSTRAINTS:, found geo
+19s/END./END/|I3 45|19:1|expected END., found END
+18s/$/ geo 0 1/|I3 45|18:9|expected END., found geo
+1d|I3 1|1:1|expected Name:, found Courses:
+1s/^/\xef\xbb\xbf/|I3 1|1:1|the file begins with a byte order mark
+3s/2/ä\xff/|I1 32|3:9|not UTF-8 from this byte on
+13s/25/many/|I4 33|13:3|not a number up to 999,999,999: many
+4s/2/1000000000/|I4 8|4:7|not a number up to 999,999,999: 1000000000
+18s/0/-1/|I4 43|18:5|not a number up to 999,999,999: -1
+2s/3/2001/|I5 4|2:10|more than 2,000 courses: 2001
+3s/2/1001/|I5 6|3:8|more than 1,000 rooms: 1001
+4s/2/2001/|I5 8|4:7|more than 2,000 days: 2001
+5s/3/1001/|I5 10|5:18|more than 2,000 periods a day, or 2,000 slots: 1001
+6s/1/20001/|I5 12|6:12|more than 20,000 curricula: 20001
+7s/1/2000001/|I5 14|7:14|more than 2,000,000 constraints: 2000001
+10s/geo/alg/|I6 21|10:1|a name that is there already: alg
+14s/B/A/|I6 34|14:1|a name that is there already: A
+16s/geo/gym/|I7 40|16:10|no course gym
+18s/geo/ödön/|I7 42|18:1|no course ödön
+18s/0/2/|I8 43|18:5|no day 2: days count from 0
+18s/0$/03/|I9 44|18:7|no period 03: periods count from 0
+1,$d|I2 1|1:1|the words end in the header
+7,$d|I2 13|6:13|the words end in the header
+8,$d|I2 15|7:15|the words end before COURSES:
+9,$d|I2 16|8:9|the words end before a course, which has five
+10,$d;9s/ 30//|I2 20|9:11|the words end in a course, which has five
+12,$d|I2 31|11:14|the words end before ROOMS:
+13,$d|I2 32|12:7|the words end before a room, which has two
+14,$d;13s/ 25//|I2 33|13:2|the words end in a room, which has two
+15,$d|I2 36|14:5|the words end before CURRICULA:
+16,$d|I2 37|15:11|the words end in the curricula, each a name, a number and so many courses
+17,$d;16s/ geo//|I2 40|16:9|the words end in the curricula, each a name, a number and so many courses
+17,$d|I2 41|16:13|the words end before UNAVAILABILITY_CONSTRAINTS:
+18,$d|I2 42|17:28|the words end before an unavailability, which has three
+19,$d;18s/ 0$//|I2 44|18:6|the words end in an unavailability, which has three
+19,$d|I2 45|18:8|the words end before END.
+2s/3/4/|I4 34|14:1|not a number up to 999,999,999: B
+CASES
+points_at solution 'check small.ctt told' <<'CASES'
+alg A 0 0\nalg B|S2 7|2:6|the words end in an entry, which has four
+alg A 0 0\r\n\r\n geo A 0 \r\n\n|S2 8|3:9|the words end in an entry, which has four
+alg A 0 0\ngym A 0 1|S3 5|2:1|no course gym
+ALG A 0 0|S3 1|1:1|no course ALG
+alg r99 0 0|S4 2|1:5|no room r99
+alg\v\fA B 0|S5 3|1:8|not a number up to 999,999,999: B
+alg A 0 1000000000|S5 4|1:9|not a number up to 999,999,999: 1000000000
+alg A\t2 0|S6 3|1:7|no day 2: days count from 0
+alg A 0\n3|S7 4|2:1|no period 3: periods count from 0
+alg A 0 0\ngeo A 0 0 alg\tB 00 00|S8 12|2:20|the course has a lecture in this slot already: period 00
+alg A 0 0\n\xc3\xa4 \xff|S1 13|2:3|not UTF-8 from this byte on
+\xff|S1 0|1:1|not UTF-8 from this byte on
+\xef\xbb\xbfalg A 0 0|S3 1|1:1|the file begins with a byte order mark
+\xef\xbb\xbf alg A 0 0|S3 1|1:1|the file begins with a byte order mark
+\xff\xfea\0l\0g\0|S1 0|1:1|the file is UTF-16, not UTF-8
+\xfe\xff\0a\0l\0g|S1 0|1:1|the file is UTF-16, not UTF-8
+alg \xf0\x9f\x8e\x93\xcc\x81 0 0|S4 2|1:5|no room 🎓́
+alg A \xf0\x9f\x8e\x93 \xf0\x9f\x8e\x93|S5 3|1:7|not a number up to 999,999,999: 🎓
+alg 0123456789012345678901234567890123456789 0|S4 2|1:5|no room 0123456789012345678901234567890123456789
+alg 0123456789012345678901234567890123456789x 0|S4 2|1:5|no room 0123456789012345678901234567890123456789
+alg a\x1b[2J\x00\x7f\xc2\x85b 0 0|S4 2|1:5|no room a?[2J???b
+CASES
+points_at barred 'check small.ctt s.sol --barred told' <<'CASES'
+|B2 1|1:1|the words end before Barred:
+Barred:|B2 2|1:8|the words end before the number of entries
+Barred: 1|B2 3|1:10|the words end before a pair, which has two
+Barred: 1\ntop|B2 4|2:4|the words end in a pair, which has two
+Barred: 2\ntop A\n|B2 5|2:6|the words end before a pair, which has two
+Barred: 1 top A|B2 5|1:16|the words end before END.
+Barred: 0|B2 3|1:10|the words end before END.
+barred: 0 END.|B3 1|1:1|expected Barred:, found barred:
+Barred: 1 top A top|B3 5|1:17|expected END., found top
+Barred: many|B4 2|1:9|not a number up to 999,999,999: many
+Barred: 2000001|B5 2|1:9|more than 2,000,000 pairs: 2000001
+Barred: 1\n A top|B6 3|2:2|no course A
+Barred: 1\n top top|B7 4|2:6|no room top
+Barred: 1 top \xff|B1 14|1:15|not UTF-8 from this byte on
+\xef\xbb\xbfBarred: 0 END.|B3 1|1:1|the file begins with a byte order mark
+CASES
+points_at blocked 'check small.ctt s.sol --blocked told' <<'CASES'
+|L2 1|1:1|the words end before Blocked:
+Blocked:|L2 2|1:9|the words end before the number of entries
+Blocked: 1|L2 3|1:11|the words end before an entry, which has four
+Blocked: 2 room A 0 0|L2 7|1:22|the words end before an entry, which has four
+Blocked: 1\nroom A *|L2 6|2:9|the words end in an entry, which has four
+Blocked: 1 room A * *|L2 7|1:22|the words end before END.
+Barred: 0 END.|L3 1|1:1|expected Blocked:, found Barred:
+Blocked: 1 curriculum q1 * *|L3 3|1:12|expected room, teacher or course, found curriculum
+Blocked: 1 room A * * room|L3 7|1:23|expected END., found room
+Blocked: *|L4 2|1:10|not a number up to 999,999,999: *
+Blocked: 1 room A mon 0|L4 5|1:19|neither * nor a number up to 999,999,999: mon
+Blocked: 1 room A 0 **|L4 6|1:21|neither * nor a number up to 999,999,999: **
+Blocked: 2000001|L5 2|1:10|more than 2,000,000 entries: 2000001
+Blocked: 1 room alg 0 0|L6 4|1:17|no room alg
+Blocked: 1 teacher A 0 0|L6 4|1:20|no teacher A
+Blocked: 1 course t1 0 0|L6 4|1:19|no course t1
+Blocked: 1 room A 2 0|L7 5|1:19|no day 2: days count from 0
+Blocked: 1 room A * 3|L8 6|1:21|no period 3: periods count from 0
+Blocked: \xc3|L1 9|1:10|not UTF-8 from this byte on
+CASES
+points_at journal 'audit small.ctt told' <<'CASES'
+|J2 1|1:1|the words end before END.
+journal 1\nentry 0 1\ncost\n|J2 7|3:5|the words end before END.
+journal 1\nentry 0 1\nplace alg r99 0 0\ndone\nEND.|J3 8|3:11|not valid here: r99
+journal 0\nEND|J3 3|2:1|not valid here: END
+journal 1 entry 1000 0 END.|J3 4|1:17|not valid here: 1000
+journal 0\n\xc3\xa4\xff|J1 12|2:2|not UTF-8 from this byte on
+\xef\xbb\xbfjournal 0 END.|J3 1|1:1|the file begins with a byte order mark
+CASES
+printf 'entry 0 0\nfoo 0 0\n' >told
+run 'where minutes have a word of no journal' 1 '' 'timedesk: journal J3 4
+told:2:1: J3: not valid here: foo
+' journal small.ctt told --point
+# each command that reads files says it, after the line of the fault; a fault of no text has no place
+for words in 'check cut.ctt nowhere' 'compare cut.ctt nowhere' 'week cut.ctt nowhere' 'page cut.ctt nowhere' 'run cut.ctt nowhere' \
+    'audit cut.ctt nowhere' 'crew cut.ctt nowhere' 'desk cut.ctt nowhere --minutes unwritten' 'journal cut.ctt nowhere' \
+    'list cut.ctt nowhere' 'mend cut.ctt nowhere'; do
+    # shellcheck disable=SC2086
+    run "where an instance is cut off: $words" 1 '' 'timedesk: instance I2 14
+cut.ctt:7:13: I2: the words end in the header
+' $words --point
+done
+for words in 'run small.ctt phantom.txt' 'audit small.ctt empty.journal' 'list small.ctt empty.journal'; do
+    # shellcheck disable=SC2086
+    run "where a start has a lecture twice: $words" 1 '' 'timedesk: solution S8 8
+twice.sol:1:19: S8: the course has a lecture in this slot already: period 0
+' $words --start twice.sol --point
+    # shellcheck disable=SC2086
+    run "a lecture that cannot be placed has no place: $words" 1 '' 'timedesk: opening 2 clash alg
+' $words --start clash.sol --point
+done
+run 'no fault, and so no place' 0 "$report" '' check small.ctt s.sol --point
+run 'a file that is missing has no place' 3 '' 'timedesk: cannot read nowhere
+' check small.ctt nowhere --point
+printf 'alg r99 0 0' >told
+(exec -a timedesk "$program" check small.ctt - --point) >out 2>err <told
+judge 'the place in standard input' $? 1 '' 'timedesk: solution S4 2
+-:1:5: S4: no room r99
+'
+printf 'Name: Small' | (exec -a timedesk "$program" check - s.sol --point) >out 2>err
+judge 'the place where standard input ends' $? 1 '' 'timedesk: instance I2 3
+-:1:12: I2: the words end in the header
+'
+
+# standard input is read once: which word would read it again, before any file is opened
+while IFS='|' read -r words said; do
+    # shellcheck disable=SC2086
+    run "standard input twice: $words" 2 '' "timedesk: - twice: $said"$'\n' $words
+done <<'CASES'
+check - -|SOLUTION would read standard input again after INSTANCE
+check nowhere - --barred -|SOLUTION would read standard input again after --barred
+check nowhere nowhere --blocked - --barred - --json|--blocked would read standard input again after --barred
+compare - -|SOLUTION would read standard input again after INSTANCE
+compare nowhere - nowhere -|SOLUTION would read standard input again after SOLUTION
+week - - --room A|SOLUTION would read standard input again after INSTANCE
+page - nowhere --blocked -|--blocked would read standard input again after INSTANCE
+run nowhere - --start -|--start would read standard input again after SCRIPT
+run - -|SCRIPT would read standard input again after INSTANCE
+audit nowhere - --start -|--start would read standard input again after JOURNAL
+audit - nowhere --start -|--start would read standard input again after INSTANCE
+crew nowhere - -|SCRIPT would read standard input again after SCRIPT
+crew - nowhere -|SCRIPT would read standard input again after INSTANCE
+desk - -|SEAT would read standard input again after INSTANCE
+desk nowhere nowhere - --start -|SEAT would read standard input again after --start
+journal - -|MINUTES would read standard input again after INSTANCE
+list - - --start -|JOURNAL would read standard input again after INSTANCE
+mend - -|SOLUTION would read standard input again after INSTANCE
+CASES
+(exec -a timedesk "$program" check small.ctt -) >out 2>err <s.sol
+judge 'standard input once' $? 0 "$report" ''
+
+# standard output that is closed by its reader ends nothing
+"$program" page small.ctt s.sol 2>err | head -n 1 >out
+judge 'the first line of a page' "${PIPESTATUS[0]}" 0 '<!DOCTYPE html>'$'\n' ''
 
 # status 2
 run 'no words' 2 '' "$no_words"
@@ -1221,7 +1438,7 @@ printf 'journal 1\nentry 1 1\nplace top B 0 2\ndone\nEND.\n' >wanted
 cmp -s wanted journal
 judge 'what the journal took the place of' $? 0 "$answers" ''
 
-# output that fails at once: on a full device, in a pipe that nobody reads, and where there is none
+# output that fails at once: on a full device, and where there is none. In a pipe that nobody reads a command ends as with a reader
 mkfifo unread
 exec 3<>unread
 exec 4>unread 3>&-
@@ -1233,14 +1450,29 @@ for words in 'check small.ctt s.sol' 'run small.ctt phantom.txt --journal unwrit
     : >out
     judge "${words[*]} on a full device" "$status" 3 '' 'timedesk: cannot write
 '
+    words=("${words[@]/unwritten/written}")
+    (exec -a timedesk "$program" "${words[@]}") >/dev/null 2>err
+    status=$?
+    said=$(<err)
+    rm -f written
     (exec -a timedesk "$program" "${words[@]}") >&4 2>err
-    judge "${words[*]} in a pipe that nobody reads" $? 3 '' 'timedesk: cannot write
-'
+    judge "${words[*]} in a pipe that nobody reads" $? "$status" '' "$said${said:+$'\n'}"
+    [[ ${words[0]} != run ]] || cmp -s wanted written || judge 'the journal of a script whose answers nobody reads' 1 0 '' ''
     (exec -a timedesk "$program" "${words[@]}") >&- 2>err
     judge "${words[*]} without an output" $? 3 '' 'timedesk: cannot write
 '
 done
 exec 4>&-
+# a reader that has seen enough leaves in the midst of a long output
+for words in 'page comp07.ctt comp07.sol' 'check comp07.ctt comp07.sol --explain' 'mend comp07.ctt comp07.sol'; do
+    read -ra words <<<"$words"
+    {
+        (exec -a timedesk "$program" "${words[@]}") 2>err
+        echo "$?" >status
+    } | head -n 1 >out
+    first=$("$program" "${words[@]}" | sed -n 1p)
+    judge "the first line of ${words[*]}" "$(<status)" 0 "$first"$'\n' ''
+done
 
 # output and a journal that fail half way: a file takes 1,024 bytes
 printf '0 open\n%s\n0 commit\n' "$(turns 200 '0 ' $'\n' | grep '^0')" >script

@@ -11,9 +11,9 @@ from program import PROGRAM
 SEATS = ("0", "1", "2", "3")
 IDLE, LAST = SEATS[2:]
 WANTS = (b"no memory\n", b"no place\n")
-# the sizes in bytes of a word of the command line as `owned_words` and as `serve` collect it, and of
-# a lecture of a solution; a list has room for 4 at least
-WORD_SIZES, LECTURE_SIZE, LEAST = (24, 16), 6, 4
+# the sizes in bytes of a word of the command line as `owned_words` and as `serve` collect it; a list
+# has room for 4 at least
+WORD_SIZES, LEAST = (24, 16), 4
 # a seat that is not opened, or says nothing, for so many seconds has ended
 PATIENCE = 5
 
@@ -90,9 +90,6 @@ class Played:
         paths = [seat.path for seat in seats.values()]
         command = [PROGRAM, "desk", words[0], *paths, *words[1:], "--minutes", minutes]
         self.lists = [(size, len(command)) for size in WORD_SIZES]
-        if "--start" in command:
-            solution = held(command[command.index("--start") + 1])
-            self.lists.append((LECTURE_SIZE, len(solution.split()) // 4))
         env = {**os.environ, "MET": os.path.join(folder, "met"), **marks}
         desk = subprocess.Popen(command, env=env, stdout=subprocess.PIPE, stderr=subprocess.PIPE)
         self.answers, self.again = [], 0
@@ -113,7 +110,7 @@ class Played:
         self.met = held(env["MET"]).decode()
 
     def collected(self):
-        """The requests of `collect` for room for all words of the command line, and for all lectures of the opening."""
+        """The requests of `collect` for room for all words of the command line."""
         return [f"more {size * max(LEAST, count)}\n" for size, count in self.lists]
 
     @staticmethod

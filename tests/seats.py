@@ -14,9 +14,8 @@ open: then what was answered, and the minutes, are a front of that, and what was
 
 One call alone can do without what it asks for, and each request is known by its size. `collect`
 asks for room for all elements, and, if that is refused, for one: `owned_words` and `serve` call it
-for the words of the command line, and `Lectures::into_list` for the lectures of the opening. The
-first of the two requests of each, and no other, has to end as with memory: so nothing of a commit
-takes memory once it is accepted.
+for the words of the command line. The first of the two requests of each, and no other, has to end
+as with memory: so nothing of a commit takes memory once it is accepted.
 
 It needs a C compiler. PROGRAM names another program. The last line is 'N passed, M failed'.
 """

@@ -194,9 +194,11 @@ class FakeDesk:
 
 
 def options(words):
-    """The files and options of `desk`."""
+    """The files and options of `desk`. It reads what is whole, so it has no place to point at."""
     files, found, rest = [], {}, iter(words)
     for word in rest:
+        if word == "--point":
+            continue
         if word.startswith("--"):
             found[word] = next(rest)
         else:

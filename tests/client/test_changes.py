@@ -116,8 +116,10 @@ class Changes(OfficeTest):
         changed = self.changed(("END.", "geo"))
         self.before()
         after = ["--after", self.path("monday"), "--instance", changed]
-        status, printed, said = self.office("open", self.path("tuesday"), *after)
-        self.assertEqual((status, printed, said[:22]), (1, "", "timedesk: instance I3 "))
+        found = self.office("open", self.path("tuesday"), *after)
+        # it is named as it was given, and not as the day has copied it
+        said = f"{changed}:19:1: I3: expected END., found geo\n"
+        self.assertEqual(found, (1, "", said))
         self.assertFalse(os.path.exists(self.path("tuesday")))
 
     def test_as_it_was(self):

@@ -48,7 +48,7 @@ class Refusals(OfficeTest):
             [nowhere, "2"], 3, f"office: cannot read {nowhere}: No such file or directory\n"
         )
         self.refused([self.room, "2"], 3, f"office: cannot read {self.room}: Is a directory\n")
-        self.refused([bad, "2"], 1, "timedesk: instance I3 1\n")
+        self.refused([bad, "2"], 1, f"{bad}:1:1: I3: expected Name:, found geo\n")
         self.refused(
             [SMALL, "2", "--start", nowhere],
             3,
@@ -57,17 +57,21 @@ class Refusals(OfficeTest):
         latin = self.path("latin")
         with open(latin, "wb") as file:
             file.write(b"Name: \xe9")
-        self.refused([latin, "2"], 1, "timedesk: instance I1 6\n")
-        self.refused([os.devnull, "2"], 1, "timedesk: instance I2 1\n")
-        self.refused([SMALL_SOL, "2"], 1, "timedesk: instance I3 1\n")
-        self.refused([SMALL, "2", "--start", bad], 1, "timedesk: solution S2 6\n")
-        self.refused([SMALL, "2", "--start", latin], 1, "timedesk: solution S1 6\n")
-        self.refused([SMALL, "2", "--start", COMP07_SOL], 1, "timedesk: solution S3 1\n")
+        self.refused([latin, "2"], 1, f"{latin}:1:7: I1: not UTF-8 from this byte on\n")
+        self.refused([os.devnull, "2"], 1, "/dev/null:1:1: I2: the words end in the header\n")
+        self.refused([SMALL_SOL, "2"], 1, f"{SMALL_SOL}:1:1: I3: expected Name:, found alg\n")
+        said = f"{bad}:1:14: S2: the words end in an entry, which has four\n"
+        self.refused([SMALL, "2", "--start", bad], 1, said)
+        said = f"{latin}:1:7: S1: not UTF-8 from this byte on\n"
+        self.refused([SMALL, "2", "--start", latin], 1, said)
+        said = f"{COMP07_SOL}:1:1: S3: no course c0001\n"
+        self.refused([SMALL, "2", "--start", COMP07_SOL], 1, said)
         barred = ["--barred", self.write("barred", "Barred: 1 geo A END.")]
         self.refused(
             [SMALL, "2", "--start", SMALL_SOL, *barred], 1, "timedesk: opening 3 barred\n"
         )
-        self.refused([SMALL, "2", "--barred", SMALL], 1, "timedesk: barred B3 1\n")
+        said = f"{SMALL}:1:1: B3: expected Barred:, found Name:\n"
+        self.refused([SMALL, "2", "--barred", SMALL], 1, said)
         self.refused(
             [SMALL, "2", "--barred", nowhere],
             3,
@@ -77,17 +81,17 @@ class Refusals(OfficeTest):
         self.refused(
             [SMALL, "2", "--start", SMALL_SOL, *blocked], 1, "timedesk: opening 3 blocked\n"
         )
-        self.refused([SMALL, "2", "--blocked", SMALL], 1, "timedesk: blocked L3 1\n")
-        self.refused(
-            [SMALL, "2", "--blocked", SMALL, "--barred", SMALL], 1, "timedesk: barred B3 1\n"
-        )
+        told = f"{SMALL}:1:1: L3: expected Blocked:, found Name:\n"
+        self.refused([SMALL, "2", "--blocked", SMALL], 1, told)
+        self.refused([SMALL, "2", "--blocked", SMALL, "--barred", SMALL], 1, said)
         self.refused(
             [SMALL, "2", "--blocked", nowhere],
             3,
             f"office: cannot read {nowhere}: No such file or directory\n",
         )
         self.refused([SMALL, "2", "--start", clash], 1, "timedesk: opening 2 clash alg\n")
-        self.refused([SMALL, "2", "--barred", bad], 1, "timedesk: barred B3 1\n")
+        said = f"{bad}:1:1: B3: expected Barred:, found geo\n"
+        self.refused([SMALL, "2", "--barred", bad], 1, said)
         self.refused([SMALL, "0"], 3, "office: planners are 1 to 64\n")
         self.refused([SMALL, "65"], 3, "office: planners are 1 to 64\n")
         self.refused(["--after", nowhere], 3, f"office: {nowhere} is not the folder of a day\n")

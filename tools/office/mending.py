@@ -8,6 +8,7 @@ import sys
 from typing import Optional
 
 from office import processes
+from office.explained import POINT, explained
 from office.folder import Day, write_whole
 from office.instance import Instance, read_barred, read_instance, read_solution
 from office.label_files import read_labels
@@ -79,7 +80,7 @@ def mend(
             lines.append(f"office: set aside {' '.join(map(str, lecture))}: {why}\n")
     known = part.file("known.sol")
     write_solution(known, left)
-    words = [*program, "mend", part.day.instance, known, *part.side_words()]
+    words = [*program, "mend", part.day.instance, known, *part.side_words(), POINT]
     with open(part.start, "wb") as start, open(part.aside, "w+b") as aside:
         aside.write(encoded("".join(lines)))
         aside.flush()
@@ -99,7 +100,7 @@ def tell_aside(part: Part, said: str, instance: Instance, is_whole: bool) -> Non
     wording = Wording({}, read_labels(part.day.path))
     count = said.count("set aside ")
     with contextlib.suppress(OSError):
-        for line in said.split("\n")[:-1]:
+        for line in explained(said).split("\n")[:-1]:
             print(told(line, instance, wording), file=sys.stderr)
         if is_whole:
             place = Part(part.day, part.number).aside

@@ -14,6 +14,7 @@ from office.folder import write_whole
 from office.instance import Instance
 from office.parts import Part
 from office.processes import Signals
+from office.program import run_on_files
 from office.refused import Refused, Silent
 
 
@@ -90,14 +91,14 @@ class NewPart:
         self.must(["run", self.day.instance, os.devnull, *self.made.start_words()])
 
     def must(self, words: Sequence[str]) -> None:
-        status = processes.run(self.signals, [*self.program, *words])
+        status = run_on_files(self.signals, [*self.program, *words])
         if status != 0:
             raise Silent(status)
 
     def print_into(self, path: str, *words: str) -> None:
         """Has the program print into a file, which is on the disk then."""
         with open(path, "wb") as file:
-            status = processes.run(self.signals, [*self.program, *words], stdout=file)
+            status = run_on_files(self.signals, [*self.program, *words], stdout=file)
             os.fsync(file.fileno())
         if status != 0:
             raise Silent(status)

@@ -4,7 +4,7 @@ from __future__ import annotations
 
 import contextlib
 import os
-from typing import List, Optional
+from typing import Dict, List, Optional
 
 from office import mending, processes
 from office.closures import (
@@ -24,7 +24,7 @@ from office.label_files import FILES, has_labels, read_labels
 from office.parts import FIRST, Part, last_part
 from office.pins import pins_path
 from office.processes import Signals, Stopped
-from office.program import build_words, program_words
+from office.program import build_words, program_words, run_on_files
 from office.refused import Refused, Silent
 from office.running import Running
 from office.saying import say
@@ -120,6 +120,8 @@ class Opening:
         self.part = Part(plan.day, FIRST)
         self.lock, self.made = claim(self.day)
         self.running = Running(self.part, plan.planners, self.lock, signals)
+        # the files that were copied, by their copies
+        self.sources: Dict[str, str] = {}
 
     def open(self) -> int:
         """Opens the office, and keeps it until it is closed. Until it is open, a refusal or a
@@ -139,7 +141,7 @@ class Opening:
         """Builds the program if need be, copies the files, and has them checked as they were
         copied."""
         plan, day = self.plan, self.day
-        if self.run(*build_words(plan.program)) != 0:
+        if self.build() != 0:
             raise Refused("there is no program to run a desk with")
         if plan.labels:
             self.copy_labels(plan.labels)
@@ -218,11 +220,12 @@ class Opening:
     def check(self) -> None:
         """Has the program read what was copied so far."""
         words = ["run", self.day.instance, os.devnull, *self.part.start_words()]
-        status = self.run(*self.plan.program, *words)
+        status = run_on_files(self.signals, [*self.plan.program, *words], self.sources)
         if status != 0:
             raise Silent(status)
 
-    def run(self, *words: str) -> int:
+    def build(self) -> int:
+        words = build_words(self.plan.program)
         try:
             return processes.run(self.signals, words)
         except OSError as fault:
@@ -235,6 +238,7 @@ class Opening:
         except OSError as fault:
             raise Refused(f"cannot read {source}: {fault.strerror}") from None
         self.signals.check()
+        self.sources[target] = source
         write_whole(target, text)
 
     def forget(self) -> None:

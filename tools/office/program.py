@@ -1,14 +1,21 @@
 """The program `timedesk`, as an office runs it: for what a file has, and for what a day leaves."""
 from __future__ import annotations
 
+import contextlib
 import os
 import shutil
 import subprocess
-from typing import Optional
+import sys
+import tempfile
+from typing import Any, Mapping, Optional, Sequence
 
+from office import processes
+from office.explained import NO_NAMES, POINT, explained
 from office.folder import write_whole
 from office.parts import Part
+from office.processes import Signals
 from office.refused import MACHINE, Refused, Silent
+from office.words import decoded
 
 HERE = os.path.dirname(os.path.dirname(os.path.dirname(os.path.abspath(__file__))))
 
@@ -32,20 +39,46 @@ def build_words(program: list[str]) -> list[str]:
     return [*program, "--build" if is_ours else "--help"]
 
 
+def tell(said: bytes, names: Mapping[str, str] = NO_NAMES) -> None:
+    """Says what the program has said: why a file is refused, by its place in it."""
+    with contextlib.suppress(OSError):
+        sys.stderr.write(explained(decoded(said), names))
+        sys.stderr.flush()
+
+
 def output(words: list[str], quiet: bool = False, text: bytes = b"") -> tuple[int, bytes]:
-    """The status of a command that reads this text, and what it prints. What it says goes where the
-    office's goes, or nowhere."""
+    """The status of a command of the program that reads files and this text, and what it prints.
+    What it says goes where the office's goes, or nowhere."""
     try:
         done = subprocess.run(
-            words,
+            [*words, POINT],
             input=text,
             stdout=subprocess.PIPE,
-            stderr=subprocess.DEVNULL if quiet else None,
+            stderr=subprocess.DEVNULL if quiet else subprocess.PIPE,
             check=False,
         )
     except OSError as fault:
         raise Refused(f"cannot run {words[0]}: {fault.strerror}") from None
+    tell(done.stderr or b"")
     return done.returncode, done.stdout
+
+
+def run_on_files(
+    signals: Signals,
+    words: Sequence[str],
+    names: Mapping[str, str] = NO_NAMES,
+    stdout: Any = subprocess.DEVNULL,
+) -> int:
+    """The status of a command of the program that reads files. `names` has the names by which a
+    person knows those that are copies."""
+    with tempfile.TemporaryFile() as said:
+        try:
+            status = processes.run(signals, [*words, POINT], stdout, stderr=said)
+        except OSError as fault:
+            raise Refused(f"cannot run {words[0]}: {fault.strerror}") from None
+        said.seek(0)
+        tell(said.read(), names)
+    return status
 
 
 class Left:

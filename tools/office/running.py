@@ -11,6 +11,7 @@ from typing import List, Optional
 from office import processes
 from office.at_work import end_work
 from office.closures import closures_end, closures_size
+from office.explained import POINT
 from office.folder import CHANGING, CLOSED, OPEN, REOPENING, STARTING, Day, write_whole
 from office.new_part import NewPart, rules_after
 from office.parts import Part
@@ -63,7 +64,7 @@ class Running:
             self._note(office, str(os.getpid()), stage)
 
         # the desk has the lock too: as long as it goes on, no other office opens here
-        words += ["--minutes", part.minutes]
+        words += ["--minutes", part.minutes, POINT]
         self.desk = desk = processes.start(words, None, keep=[self.lock], preexec_fn=begin)
         self.wait_for_seats(desk)
         self.note(OPEN)

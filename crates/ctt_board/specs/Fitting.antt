@@ -1,36 +1,60 @@
--- The test whether a change fits.
-use Rattle.std.specs.Prelude.{◌≡◌, ◌↔◌, ℕ, Bool, true, false, not, ◌&&◌, nat_lt, List, [], ◌∷◌, length, Option, Some, None, is_some, is_none}
-use Rattle.ctt_problem.specs.Problem.{Problem, course_of, course_count, slot_count, room_count, is_unavailable, is_barred, is_blocked}
-use Rattle.ctt_problem.specs.Timetable.{course_row}
+-- What keeps a lecture from its place, and the test whether a change fits.
+use Rattle.std.specs.Prelude.{◌≡◌, ◌↔◌, ◌==◌, ℕ, Bool, true, false, cond, ◌&&◌, nat_le, nat_lt, List, [], ◌∷◌, length, Option, Some, None, is_some, is_none}
+use Rattle.std.specs.List.{find}
+use Rattle.std.specs.Option.{option_map, option_or}
+use Rattle.ctt_problem.specs.Problem.{Problem, course_of, course_count, slot_count, room_count, clash, is_unavailable, is_barred, is_blocked}
+use Rattle.ctt_problem.specs.Timetable.{course_row, slot_row}
 use Rattle.ctt_problem.specs.declared.placed.Placed.{Placed}
 use Rattle.ctt_rules.specs.Hard.{Lawful}
-use Rattle.ctt_board.specs.Changes.{room_at, clash_at, holder_at, apply_at, in_turn, ChangeFits}
+use Rattle.ctt_board.specs.Changes.{room_of, room_at, course_named, apply_at, in_turn, ChangeFits}
 use Rattle.ctt_board.specs.declared.cell.Cell.{Cell}
 
 -- the course, the slot and the room are numbers of the instance
 abbrev pub is_known : Problem → Placed → Bool
 is_known i l = nat_lt l.course (course_count i) && (nat_lt l.slot (slot_count i) && nat_lt l.room (room_count i))
 
--- the course is available in the slot, and the room is neither barred for it nor blocked there
-abbrev pub is_allowed : Problem → Placed → Bool
-is_allowed i l = not (is_unavailable i l.course l.slot) && (not (is_barred i l.course l.room) && not (is_blocked i l.room l.slot))
+-- what keeps a lecture from a slot and a room
+pub data Obstacle : Type 0 where
+  already_there : Obstacle
+  course_full : Obstacle
+  unavailable : Obstacle
+  barred : Obstacle
+  blocked : Obstacle
+  clash_with : ℕ → Obstacle
+  taken_by : ℕ → Obstacle
 
--- the course has lectures left to place and none in this slot, and slot and room are allowed
-abbrev pub is_wanted : Problem → List Placed → Placed → Bool
-is_wanted i t l = is_none (room_at l.course l.slot t) && (nat_lt (length (course_row l.course t)) (course_of i l.course).lectures && is_allowed i l)
+-- the obstacle o, if b holds
+abbrev pub obstacle_if : Bool → Obstacle → Option Obstacle
+obstacle_if b o = cond b (Some o) None
 
--- no lecture in the slot clashes with it or has its room
-abbrev pub is_unhindered : Problem → List Placed → Placed → Bool
-is_unhindered i t l = is_none (clash_at i l.course l.slot t) && is_none (holder_at l.slot l.room t)
+-- the first obstacle of a lecture by itself, which depends on no row
+abbrev pub obstacle_alone : Problem → ℕ → ℕ → ℕ → Option Obstacle
+obstacle_alone i c s r =
+    option_or (obstacle_if (is_unavailable i c s) unavailable)
+    (option_or (obstacle_if (is_barred i c r) barred) (obstacle_if (is_blocked i r s) blocked))
+
+-- the first obstacle of a lecture of course c in slot s and room r, given the row of its course and
+-- the row of its slot
+abbrev pub obstacle_in : Problem → ℕ → ℕ → ℕ → List Placed → List Placed → Option Obstacle
+obstacle_in i c s r course slot =
+    option_or (obstacle_if (is_some (room_of (find (λ l. l.slot == s) course))) already_there)
+    (option_or (obstacle_if (nat_le (course_of i c).lectures (length course)) course_full)
+    (option_or (obstacle_alone i c s r)
+    (option_or (option_map clash_with (course_named (find (λ l. clash i c l.course) slot)))
+    (option_map taken_by (course_named (find (λ l. l.room == r) slot))))))
+
+-- the first obstacle of a lecture of course c in slot s and room r
+abbrev pub obstacle : Problem → List Placed → ℕ → ℕ → ℕ → Option Obstacle
+obstacle i t c s r = obstacle_in i c s r (course_row c t) (slot_row s t)
 
 -- a lecture can be added to a lawful timetable
-abbrev pub can_come : Problem → List Placed → Placed → Bool
-can_come i t l = is_known i l && (is_wanted i t l && is_unhindered i t l)
+abbrev pub can_place : Problem → List Placed → Placed → Bool
+can_place i t l = is_known i l && is_none (obstacle i t l.course l.slot l.room)
 
 -- a removal finds a lecture in its place, or an addition can be made
 abbrev pub cell_fits : Problem → List Placed → ℕ → ℕ → Option ℕ → Bool
 cell_fits i t c s None = is_some (room_at c s t)
-cell_fits i t c s (Some r) = can_come i t (record { course = c; slot = s; room = r })
+cell_fits i t c s (Some r) = can_place i t (record { course = c; slot = s; room = r })
 
 -- each cell passes the test on the timetable after the earlier cells
 abbrev pub fits : Problem → List Cell → List Placed → Bool

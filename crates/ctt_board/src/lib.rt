@@ -4,8 +4,8 @@
 mod after;
 mod cell;
 mod change;
+pub mod change_laws;
 mod clashes;
-pub mod laws;
 mod sheet;
 mod standing;
 

@@ -1,6 +1,8 @@
 -- Why a journal is refused.
-use Rattle.std.proofs.Common.{◌≡◌, ◌∙◌, ap, subst, sym, ℕ, List}
+use Rattle.std.proofs.Common.{◌≡◌, string_bytes, subst, ℕ, List}
+use Rattle.std.specs.Global.{Global}
 use Rattle.std.specs.Str.{IsUtf8}
+use Rattle.std.specs.declared.string.String.{String}
 use Rattle.ctt_problem.specs.Problem.{Problem}
 use Rattle.ctt_text.specs.Words.{words}
 use Rattle.ctt_core.specs.declared.journal.JournalEntry.{JournalEntry}
@@ -9,18 +11,20 @@ use Rattle.ctt_script.specs.declared.journal_fault.JournalFault.{JournalFault}
 use Rattle.ctt_script.specs.declared.journal_fault.JournalFault.TheVariants as journal
 use Rattle.ctt_files.specs.Faults.{status_of}
 use Rattle.ctt_files.specs.declared.fault.Fault.{Fault}
-use Rattle.ctt_files.proofs.Causes.{three_is_one}
+use Rattle.ctt_files.proofs.Causes.{three_is_one, told_one}
 use Rattle.ctt_commands.specs.Refusals.{IsNoJournalOf}
-use Rattle.ctt_commands.specs.Faults.{fault_of_journal}
+use Rattle.ctt_commands.specs.Faults.{IsJournalFault, fault_of_journal}
 
 -- if the fault is not that memory ran out, the text is not a journal
 abbrev pub TakesJournals : Problem → List ℕ → JournalFault → Type 0
 TakesJournals problem bytes read = (entries : List JournalEntry) → IsUtf8 bytes → JournalSpells problem (words bytes) entries → read ≡ journal.NoMemory
 
-pub no_journal : (read : JournalFault) (problem : Problem) (bytes : List ℕ) → IsJournalCauseOf problem bytes read → TakesJournals problem bytes read → (fault : Fault) → fault ≡ fault_of_journal read → IsNoJournalOf problem bytes fault
-no_journal read problem bytes meets takes fault is = record {
+-- such a text is not a journal
+pub no_journal : (name : String Global) (read : JournalFault) (problem : Problem) (bytes : List ℕ) (fault : Fault) → IsJournalCauseOf problem bytes read → TakesJournals problem bytes read
+    → IsJournalFault (string_bytes name) bytes read fault → IsNoJournalOf name problem bytes fault
+no_journal name read problem bytes fault meets takes tells = record {
   met = read;
-  is = is;
+  tells = tells;
   meets = meets;
-  is_none = λ one entries text. three_is_one (subst (λ other. status_of (fault_of_journal other) ≡ 1) (takes entries text.is_text text.spells) (sym (ap status_of is) ∙ one));
+  is_none = λ one entries text. told_one fault_of_journal _ read fault tells one (λ point status. three_is_one (subst (λ other. status_of (fault_of_journal other point) ≡ 1) (takes entries text.is_text text.spells) status));
 }

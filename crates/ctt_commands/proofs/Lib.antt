@@ -1,3 +1,10 @@
+pub mod MendLemmas
+pub mod TableLemmas
+pub mod PlaceLemmas
+pub mod CompareLemmas
+pub mod RowLemmas
+pub mod JsonLemmas
+pub mod PairLemmas
 pub mod Plain
 pub mod Causes
 pub mod Openings

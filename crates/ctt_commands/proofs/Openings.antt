@@ -1,5 +1,7 @@
 -- Openings that are refused, and what is printed and stored of a desk.
-use Rattle.std.proofs.Common.{◌≡◌, ◌∙◌, ◌⊎◌, ⊎_elim, inl, inr, ◌<◌, ap, refl, sym, subst, ℕ, List, length, IfSome, Option, Some, None, Result, Ok, Err}
+use Rattle.std.proofs.Common.{◌≡◌, ◌∙◌, ◌⊎◌, ⊎_elim, inl, inr, ◌<◌, ◌≤◌, ap, refl, sym, subst, ℕ, Bool, true, IsTrue, List, length, IfSome, Option, Some, None, Result, Ok, Err}
+use Rattle.std.specs.Io.KnownBytes.{Appends}
+use Rattle.std.specs.Prelude.{is_some}
 use Rattle.std.specs.Global.{Global}
 use Rattle.std.specs.List.{AllByRecursion as Each}
 use Rattle.std.specs.String.{string_bytes}
@@ -11,10 +13,14 @@ use Rattle.ctt_edits.specs.Openings.{opening}
 use Rattle.ctt_edits.specs.declared.fault.EditFault.{EditFault}
 use Rattle.ctt_edits.proofs.OpeningLemmas.{opening_faults_fit}
 use Rattle.ctt_core.specs.Audits.{IsVerdict}
+use Rattle.ctt_core.specs.Desks.{DeskValue}
+use Rattle.ctt_core.specs.Laws.{Stands}
+use Rattle.ctt_core.specs.Runs.{accepted_of}
 use Rattle.ctt_core.specs.declared.auditing.Verdict.{Verdict}
 use Rattle.ctt_core.specs.declared.auditing.Verdict.TheVariants as found
 use Rattle.ctt_core.specs.declared.journal.JournalEntry.{JournalEntry}
-use Rattle.ctt_script.specs.RunFaults.{IsCauseOf}
+use Rattle.ctt_script.specs.AnswerText.{answer_text, script_run}
+use Rattle.ctt_script.specs.RunFaults.{IsRunCause}
 use Rattle.ctt_script.specs.WrittenText.{journal_text}
 use Rattle.ctt_script.specs.declared.script_fault.ScriptFault.{ScriptFault}
 use Rattle.ctt_script.specs.declared.script_fault.ScriptFault.TheVariants as script
@@ -22,14 +28,15 @@ use Rattle.ctt_files.specs.Faults.{IfUnwritten}
 use Rattle.ctt_files.specs.Texts.{Held, Holds, IsStart}
 use Rattle.ctt_files.specs.declared.fault.Fault.{Fault}
 use Rattle.ctt_files.proofs.Plain.{plain_written}
-use Rattle.ctt_commands.specs.Audits.{VerdictFits}
+use Rattle.ctt_commands.specs.Verdicts.{VerdictFits}
 use Rattle.ctt_commands.specs.Faults.{IsRunFault, RunFaultFits}
 use Rattle.ctt_commands.specs.Refusals.{IsAnswerFault, IsOfScript}
+use Rattle.ctt_commands.specs.Runs.{Answered}
 use Rattle.ctt_files.specs.Storing.{KeepOthers, Stores}
 use Rattle.ctt_commands.proofs.Plain.{refused_plain}
 
 -- if the fault of an opening names a course, it is one of the instance
-pub run_fits : (i : Problem) (ls : List Placed) (left : Option (List ℕ)) (fault : ScriptFault) → Each (Fits i) ls → IsCauseOf i ls left fault → RunFaultFits i fault
+pub run_fits : (i : Problem) (ls : List Placed) (left : Option (List ℕ)) (fault : ScriptFault) → Each (Fits i) ls → IsRunCause i ls left fault → RunFaultFits i fault
 run_fits i ls left (script.Unlawful at fault) fit cause = opening_faults_fit i ls at fault fit cause
 run_fits i ls left script.Read fit cause = tt
 run_fits i ls left script.TooLong fit cause = tt
@@ -59,7 +66,7 @@ IsLong script.TooLong = Unit {0}
 IsLong _ = ⊥
 
 -- why a script is not answered, as the program reports it
-pub answer_refused : (i : Problem) (ls : List Placed) (name : String Global) (left : Option (List ℕ)) (fault : ScriptFault) (told : Fault) (M U : Type 0) → IsRunFault i name fault told → IsCauseOf i ls left fault
+pub answer_refused : (i : Problem) (ls : List Placed) (name : String Global) (left : Option (List ℕ)) (fault : ScriptFault) (told : Fault) (M U : Type 0) → IsRunFault i name fault told → IsRunCause i ls left fault
     → ((at : ℕ) (found : EditFault) → opening i ls ≡ Err (at, found) → (fault ≡ script.Unlawful at found) ⊎ (fault ≡ script.NoMemory)) → (fault ≡ script.Write → M) → (fault ≡ script.Write) ⊎ U
     → IfUnwritten told M (IsAnswerFault i ls name left told × U)
 answer_refused i ls name left (script.Unlawful at found) told M U is cause refused failed unmarked =
@@ -84,17 +91,12 @@ told_through (Some text) left P same h = subst (λ l. IfSome l P) same h
 pub answer_in : (i : Problem) (ls : List Placed) (name : String Global) (start : Option (String Global)) (held : Held) (left : Option (List ℕ)) (fault : Fault) → Holds held name (λ text. left ≡ Some text) → IsStart i held start ls
     → IsAnswerFault i ls name left fault → IsOfScript name start held i fault
 answer_in i ls name start held left fault whole is_start (inl machine) = inl machine
-answer_in i ls name start held left fault whole is_start (inr (inl refused)) = inr (inl (inr (refused.0, refused.1, record { lectures = ls; is_start = is_start; refused = refused.2 }, refused.3)))
+answer_in i ls name start held left fault whole is_start (inr (inl refused)) = inr (inl (inr (ls, is_start, refused)))
 answer_in i ls name start held left fault whole is_start (inr (inr long)) = inr (inr (ls, is_start, (long.0, long.1, (long.2, told_through (held (string_bytes name)) left (λ text. 67108864 < length text) whole long.3))))
 
-some_weaker : (o : Option (List ℕ)) (P Q : List ℕ → Type 0) → IfSome o P → ((text : List ℕ) → P text → Q text) → IfSome o Q
+pub some_weaker : (o : Option (List ℕ)) (P Q : List ℕ → Type 0) → IfSome o P → ((text : List ℕ) → P text → Q text) → IfSome o Q
 some_weaker None P Q h more = tt
 some_weaker (Some text) P Q h more = more text h
-
-journal_told : (told : Option (List ℕ)) (i : Problem) (entries kept : List JournalEntry) (accepted : List ℕ → List JournalEntry) (bytes : List ℕ) → entries ≡ kept → IfSome told (λ text. kept ≡ accepted text)
-    → bytes ≡ journal_text i entries → IfSome told (λ text. bytes ≡ journal_text i (accepted text))
-journal_told None i entries kept accepted bytes same known is = tt
-journal_told (Some text) i entries kept accepted bytes same known is = is ∙ ap (journal_text i) (same ∙ known)
 
 -- if only the last step changed files, those that it left unchanged are unchanged
 pub others_kept : (stored : Option (String Global)) (before later after : Held) → later ≡ before → KeepOthers stored later after → KeepOthers stored before after
@@ -104,12 +106,24 @@ others_kept stored before later after same keep = subst (λ (held : Held). KeepO
 pub all_kept : (stored : Option (String Global)) (before after : Held) → after ≡ before → KeepOthers stored before after
 all_kept stored before after same = λ other is. ap (λ (held : Held). held other) same
 
--- the journal that is stored is that of the drafts that the script committed
-pub journal_stored : (journal : Option (String Global)) (before later after : Held) (told : Option (List ℕ)) (i : Problem) (entries kept : List JournalEntry) (accepted : List ℕ → List JournalEntry)
-    → later ≡ before → entries ≡ kept → IfSome told (λ text. kept ≡ accepted text) → Stores journal later after (λ bytes. bytes ≡ journal_text i entries)
-    → Stores journal before after (λ bytes. IfSome told (λ text. bytes ≡ journal_text i (accepted text)))
-journal_stored None before later after told i entries kept accepted same_files same known h = h ∙ same_files
-journal_stored (Some name) before later after told i entries kept accepted same_files same known h =
-    let holds = some_weaker (after (string_bytes name)) (λ bytes. bytes ≡ journal_text i entries) (λ bytes. IfSome told (λ text. bytes ≡ journal_text i (accepted text))) h.0
-    (λ bytes is. journal_told told i entries kept accepted bytes same known is) in
-    (holds, others_kept (Some name) before later after same_files h.1)
+-- the answers to the script that is read, and the journal of the desk that answered it
+pub answered_all : (left : Option (List ℕ)) (i : Problem) (desk : DeskValue) (opened : List Placed) (old new : Option (List ℕ)) (wanted : Bool) (journal : List ℕ) (entries : List JournalEntry)
+    → IfSome left (λ text. Appends old new (answer_text i opened text)) → IfSome left (λ text. Stands desk (script_run i opened text)) → IfSome left (λ text. length text ≤ 67108864)
+    → entries ≡ desk.journal → (IsTrue wanted → journal ≡ journal_text i entries) → IfSome left (λ text. Answered i opened text old new wanted journal)
+answered_all None i desk opened old new wanted journal entries prints stands short same is = tt
+answered_all (Some text) i desk opened old new wanted journal entries prints stands short same is = record {
+  short = short;
+  prints = prints;
+  is_journal = λ want. is want ∙ ap (journal_text i) (same ∙ stands.at.journal);
+}
+
+-- the journal that is stored, if a file is given for it, is that of the drafts that the script committed
+pub journal_stored : (journal : Option (String Global)) (before later after : Held) (told : Option (List ℕ)) (i : Problem) (opened : List Placed) (old new : Option (List ℕ)) (text : List ℕ)
+    → later ≡ before → IfSome told (λ script. Answered i opened script old new (is_some journal) text) → Stores journal later after (λ bytes. bytes ≡ text)
+    → Stores journal before after (λ bytes. IfSome told (λ script. bytes ≡ journal_text i (accepted_of (script_run i opened script))))
+journal_stored None before later after told i opened old new text same answered stores = stores ∙ same
+journal_stored (Some name) before later after told i opened old new text same answered stores = (
+  some_weaker (after (string_bytes name)) (λ bytes. bytes ≡ text) (λ bytes. IfSome told (λ script. bytes ≡ journal_text i (accepted_of (script_run i opened script)))) stores.0
+      (λ bytes is. some_weaker told (λ script. Answered i opened script old new true text) (λ script. bytes ≡ journal_text i (accepted_of (script_run i opened script))) answered (λ script all. is ∙ all.is_journal refl)),
+  others_kept (Some name) before later after same stores.1,
+)

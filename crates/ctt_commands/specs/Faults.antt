@@ -8,6 +8,7 @@ use Rattle.ctt_problem.specs.Problem.{Problem}
 use Rattle.ctt_edits.specs.Fitting.{FaultFits}
 use Rattle.ctt_edits.specs.declared.fault.EditFault.{EditFault}
 use Rattle.ctt_line.specs.Lines.{line}
+use Rattle.ctt_script.specs.JournalFaults.{journal_point}
 use Rattle.ctt_script.specs.WrittenWords.{fault_words}
 use Rattle.ctt_crew.specs.declared.crew_fault.CrewFault.{CrewFault}
 use Rattle.ctt_crew.specs.declared.crew_fault.CrewFault.TheVariants as crew
@@ -16,21 +17,27 @@ use Rattle.ctt_script.specs.declared.journal_fault.JournalFault.TheVariants as j
 use Rattle.ctt_script.specs.declared.script_fault.ScriptFault.{ScriptFault}
 use Rattle.ctt_script.specs.declared.script_fault.ScriptFault.TheVariants as script
 use Rattle.ctt_files.specs.declared.fault.Fault.{Fault}
-use Rattle.ctt_files.specs.declared.fault.Fault.TheVariants.{CannotRead, CannotWrite, Journal, NoMemory, NoPlace, NoThread, Opening, TooLong}
-use Rattle.ctt_files.specs.Faults.{IfUnwritten}
+use Rattle.ctt_files.specs.declared.fault.ContentsFault.TheVariants.{Journal, Opening}
+use Rattle.ctt_files.specs.declared.fault.Fault.TheVariants.{Contents, Machine}
+use Rattle.ctt_files.specs.declared.fault.MachineFault.TheVariants.{CannotRead, CannotWrite, NoMemory, NoPlace, NoThread, TooLong}
+use Rattle.ctt_files.specs.Faults.{IfUnwritten, TellsOf}
 
--- the fault of a refused journal
-abbrev pub fault_of_journal : JournalFault → Fault
-fault_of_journal (journal.NotText byte) = Journal 1 byte
-fault_of_journal (journal.Missing word) = Journal 2 word
-fault_of_journal (journal.BadWord word) = Journal 3 word
-fault_of_journal journal.NoMemory = NoMemory
+-- the program's fault for a fault of a journal, or of minutes
+abbrev pub fault_of_journal : JournalFault → String Global → Fault
+fault_of_journal (journal.NotText byte) point = Contents (Journal 1 byte point)
+fault_of_journal (journal.Missing word) point = Contents (Journal 2 word point)
+fault_of_journal (journal.BadWord word) point = Contents (Journal 3 word point)
+fault_of_journal journal.NoMemory point = Machine NoMemory
+
+-- the fault tells what was met in this text of the file of this name, and where
+abbrev pub IsJournalFault : List ℕ → List ℕ → JournalFault → Fault → Type 0
+IsJournalFault file text met fault = TellsOf fault_of_journal (journal_point file text met) met fault
 
 -- the fault of a crew that could not be run
 abbrev pub fault_of_crew : CrewFault → Fault
-fault_of_crew crew.NoPlace = NoPlace
-fault_of_crew (crew.NoThread planner) = NoThread
-fault_of_crew crew.NoMemory = NoMemory
+fault_of_crew crew.NoPlace = Machine NoPlace
+fault_of_crew (crew.NoThread planner) = Machine NoThread
+fault_of_crew crew.NoMemory = Machine NoMemory
 
 -- the line that reports the lecture, counted from 1, that cannot be placed in an opening
 abbrev pub opening_line : Problem → ℕ → EditFault → List ℕ
@@ -38,7 +45,7 @@ opening_line problem at fault = codes "timedesk: opening " ++ (decimal at ++ (co
 
 -- the fault of such an opening, or memory runs out for its line
 abbrev pub IsOpeningFault : Problem → ℕ → EditFault → Fault → Type 0
-IsOpeningFault problem at fault told = ((text : String Global) × (told ≡ Opening text) × (string_bytes text ≡ opening_line problem at fault)) ⊎ (told ≡ NoMemory)
+IsOpeningFault problem at fault told = ((text : String Global) × (told ≡ Contents (Opening text)) × (string_bytes text ≡ opening_line problem at fault)) ⊎ (told ≡ Machine NoMemory)
 
 -- if the fault of a run names a course, it is one of the instance
 abbrev pub RunFaultFits : Problem → ScriptFault → Type 0
@@ -48,10 +55,10 @@ RunFaultFits problem fault = Unit {0}
 -- the fault of a run of the script in this file
 abbrev pub IsRunFault : Problem → String Global → ScriptFault → Fault → Type 0
 IsRunFault problem name (script.Unlawful at fault) told = IsOpeningFault problem at fault told
-IsRunFault problem name script.Read told = told ≡ CannotRead name
-IsRunFault problem name script.TooLong told = told ≡ TooLong name
-IsRunFault problem name script.Write told = told ≡ CannotWrite
-IsRunFault problem name script.NoMemory told = told ≡ NoMemory
+IsRunFault problem name script.Read told = told ≡ Machine (CannotRead name)
+IsRunFault problem name script.TooLong told = told ≡ Machine (TooLong name)
+IsRunFault problem name script.Write told = told ≡ Machine CannotWrite
+IsRunFault problem name script.NoMemory told = told ≡ Machine NoMemory
 
 -- K, unless the fault is that something could not be written, and then K or S
 abbrev pub KeptUnless : Fault → Type 0 → Type 0 → Type 0

@@ -1,5 +1,5 @@
 -- What the command `run` prints and stores.
-use Rattle.std.specs.Prelude.{◌≡◌, ◌≤◌, ℕ, List, Option, Ok, length}
+use Rattle.std.specs.Prelude.{◌≡◌, ◌≤◌, ℕ, Bool, IsTrue, List, Option, Ok, length}
 use Rattle.std.specs.Global.{Global}
 use Rattle.std.specs.Io.KnownBytes.{Appends}
 use Rattle.std.specs.declared.string.String.{String}
@@ -13,9 +13,19 @@ use Rattle.ctt_files.specs.Storing.{Stores}
 use Rattle.ctt_files.specs.Texts.{Held, Holds, IsInstanceIn, IsStart}
 use Rattle.ctt_files.specs.declared.sides.Sides.{Sides}
 
--- the script, which is within the limit, is run on a desk that opens with the start; its answers
--- are printed, and the accepted drafts are stored as a journal, if a file is given
-pub record RunsOn (problem : Problem) (script : String Global) (start journal : Option (String Global)) (before after : Held) (old new : Option (List ℕ)) : Type 0 where
+-- the answers to the script, which is within the limit, are printed, and the journal is that of the
+-- accepted drafts, if it is wanted
+pub record Answered (problem : Problem) (opened : List Placed) (script : List ℕ) (old new : Option (List ℕ)) (wanted : Bool) (journal : List ℕ) : Type 0 where
+  pub short : length script ≤ 67108864
+  pub prints : Appends old new (answer_text problem opened script)
+  pub is_journal : IsTrue wanted → journal ≡ journal_text problem (accepted_of (script_run problem opened script))
+
+-- the script, which is within the limit, is run on a desk of the instance in a file that opens with
+-- the start; its answers are printed, and the accepted drafts are stored as a journal, if a file is
+-- given
+pub record RunsScript (instance : String Global) (sides : Sides) (script : String Global) (start journal : Option (String Global)) (before after : Held) (old new : Option (List ℕ)) : Type 0 where
+  pub problem : Problem
+  pub is_instance : IsInstanceIn before instance sides problem
   pub lectures : List Placed
   pub is_start : IsStart problem before start lectures
   pub opened : List Placed
@@ -23,9 +33,3 @@ pub record RunsOn (problem : Problem) (script : String Global) (start journal : 
   pub short : Holds before script (λ text. length text ≤ 67108864)
   pub prints : Holds before script (λ text. Appends old new (answer_text problem opened text))
   pub stores : Stores journal before after (λ bytes. Holds before script (λ text. bytes ≡ journal_text problem (accepted_of (script_run problem opened text))))
-
--- the same for the instance in a file
-pub record RunsScript (instance : String Global) (sides : Sides) (script : String Global) (start journal : Option (String Global)) (before after : Held) (old new : Option (List ℕ)) : Type 0 where
-  pub problem : Problem
-  pub is_instance : IsInstanceIn before instance sides problem
-  pub runs : RunsOn problem script start journal before after old new

@@ -1,28 +1,30 @@
-//! The command `audit`.
+//! The commands `audit` and `list`.
 
-ghost use Rattle.std.specs.Prelude.{◌≡◌, IfOk, IfErr, IfSome};
+ghost use Rattle.std.specs.Prelude.{◌≡◌, ◌⊎◌, [], IfOk, IfErr, string_bytes};
 ghost use Rattle.std.specs.List.{AllByRecursion as Each};
-ghost use Rattle.std.specs.String.{string_bytes};
+ghost use Rattle.ctt_problem.specs.Timetable.{Fits};
 ghost use Rattle.ctt_core.specs.Entries.{EntryFits};
-ghost use Rattle.ctt_files.specs.Answers.{IsTextAlone};
-ghost use Rattle.ctt_commands.specs.Audits.{AuditsJournal, AuditsOn, FindsIn, IsVerdictFault, ShowsVerdict, VerdictFits};
-ghost use Rattle.ctt_commands.specs.Refusals.{IsOfAudit, IsOfAudited, IsOfJournal};
-ghost use Rattle.ctt_commands.specs.Texts.{IsJournalText};
+ghost use Rattle.ctt_files.specs.declared.fault.Fault.TheVariants.{Machine};
+ghost use Rattle.ctt_files.specs.declared.fault.MachineFault.TheVariants.{NoMemory as OutOfMemory};
+ghost use Rattle.ctt_commands.specs.Commands.{ReplayFits};
+ghost use Rattle.ctt_commands.specs.Refusals.{IsNoOpening};
+ghost use Rattle.ctt_commands.specs.Verdicts.{IsVerdictFault, ShowsAudit, ShowsLeft, ShowsVerdict, VerdictFits};
 
-use crate::refused::{refused_journal, refused_opening};
+use crate::refused::refused_opening;
+use crate::task::Replay;
 use ctt_board::Sheet;
-use ctt_core::{JournalEntry, Verdict, audit as audit_entries};
-use ctt_files::{Fault, Files, Outcome, Printed, Sides, fetch_instance, fetch_start, read_file};
+use ctt_core::{JournalEntry, NoList, Verdict, audit as audit_entries, list_after};
+use ctt_files::{Fault, MachineFault, Outcome, Output};
 use ctt_grid::GridSheet;
-use ctt_script::read_journal;
-use ctt_text::{Instance, let_go};
+use ctt_problem::{Instance, Placed};
+use ctt_text::write_solution;
 use std::alloc::Global;
 
 /// Returns the text of a verdict, unless the opening is refused, which is a fault.
-pub fn show_verdict(alloc: Global, instance: &Instance, verdict: Verdict) -> Result<Printed, Fault>
+fn show_verdict(alloc: Global, instance: &Instance, verdict: Verdict) -> Result<Output, Fault>
     requires { VerdictFits instance.now verdict }
     ensures shows { IfOk result (ShowsVerdict verdict) }
-    ensures alone { IfOk result IsTextAlone }
+    ensures alone { IfOk result (λ output. string_bytes output.diagnostics ≡ []) }
     ensures cause { IfErr result (IsVerdictFault instance.now verdict) }
 {
     let (words, outcome) = match verdict {
@@ -35,93 +37,75 @@ pub fn show_verdict(alloc: Global, instance: &Instance, verdict: Verdict) -> Res
             return Err(refused_opening(alloc, instance, at, &fault));
         }
     };
-    Ok(Printed::new(alloc, words.into_bytes(), outcome))
+    Ok(Output::new(alloc, words.into_bytes(), outcome))
 }
 
-/// Parses the entries of the journal in a file.
-pub fn fetch_entries<F: Files>(
+/// Audits entries on the opening with these lectures, on sheets of this kind.
+fn show_audit<'i, S: Sheet<'i>>(
     alloc: Global,
-    files: &mut F,
-    instance: &Instance,
-    journal: String,
-) -> Result<Vec<JournalEntry>, Fault>
-    ensures spelled { IfOk result (λ entries.
-        IfSome (F.held files.old (string_bytes journal)) (λ text.
-        IsJournalText instance.now text entries.items)) }
-    ensures fit { IfOk result (λ entries. Each (EntryFits instance.now) entries.items) }
-    ensures kept { F.held files.new ≡ F.held files.old }
-    ensures cause { IfErr result (IsOfJournal journal (F.held files.old) instance.now) }
-{
-    let text = read_file(alloc, files, journal)?;
-    match read_journal(alloc, instance, &text) {
-        Ok(entries) => Ok(entries),
-        Err(fault) => Err(refused_journal(fault)),
-    }
-}
-
-/// Audits the journal in a file. The start is read after the journal, so that a fault of the
-/// journal comes first.
-fn fetch_verdict<'i, S: Sheet<'i>, F: Files>(
-    alloc: Global,
-    files: &mut F,
     instance: &'i Instance,
-    journal: String,
-    start: Option<String>,
-) -> Result<Verdict, Fault>
-    ensures found { IfOk result (FindsIn instance.now journal start (F.held files.old)) }
-    ensures fits { IfOk result (VerdictFits instance.now) }
-    ensures kept { F.held files.new ≡ F.held files.old }
-    ensures cause { IfErr result (IsOfAudited journal start (F.held files.old) instance.now) }
+    lectures: &[Placed],
+    entries: &[JournalEntry],
+) -> Result<Output, Fault>
+    requires lectures { Each (Fits instance.now) lectures.now }
+    requires entries { Each (EntryFits instance.now) entries.now }
+    ensures shows { IfOk result (ShowsAudit instance.now lectures.now entries.now) }
+    ensures alone { IfOk result (λ output. string_bytes output.diagnostics ≡ []) }
+    ensures cause { IfErr result (λ fault. IsNoOpening instance.now lectures.now fault
+        ⊎ (fault ≡ Machine OutOfMemory)) }
 {
-    let entries = fetch_entries(alloc, files, instance, journal)?;
-    let lectures = match fetch_start(alloc, files, instance, start) {
-        Ok(lectures) => lectures,
-        Err(fault) => {
-            let_go(entries);
-            return Err(fault);
-        }
-    };
-    let found = audit_entries::<S>(alloc, instance, &lectures, &entries);
-    let_go(entries);
-    match found {
-        Ok(verdict) => Ok(verdict),
-        Err(_) => Err(Fault::NoMemory),
-    }
-}
-
-/// Audits the journal in a file on sheets of this kind, and returns the verdict's text.
-fn audit_on<'i, S: Sheet<'i>, F: Files>(
-    alloc: Global,
-    files: &mut F,
-    instance: &'i Instance,
-    journal: String,
-    start: Option<String>,
-) -> Result<Printed, Fault>
-    ensures audits { IfOk result (AuditsOn instance.now journal start (F.held files.old)) }
-    ensures alone { IfOk result IsTextAlone }
-    ensures kept { F.held files.new ≡ F.held files.old }
-    ensures cause { IfErr result (IsOfAudited journal start (F.held files.old) instance.now) }
-{
-    let verdict = fetch_verdict::<S, F>(alloc, files, instance, journal, start)?;
+    let verdict = audit_entries::<S>(alloc, instance, lectures, entries)?;
     show_verdict(alloc, instance, verdict)
 }
 
-/// Audits a journal of an instance, and returns whether its entries have the replies that their
-/// drafts get if they are run whole, one after another. Each text is given by its file name.
-pub fn audit<F: Files>(
+/// Returns the timetable that entries leave on the opening with these lectures, or the verdict of
+/// the audit if it does not agree.
+fn show_left<'i, S: Sheet<'i>>(
     alloc: Global,
-    files: &mut F,
-    instance: String,
-    sides: Sides,
-    journal: String,
-    start: Option<String>,
-) -> Result<Printed, Fault>
-    ensures audits { IfOk result (AuditsJournal instance sides journal start (F.held files.old)) }
-    ensures kept { F.held files.new ≡ F.held files.old }
-    ensures cause { IfErr result (IsOfAudit (F.held files.old) instance sides journal start) }
+    instance: &'i Instance,
+    lectures: &[Placed],
+    entries: &[JournalEntry],
+) -> Result<Output, Fault>
+    requires lectures { Each (Fits instance.now) lectures.now }
+    requires entries { Each (EntryFits instance.now) entries.now }
+    ensures shows { IfOk result (ShowsLeft instance.now lectures.now entries.now) }
+    ensures alone { IfOk result (λ output. string_bytes output.diagnostics ≡ []) }
+    ensures cause { IfErr result (λ fault. IsNoOpening instance.now lectures.now fault
+        ⊎ (fault ≡ Machine OutOfMemory)) }
 {
-    let instance = fetch_instance(alloc, files, instance, sides)?;
-    let audited = audit_on::<GridSheet, F>(alloc, files, &instance, journal, start);
-    let_go(instance);
-    audited
+    match list_after::<S>(alloc, instance, lectures, entries) {
+        Ok(list) => {
+            let solution = write_solution(alloc, instance, &list)?;
+            Ok(Output::new(alloc, solution, Outcome::Done))
+        }
+        Err(NoList::Found(verdict)) => show_verdict(alloc, instance, verdict),
+        Err(NoList::NoMemory) => Err(Fault::Machine(MachineFault::NoMemory)),
+    }
+}
+
+/// Audits a journal, and returns whether its entries have the replies that their drafts get if they
+/// are run whole, one after another.
+pub(crate) fn audit(alloc: Global, replay: &Replay) -> Result<Output, Fault>
+    requires { ReplayFits replay.now }
+    ensures shows { IfOk result (ShowsAudit replay.now.instance replay.now.start.items
+        replay.now.entries.items) }
+    ensures alone { IfOk result (λ output. string_bytes output.diagnostics ≡ []) }
+    ensures cause { IfErr result (λ fault. IsNoOpening replay.now.instance replay.now.start.items
+        fault ⊎ (fault ≡ Machine OutOfMemory)) }
+{
+    let (lectures, entries) = (replay.start.as_slice(), replay.entries.as_slice());
+    show_audit::<GridSheet>(alloc, &replay.instance, lectures, entries)
+}
+
+/// Returns the timetable after a journal as a solution, if the audit agrees, and else its verdict.
+pub(crate) fn list(alloc: Global, replay: &Replay) -> Result<Output, Fault>
+    requires { ReplayFits replay.now }
+    ensures shows { IfOk result (ShowsLeft replay.now.instance replay.now.start.items
+        replay.now.entries.items) }
+    ensures alone { IfOk result (λ output. string_bytes output.diagnostics ≡ []) }
+    ensures cause { IfErr result (λ fault. IsNoOpening replay.now.instance replay.now.start.items
+        fault ⊎ (fault ≡ Machine OutOfMemory)) }
+{
+    let (lectures, entries) = (replay.start.as_slice(), replay.entries.as_slice());
+    show_left::<GridSheet>(alloc, &replay.instance, lectures, entries)
 }

@@ -1,28 +1,28 @@
 //! The command `run`.
 
-ghost use Rattle.std.specs.Prelude.{◌≡◌, ◌⊎◌, ◌≤◌, length, true, false, Ok, OnOk, IfOk, IfErr, IfSome};
-ghost use Rattle.std.specs.Io.KnownBytes.{Appends};
+ghost use Rattle.std.specs.Prelude.{◌≡◌, ◌⊎◌, List, true, false, IsTrue, Ok, OnOk, IfOk, IfErr, IfSome};
 ghost use Rattle.std.specs.List.{AllByRecursion as Each};
 ghost use Rattle.ctt_problem.specs.Timetable.{Fits};
+ghost use Rattle.ctt_problem.specs.declared.placed.Placed.{Placed};
 ghost use Rattle.ctt_edits.specs.Openings.{opening};
-ghost use Rattle.ctt_core.specs.Runs.{accepted_of};
-ghost use Rattle.ctt_script.specs.AnswerText.{answer_text, script_run};
 ghost use Rattle.ctt_script.specs.Entries.{IsWritable};
 ghost use Rattle.ctt_script.specs.WrittenText.{journal_text};
 ghost use Rattle.ctt_files.specs.Faults.{IfUnwritten, MayHaveWritten};
-ghost use Rattle.ctt_files.specs.declared.fault.Fault.TheVariants.{NoMemory as OutOfMemory};
+ghost use Rattle.ctt_files.specs.Storing.{IsGiven, KeepOthers, Stores};
+ghost use Rattle.ctt_files.specs.declared.fault.Fault.TheVariants.{Machine};
+ghost use Rattle.ctt_files.specs.declared.fault.MachineFault.TheVariants.{CannotWrite};
 ghost use Rattle.ctt_files.specs.declared.outcome.Outcome.TheVariants.{Done};
 ghost use Rattle.ctt_commands.specs.Faults.{IsRunFault, KeptUnless, RunFaultFits};
-ghost use Rattle.ctt_files.specs.Storing.{IsGiven, KeepOthers, Stores};
-ghost use Rattle.ctt_commands.specs.Refusals.{IsAnswerFault, IsOfRun, IsOfScript};
-ghost use Rattle.ctt_commands.specs.Runs.{RunsOn, RunsScript};
+ghost use Rattle.ctt_commands.specs.Refusals.{IsAnswerFault, IsOfRun};
+ghost use Rattle.ctt_commands.specs.Runs.{Answered, RunsScript};
 
 use crate::refused::refused_opening;
-use ctt_core::{Desk, JournalEntry};
-use ctt_files::{Fault, Files, Outcome, Sides, Sink, Source, fetch_instance, fetch_start};
-use ctt_grid::GridSheet;
+use ctt_core::JournalEntry;
+use ctt_files::{
+    Fault, Files, MachineFault, Outcome, Sides, Sink, Source, fetch_instance, fetch_start,
+};
+use ctt_problem::{Instance, NoMemory, Placed, drop_whole};
 use ctt_script::{ScriptFault, run_script, write_journal};
-use ctt_text::{Instance, Placed, let_go};
 use std::alloc::Global;
 
 /// Converts the fault of a run of the script in this file.
@@ -32,33 +32,50 @@ fn fault_of_run(alloc: Global, instance: &Instance, fault: ScriptFault, script: 
 {
     match fault {
         ScriptFault::Unlawful(at, fault) => refused_opening(alloc, instance, at, &fault),
-        ScriptFault::Read => Fault::CannotRead(script),
-        ScriptFault::TooLong => Fault::TooLong(script),
-        ScriptFault::Write => Fault::CannotWrite,
-        ScriptFault::NoMemory => Fault::NoMemory,
+        ScriptFault::Read => Fault::Machine(MachineFault::CannotRead(script)),
+        ScriptFault::TooLong => Fault::Machine(MachineFault::TooLong(script)),
+        ScriptFault::Write => Fault::Machine(MachineFault::CannotWrite),
+        ScriptFault::NoMemory => Fault::Machine(MachineFault::NoMemory),
     }
 }
 
-/// Runs a script on a desk that opens with these lectures, and prints the answers. `name` is the
-/// script's file, for faults.
-fn answer<'i, R: Source, W: Sink>(
+/// Returns the journal of these entries if it is wanted, and else an empty text.
+fn journal_if(
     alloc: Global,
-    instance: &'i Instance,
+    wanted: bool,
+    instance: &Instance,
+    entries: &[JournalEntry],
+) -> Result<Vec<u8>, NoMemory>
+    requires { IsWritable instance.now entries.now }
+    ensures { IfOk result (λ text.
+        IsTrue wanted → text.items ≡ journal_text instance.now entries.now) }
+{
+    if wanted {
+        write_journal(alloc, instance, entries)
+    } else {
+        Ok(Vec::new(alloc))
+    }
+}
+
+/// Runs a script on a desk that opens with these lectures, and prints the answers. Returns the
+/// journal of the accepted drafts if it is wanted, and else an empty text. `name` is the script's
+/// file, for faults.
+fn answer<R: Source, W: Sink>(
+    alloc: Global,
+    instance: &Instance,
     lectures: &[Placed],
     script: &mut R,
     name: String,
     out: &mut W,
-) -> Result<Desk<'i, GridSheet<'i>>, Fault>
+    wanted: bool,
+) -> Result<Vec<u8>, Fault>
     requires fit { Each (Fits instance.now) lectures.now }
     requires unread { R.has_failed script.old ≡ false }
 
-    ensures opening { IfOk result (λ desk. opening instance.now lectures.now ≡ Ok desk.opening) }
-    ensures prints { IfOk result (λ desk. IfSome (R.left script.old) (λ text.
-        Appends (W.taken out.old) (W.taken out.new) (answer_text instance.now desk.opening text))) }
-    ensures journal { IfOk result (λ desk. IfSome (R.left script.old) (λ text.
-        desk.journal ≡ accepted_of (script_run instance.now desk.opening text))) }
-    ensures entries { IfOk result (λ desk. IsWritable instance.now desk.journal) }
-    ensures short { OnOk result (IfSome (R.left script.old) (λ text. length text ≤ 67108864)) }
+    ensures answers { IfOk result (λ journal. (opened : List Placed)
+        × (opening instance.now lectures.now ≡ Ok opened)
+        × IfSome (R.left script.old) (λ text.
+        Answered instance.now opened text (W.taken out.old) (W.taken out.new) wanted journal.items)) }
     ensures unmarked { OnOk result (W.has_failed out.new ≡ W.has_failed out.old) }
 
     ensures cause { IfErr result (λ fault. IfUnwritten fault
@@ -68,74 +85,39 @@ fn answer<'i, R: Source, W: Sink>(
     ensures unwritten { IfErr result (λ fault. MayHaveWritten fault ⊎ (out.new ≡ out.old)) }
 {
     match run_script(alloc, instance, lectures, script, out) {
-        Ok(desk) => Ok(desk),
+        Ok(desk) => {
+            let journal = journal_if(alloc, wanted, instance, desk.journal());
+            drop_whole(desk);
+            Ok(journal?)
+        }
         Err(fault) => Err(fault_of_run(alloc, instance, fault, name)),
     }
 }
 
-/// Stores the journal of these entries, if a file is given for it.
+/// Stores a journal, if a file is given for it.
 fn store_journal<F: Files>(
-    alloc: Global,
     files: &mut F,
-    instance: &Instance,
     journal: Option<String>,
-    entries: &[JournalEntry],
+    text: &[u8],
 ) -> Result<Outcome, Fault>
-    requires { IsWritable instance.now entries.now }
     ensures done { IfOk result (λ outcome. outcome ≡ Done) }
     ensures stores { OnOk result (Stores journal (F.held files.old) (F.held files.new) (λ bytes.
-        bytes ≡ journal_text instance.now entries.now)) }
-    ensures fault { IfErr result (λ fault. IfUnwritten fault
-        (IsGiven journal)
-        ((fault ≡ OutOfMemory) × (F.held files.new ≡ F.held files.old))) }
+        bytes ≡ text.now)) }
+    ensures fault { IfErr result (λ fault. (fault ≡ Machine CannotWrite) × IsGiven journal) }
     ensures others { KeepOthers journal (F.held files.old) (F.held files.new) }
 {
     let Some(name) = journal else {
         return Ok(Outcome::Done);
     };
-    let text = write_journal(alloc, instance, entries)?;
-    match files.store(&name, &text) {
+    match files.store(&name, text) {
         Ok(()) => Ok(Outcome::Done),
-        Err(_) => Err(Fault::CannotWrite),
+        Err(_) => Err(Fault::Machine(MachineFault::CannotWrite)),
     }
 }
 
-/// Runs the script in a file on a desk. The script's file is opened first, then the start is read,
-/// and then the script.
-fn run_on<F: Files, W: Sink>(
-    alloc: Global,
-    files: &mut F,
-    out: &mut W,
-    instance: &Instance,
-    script: String,
-    start: Option<String>,
-    journal: Option<String>,
-) -> Result<Outcome, Fault>
-    ensures runs { OnOk result
-        (RunsOn instance.now script start journal (F.held files.old) (F.held files.new)
-        (W.taken out.old) (W.taken out.new)) }
-    ensures done { IfOk result (λ outcome. outcome ≡ Done) }
-    ensures unmarked { OnOk result (W.has_failed out.new ≡ W.has_failed out.old) }
-    ensures cause { IfErr result (λ fault. IfUnwritten fault
-        ((W.has_failed out.new ≡ true) ⊎ IsGiven journal)
-        (IsOfScript script start (F.held files.old) instance.now fault
-        × (W.has_failed out.new ≡ W.has_failed out.old))) }
-    ensures unwritten { IfErr result (λ fault. MayHaveWritten fault ⊎ (out.new ≡ out.old)) }
-    ensures unstored { IfErr result (λ fault. KeptUnless fault
-        ((W.has_failed out.new ≡ W.has_failed out.old) × IsGiven journal)
-        (F.held files.new ≡ F.held files.old)) }
-    ensures others { KeepOthers journal (F.held files.old) (F.held files.new) }
-{
-    let Ok(mut input) = files.fetch(&script) else {
-        return Err(Fault::CannotRead(script));
-    };
-    let lectures = fetch_start(alloc, files, instance, start)?;
-    let desk = answer(alloc, instance, &lectures, &mut input, script, out)?;
-    store_journal(alloc, files, instance, journal, desk.journal())
-}
-
 /// Runs a script on a desk of an instance, and prints the answers, then stores the journal of the
-/// accepted drafts, if a file is given for it. Each text is given by its file name.
+/// accepted drafts, if a file is given for it. The script's file is opened first, then the start is
+/// read, and then the script.
 pub fn run<F: Files, W: Sink>(
     alloc: Global,
     files: &mut F,
@@ -162,7 +144,19 @@ pub fn run<F: Files, W: Sink>(
     ensures others { KeepOthers journal (F.held files.old) (F.held files.new) }
 {
     let instance = fetch_instance(alloc, files, instance, sides)?;
-    let done = run_on(alloc, files, out, &instance, script, start, journal);
-    let_go(instance);
-    done
+    let Ok(mut input) = files.fetch(&script) else {
+        drop_whole(instance);
+        return Err(Fault::Machine(MachineFault::CannotRead(script)));
+    };
+    let lectures = match fetch_start(alloc, files, &instance, start) {
+        Ok(lectures) => lectures,
+        Err(fault) => {
+            drop_whole(instance);
+            return Err(fault);
+        }
+    };
+    let wanted = journal.is_some();
+    let answered = answer(alloc, &instance, &lectures, &mut input, script, out, wanted);
+    drop_whole(instance);
+    store_journal(files, journal, &answered?)
 }

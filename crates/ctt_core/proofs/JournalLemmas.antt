@@ -23,13 +23,14 @@ use Rattle.ctt_core.specs.declared.event.Event.TheVariants.{Open, Ask, Peek, Sta
 use Rattle.ctt_core.specs.declared.answer.Answer.{Answer}
 use Rattle.ctt_core.specs.declared.answer.Answer.TheVariants.{Opened, AlreadyOpen, NoDraft, Replied, Draft, Committed, Refreshed, Stale, Abandoned, NoMemory}
 use Rattle.ctt_core.specs.declared.journal.JournalEntry.{JournalEntry}
-use Rattle.ctt_core.specs.Runs.{Legal, Turn, OpenDraft, ask, begin, renew, turned, is_commit, commits, draft, entry, entered, accepted_of, now, base, open_answer, ask_answer, peek_answer, status_answer, acceptance, commit_answer, renewal, refresh_answer, abandon_answer, plain, IsRight, Right, EventFits, RunFits}
+use Rattle.ctt_core.specs.Answers.{open_answer, ask_answer, peek_answer, status_answer, acceptance, commit_answer, renewal, refresh_answer, abandon_answer}
+use Rattle.ctt_core.specs.Runs.{Legal, Turn, OpenDraft, ask, begin, renew, turned, is_commit, commits, draft, draft_entry, entered, accepted_of, now, reference_answer, IsRight, Right, EventFits, RunFits}
 use Rattle.ctt_core.specs.Entries.{EntryFits}
 use Rattle.ctt_core.specs.Audits.{IsVerdict}
 use Rattle.ctt_core.specs.Laws.{Serial, JournalAgrees}
 use Rattle.ctt_core.proofs.AuditLemmas.{agrees}
 use Rattle.ctt_core.proofs.DeskLemmas.{desk_is_serial}
-use Rattle.ctt_core.proofs.RunLemmas.{CallsFit, Each-join, Good, right_is_good}
+use Rattle.ctt_core.proofs.RunLemmas.{base, seen, CallsFit, Each-join, Good, right_is_good}
 
 -- a call and its reply fit, and the reply is short
 abbrev pub FitsShort : Problem → Asked → Type 0
@@ -54,7 +55,8 @@ module _ (i : Problem) (is : IsProblem i) where
   history_fits t [] lawful fit legal = tt
   history_fits t (e ∷ es) lawful fit legal = (asked_fit t e.asked lawful fit.0 legal.0, history_fits (whole i t (calls_of e.asked)) es (lawful_whole i t (calls_of e.asked) lawful fit.0) fit.1 legal.1)
 
--- after m turns of n planners: an entry is of one of them, and no entry or draft has more calls than there were turns
+-- after m turns of n planners: an entry is of one of them, and no entry or draft has more calls
+-- than there were turns
 abbrev pub IsSmallEntry : ℕ → ℕ → JournalEntry → Type 0
 IsSmallEntry n m e = (e.planner < n) × (length e.asked ≤ m)
 
@@ -88,7 +90,7 @@ small_more n m h each = Each-map (IsSmallEntry n m) (IsSmallEntry n (m + 1)) (λ
 small_kept : (n m : ℕ) (h : List JournalEntry) (old new : ℕ → Option OpenDraft) → AreSmall n m h old → ((p : ℕ) → IsSmallDraft (m + 1) (new p)) → AreSmall n (m + 1) (h ++ []) new
 small_kept n m h old new s each = record { entries = rw append-nil (small_more n m h s.entries); open_drafts = each }
 
-entry_small : (n m q : ℕ) (o : Option OpenDraft) → q < n → IsSmallDraft m o → Each (IsSmallEntry n (m + 1)) (entry q o)
+entry_small : (n m q : ℕ) (o : Option OpenDraft) → q < n → IsSmallDraft m o → Each (IsSmallEntry n (m + 1)) (draft_entry q o)
 entry_small n m q None lt h = tt
 entry_small n m q (Some d) lt h = ((lt, omega (arith, h)), tt)
 
@@ -106,11 +108,11 @@ module _ (i : Problem) (t0 : List Placed) (n m : ℕ) (past : List Turn) (s : Ar
   stays : (event : Event) (answer : Answer) → entered event answer past ≡ [] → ((p : ℕ) → IsSmallDraft (m + 1) (turned p (commits past) event answer (draft p past))) → Leaves event answer
   stays event answer none each = rw none (small_kept n m (accepted_of past) (λ p. draft p past) (λ p. turned p (commits past) event answer (draft p past)) s each)
 
-  open_leaves : (q : ℕ) (o : Option OpenDraft) → Leaves (Open q) (open_answer o)
+  open_leaves : (q : ℕ) (o : Option OpenDraft) → Leaves (Open q) (open_answer (seen i t0 past o))
   open_leaves q None = stays (Open q) Opened refl (λ p. one_of (m + 1) (p == q) (begin (commits past)) (draft p past) (omega arith) (same_drafts p))
   open_leaves q (Some d) = stays (Open q) AlreadyOpen refl same_drafts
 
-  ask_leaves : (q : ℕ) (call : Call) (o : Option OpenDraft) → Leaves (Ask q call) (ask_answer i t0 past call o)
+  ask_leaves : (q : ℕ) (call : Call) (o : Option OpenDraft) → Leaves (Ask q call) (ask_answer call (seen i t0 past o))
   ask_leaves q call None = stays (Ask q call) NoDraft refl same_drafts
   ask_leaves q call (Some d) =
       let told : Reply = reply i (whole i (base i t0 past d) (calls_of d.asked)) call in
@@ -119,19 +121,19 @@ module _ (i : Problem) (t0 : List Placed) (n m : ℕ) (past : List Turn) (s : Ar
   acceptance_leaves : (q : ℕ) (o : Option Row) → q < n → Leaves (Commit q) (acceptance (commits past + 1) o)
   acceptance_leaves q (Some row) lt = stays (Commit q) (Stale row) refl (ended q)
   acceptance_leaves q None lt = record {
-    entries = Each-join (IsSmallEntry n (m + 1)) (accepted_of past) (entry q (draft q past)) (small_more n m (accepted_of past) s.entries) (entry_small n m q (draft q past) lt (s.open_drafts q));
+    entries = Each-join (IsSmallEntry n (m + 1)) (accepted_of past) (draft_entry q (draft q past)) (small_more n m (accepted_of past) s.entries) (entry_small n m q (draft q past) lt (s.open_drafts q));
     open_drafts = ended q;
   }
 
-  peek_leaves : (q : ℕ) (look : Look) (o : Option OpenDraft) → Leaves (Peek q look) (peek_answer i t0 past look o)
+  peek_leaves : (q : ℕ) (look : Look) (o : Option OpenDraft) → Leaves (Peek q look) (peek_answer look (seen i t0 past o))
   peek_leaves q look None = stays (Peek q look) NoDraft refl same_drafts
   peek_leaves q look (Some d) = stays (Peek q look) (Replied (shown i (whole i (base i t0 past d) (calls_of d.asked)) look)) refl same_drafts
 
-  status_leaves : (q : ℕ) (o : Option OpenDraft) → Leaves (Status q) (status_answer i t0 past o)
+  status_leaves : (q : ℕ) (o : Option OpenDraft) → Leaves (Status q) (status_answer (now i t0 past) (commits past) (seen i t0 past o))
   status_leaves q None = stays (Status q) NoDraft refl same_drafts
-  status_leaves q (Some d) = stays (Status q) (status_answer i t0 past (Some d)) refl same_drafts
+  status_leaves q (Some d) = stays (Status q) (status_answer (now i t0 past) (commits past) (seen i t0 past (Some d))) refl same_drafts
 
-  commit_leaves : (q : ℕ) (o : Option OpenDraft) → q < n → Leaves (Commit q) (commit_answer i t0 past o)
+  commit_leaves : (q : ℕ) (o : Option OpenDraft) → q < n → Leaves (Commit q) (commit_answer (now i t0 past) (commits past) (seen i t0 past o))
   commit_leaves q None lt = stays (Commit q) NoDraft refl same_drafts
   commit_leaves q (Some d) lt = acceptance_leaves q (stale i (base i t0 past d) (now i t0 past) (calls_of d.asked)) lt
 
@@ -139,23 +141,23 @@ module _ (i : Problem) (t0 : List Placed) (n m : ℕ) (past : List Turn) (s : Ar
   renewal_leaves q (Some row) = stays (Refresh q) (Stale row) refl (ended q)
   renewal_leaves q None = stays (Refresh q) Refreshed refl (λ p. one_of (m + 1) (p == q) (renew (commits past) (draft p past)) (draft p past) (renewed_draft m (commits past) (draft p past) (s.open_drafts p)) (same_drafts p))
 
-  refresh_leaves : (q : ℕ) (o : Option OpenDraft) → Leaves (Refresh q) (refresh_answer i t0 past o)
+  refresh_leaves : (q : ℕ) (o : Option OpenDraft) → Leaves (Refresh q) (refresh_answer (now i t0 past) (seen i t0 past o))
   refresh_leaves q None = stays (Refresh q) NoDraft refl same_drafts
   refresh_leaves q (Some d) = renewal_leaves q (stale i (base i t0 past d) (now i t0 past) (calls_of d.asked))
 
-  abandon_leaves : (q : ℕ) (o : Option OpenDraft) → Leaves (Abandon q) (abandon_answer o)
+  abandon_leaves : (q : ℕ) (o : Option OpenDraft) → Leaves (Abandon q) (abandon_answer (seen i t0 past o))
   abandon_leaves q None = stays (Abandon q) NoDraft refl same_drafts
   abandon_leaves q (Some d) = stays (Abandon q) Abandoned refl (ended q)
 
-  plain_leaves : (event : Event) → EventFits i n event → Leaves event (plain i t0 past event)
-  plain_leaves (Open q) f = open_leaves q (draft q past)
-  plain_leaves (Ask q call) f = ask_leaves q call (draft q past)
-  plain_leaves (Peek q look) f = peek_leaves q look (draft q past)
-  plain_leaves (Status q) f = status_leaves q (draft q past)
-  plain_leaves (Commit q) f = commit_leaves q (draft q past) f
-  plain_leaves (Refresh q) f = refresh_leaves q (draft q past)
-  plain_leaves (Abandon q) f = abandon_leaves q (draft q past)
-  plain_leaves (Show look) f = stays (Show look) (Replied (shown i (now i t0 past) look)) refl same_drafts
+  reference_leaves : (event : Event) → EventFits i n event → Leaves event (reference_answer i t0 past event)
+  reference_leaves (Open q) f = open_leaves q (draft q past)
+  reference_leaves (Ask q call) f = ask_leaves q call (draft q past)
+  reference_leaves (Peek q look) f = peek_leaves q look (draft q past)
+  reference_leaves (Status q) f = status_leaves q (draft q past)
+  reference_leaves (Commit q) f = commit_leaves q (draft q past) f
+  reference_leaves (Refresh q) f = refresh_leaves q (draft q past)
+  reference_leaves (Abandon q) f = abandon_leaves q (draft q past)
+  reference_leaves (Show look) f = stays (Show look) (Replied (shown i (now i t0 past) look)) refl same_drafts
 
   no_memory_leaves : (event : Event) → Leaves event NoMemory
   no_memory_leaves (Open q) = stays (Open q) NoMemory refl same_drafts
@@ -168,7 +170,7 @@ module _ (i : Problem) (t0 : List Placed) (n m : ℕ) (past : List Turn) (s : Ar
   no_memory_leaves (Show look) = stays (Show look) NoMemory refl same_drafts
 
   right_leaves : (event : Event) (answer : Answer) → IsRight i t0 past event answer → EventFits i n event → Leaves event answer
-  right_leaves event answer (inl e) f = rw e (plain_leaves event f)
+  right_leaves event answer (inl e) f = rw e (reference_leaves event f)
   right_leaves event answer (inr w) f = rw w.0 (no_memory_leaves event)
 
 pub all_small : (i : Problem) (t0 : List Placed) (n : ℕ) (past : List Turn) → RunFits i n past → Right i t0 past → AreSmall n (length past) (accepted_of past) (λ p. draft p past)

@@ -8,7 +8,7 @@ use Rattle.ctt_core.specs.declared.event.Event.TheVariants.{Open, Ask, Commit, R
 use Rattle.ctt_core.specs.declared.answer.Answer.{Answer}
 use Rattle.ctt_core.specs.declared.answer.Answer.TheVariants.{Opened, Replied, Committed, Refreshed, Stale, Abandoned}
 use Rattle.ctt_core.specs.declared.journal.JournalEntry.{JournalEntry}
-use Rattle.ctt_core.specs.Runs.{Turn, answered, OpenDraft, begin, turned, is_commit, commits, draft, entry, entered, accepted_of, onto}
+use Rattle.ctt_core.specs.Runs.{Turn, answered, OpenDraft, begin, turned, is_commit, commits, draft, draft_entry, entered, accepted_of, onto}
 use Rattle.ctt_core.specs.OpenDrafts.{turns, is_opening, is_ending, is_renewal, takes_base, call_in, asked_in, NoneIn, LastOf, HasOpen, Enters, AreEntered, DraftsAreTold, AcceptedAreTold}
 
 -- a property of all elements of a list and of one more
@@ -21,9 +21,9 @@ Each-less P [] x h = (tt, h.0)
 Each-less P (y ∷ ys) x h = (let rest = Each-less P ys x h.1 in ((h.0, rest.0), rest.1))
 
 -- a draft after a turn that neither opens nor ends it
-abbrev pub goes_on : ℕ → ℕ → Event → Answer → Option OpenDraft → Option OpenDraft
-goes_on p n e a None = None
-goes_on p n e a (Some d) = Some (record { count = cond (is_renewal p e a) n d.count; asked = d.asked ++ call_in p e a })
+abbrev pub carried : ℕ → ℕ → Event → Answer → Option OpenDraft → Option OpenDraft
+carried p n e a None = None
+carried p n e a (Some d) = Some (record { count = cond (is_renewal p e a) n d.count; asked = d.asked ++ call_in p e a })
 
 same_draft : (d : OpenDraft) → Some d ≡ Some (record { count = d.count; asked = d.asked ++ [] })
 same_draft d = ap (λ xs. Some (record { count = d.count; asked = xs })) (sym (append-nil d.asked))
@@ -41,7 +41,7 @@ renewed_if true n d = ap (λ xs. Some (record { count = n; asked = xs })) (sym (
 renewed_if false n d = same_draft d
 
 -- a turn, by its kind
-turned_is : (p n : ℕ) (e : Event) (a : Answer) (o : Option OpenDraft) → turned p n e a o ≡ cond (is_opening p e a) (begin n) (cond (is_ending p e a) None (goes_on p n e a o))
+turned_is : (p n : ℕ) (e : Event) (a : Answer) (o : Option OpenDraft) → turned p n e a o ≡ cond (is_opening p e a) (begin n) (cond (is_ending p e a) None (carried p n e a o))
 turned_is p n (Open q) Opened None = refl
 turned_is p n (Open q) Opened (Some d) = ap (cond (p == q) (begin n)) (same_draft d)
 turned_is p n (Ask q call) (Replied told) None = same_none (p == q)
@@ -181,7 +181,7 @@ module _ (p : ℕ) (past : List Turn) (x : Turn) where
   }
 
   told_next : (o : Option OpenDraft) (d : OpenDraft) (opens ends : Bool) → ((e : OpenDraft) → o ≡ Some e → HasOpen p (in_order past) e) → is_opening p x.event x.answer ≡ opens → is_ending p x.event x.answer ≡ ends →
-      cond opens (begin (commits past)) (cond ends None (goes_on p (commits past) x.event x.answer o)) ≡ Some d → HasOpen p (in_order past ++ x ∷ []) d
+      cond opens (begin (commits past)) (cond ends None (carried p (commits past) x.event x.answer o)) ≡ Some d → HasOpen p (in_order past ++ x ∷ []) d
   told_next o d true ends told y n e =
       let is : record { count = commits past; asked = [] } ≡ d = cc in
       subst (HasOpen p (in_order past ++ x ∷ [])) is (record {
@@ -201,9 +201,9 @@ module _ (p : ℕ) (past : List Turn) (x : Turn) where
   kept_on : (d b : OpenDraft) → is_opening p x.event x.answer ≡ false → is_ending p x.event x.answer ≡ false → draft p past ≡ Some b → d.asked ≡ b.asked ++ call_in p x.event x.answer → d.count ≡ cond (is_renewal p x.event x.answer) (commits past) b.count → draft p (x ∷ past) ≡ Some d
   kept_on d b opens ends is asked count =
       turned_is p (commits past) x.event x.answer (draft p past)
-      ∙ ap (λ c. cond c (begin (commits past)) (cond (is_ending p x.event x.answer) None (goes_on p (commits past) x.event x.answer (draft p past)))) opens
-      ∙ ap (λ c. cond c None (goes_on p (commits past) x.event x.answer (draft p past))) ends
-      ∙ ap (goes_on p (commits past) x.event x.answer) is
+      ∙ ap (λ c. cond c (begin (commits past)) (cond (is_ending p x.event x.answer) None (carried p (commits past) x.event x.answer (draft p past)))) opens
+      ∙ ap (λ c. cond c None (carried p (commits past) x.event x.answer (draft p past))) ends
+      ∙ ap (carried p (commits past) x.event x.answer) is
       ∙ ap₂ (λ n xs. Some (record { count = n; asked = xs })) (sym count) (sym asked)
 
   kept_here : (d : OpenDraft) (h : HasOpen p (in_order past ++ x ∷ []) d) → IsHere (is_opening p) (in_order past) x h.opening → draft p (x ∷ past) ≡ Some d
@@ -213,7 +213,7 @@ module _ (p : ℕ) (past : List Turn) (x : Turn) where
         | inr old ↦ absurd (true≢false (sym (opening_takes p x is.of_kind) ∙ old.other))
       ] in
       turned_is p (commits past) x.event x.answer (draft p past)
-      ∙ ap (λ c. cond c (begin (commits past)) (cond (is_ending p x.event x.answer) None (goes_on p (commits past) x.event x.answer (draft p past)))) is.of_kind
+      ∙ ap (λ c. cond c (begin (commits past)) (cond (is_ending p x.event x.answer) None (carried p (commits past) x.event x.answer (draft p past)))) is.of_kind
       ∙ ap₂ (λ n xs. Some (record { count = n; asked = xs })) (sym (h.count ∙ ap commits before ∙ commits_in_order past)) (sym (h.asked ∙ ap (asked_in p) is.behind))
 
   kept_still : (d : OpenDraft) (h : HasOpen p (in_order past ++ x ∷ []) d) → IsStill (is_opening p) (in_order past) x h.opening → ((b : OpenDraft) → HasOpen p (in_order past) b → draft p past ≡ Some b) → draft p (x ∷ past) ≡ Some d
@@ -251,7 +251,7 @@ drafts_are_told p es answers d =
 none_some : (d : OpenDraft) → None ≡ Some d → ⊥
 none_some d e = cc
 
-commit_enters : (p n : ℕ) (past : List Turn) (more : List JournalEntry) (o : Option OpenDraft) → draft p past ≡ o → Enters (in_order past) (Commit p) (Committed n) (entry p o ++ more) more
+commit_enters : (p n : ℕ) (past : List Turn) (more : List JournalEntry) (o : Option OpenDraft) → draft p past ≡ o → Enters (in_order past) (Commit p) (Committed n) (draft_entry p o ++ more) more
 commit_enters p n past more (Some d) is = inl (d, is_told p past d is, refl)
 commit_enters p n past more None is = inr (λ d h. none_some d (sym is ∙ is_kept p past d h), refl)
 

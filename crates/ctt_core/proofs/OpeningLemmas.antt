@@ -2,7 +2,8 @@
 use Rattle.std.proofs.Common.{◌≡◌, ℕ, zero, suc, ◌+◌, List, drop, [], ◌∷◌, ◌++◌, Option, None, refl}
 use Rattle.ctt_problem.specs.Problem.{Problem}
 use Rattle.ctt_problem.specs.declared.placed.Placed.{Placed}
-use Rattle.ctt_core.specs.Desks.{OpenValue, draft_at}
+use Rattle.ctt_core.specs.Answers.{OpenValue}
+use Rattle.ctt_core.specs.Desks.{draft_at}
 use Rattle.ctt_edits.specs.Openings.{opening, placed_on}
 
 -- the loop invariant of placing lectures: the first `at` are placed, and t is their timetable

@@ -18,10 +18,11 @@ use Rattle.ctt_core.specs.declared.event.Event.TheVariants.{Open, Ask, Peek, Sta
 use Rattle.ctt_core.specs.declared.answer.Answer.{Answer}
 use Rattle.ctt_core.specs.declared.answer.Answer.TheVariants.{Draft, Stale, NoMemory}
 use Rattle.ctt_core.specs.declared.journal.JournalEntry.{JournalEntry}
-use Rattle.ctt_core.specs.declared.standing.Standing.{Standing}
+use Rattle.ctt_core.specs.declared.draft_status.DraftStatus.{DraftStatus}
 use Rattle.ctt_draft.proofs.CallRuns.{lawful_whole, replies-push}
 use Rattle.ctt_draft.proofs.FrameLemmas.{draft_frame}
-use Rattle.ctt_core.specs.Runs.{after, Legal, Turn, answered, OpenDraft, ask, renew, turned, is_commit, commits, draft, entry, entered, accepted_of, now, base, open_answer, ask_answer, peek_answer, status_answer, acceptance, commit_answer, renewal, refresh_answer, abandon_answer, plain, IsRight, Right, EventFits, RunFits}
+use Rattle.ctt_core.specs.Answers.{OpenValue, open_answer, ask_answer, peek_answer, status_answer, acceptance, commit_answer, renewal, refresh_answer, abandon_answer, stale_row}
+use Rattle.ctt_core.specs.Runs.{after, Legal, Turn, answered, OpenDraft, ask, renew, turned, is_commit, commits, draft, draft_entry, entered, accepted_of, now, reference_answer, stored, IsRight, Right, EventFits, RunFits}
 use Rattle.ctt_core.specs.Laws.{Headline, StatusForetells, OntoJoins, AfterJoins, LegalJoins}
 
 pub Each-join : {X : Type 0} (P : X → Type 0) (xs ys : List X) → Each P xs → Each P ys → Each P (xs ++ ys)
@@ -57,6 +58,14 @@ Legal-push i t h e l k = (legal_joins i t h (e ∷ [])).1 (l, (k, tt))
 
 pub after-push : (i : Problem) (t : List Placed) (h : List JournalEntry) (e : JournalEntry) → after i t (h ++ e ∷ []) ≡ whole i (after i t h) (calls_of e.asked)
 after-push i t h e = after_joins i t h (e ∷ [])
+
+-- the snapshot of a draft: the timetable when it was opened or last refreshed
+abbrev pub base : Problem → List Placed → List Turn → OpenDraft → List Placed
+base i t0 past d = after i t0 (take d.count (accepted_of past))
+
+-- the draft of a run as a desk shows it
+abbrev pub seen : Problem → List Placed → List Turn → Option OpenDraft → Option OpenValue
+seen i t0 past o = stored i t0 (accepted_of past) o
 
 -- the replies in an open draft are those that its calls get on its snapshot
 abbrev pub GoodDraft : Problem → List Placed → List JournalEntry → Option OpenDraft → Type 0
@@ -100,14 +109,14 @@ own : (drafts : ℕ → Option OpenDraft) (p q : ℕ) → (p == q) ≡ true → 
 own drafts p q e = ap drafts (eqb-true p q e)
 
 -- the turns, by whether the planner has an open draft
-open_turn : (i : Problem) (t0 : List Placed) (past : List Turn) (q : ℕ) (o : Option OpenDraft) → Good i t0 (accepted_of past) (commits past) (λ p. draft p past) → (p : ℕ) → GoodDraft i t0 (accepted_of past) (turned p (commits past) (Open q) (open_answer o) (draft p past))
+open_turn : (i : Problem) (t0 : List Placed) (past : List Turn) (q : ℕ) (o : Option OpenDraft) → Good i t0 (accepted_of past) (commits past) (λ p. draft p past) → (p : ℕ) → GoodDraft i t0 (accepted_of past) (turned p (commits past) (Open q) (open_answer (seen i t0 past o)) (draft p past))
 open_turn i t0 past q (Some d) g p = g.good p
 open_turn i t0 past q None g p = elim (cases_Bool (p == q)) [
   | inl y ↦ rw y (omega (arith, g.counted), refl, tt)
   | inr n ↦ rw n (g.good p)
 ]
 
-ask_turn : (i : Problem) (t0 : List Placed) (past : List Turn) (q : ℕ) (call : Call) (o : Option OpenDraft) → draft q past ≡ o → CallFits i call → Good i t0 (accepted_of past) (commits past) (λ p. draft p past) → (p : ℕ) → GoodDraft i t0 (accepted_of past) (turned p (commits past) (Ask q call) (ask_answer i t0 past call o) (draft p past))
+ask_turn : (i : Problem) (t0 : List Placed) (past : List Turn) (q : ℕ) (call : Call) (o : Option OpenDraft) → draft q past ≡ o → CallFits i call → Good i t0 (accepted_of past) (commits past) (λ p. draft p past) → (p : ℕ) → GoodDraft i t0 (accepted_of past) (turned p (commits past) (Ask q call) (ask_answer call (seen i t0 past o)) (draft p past))
 ask_turn i t0 past q call None e f g p = g.good p
 ask_turn i t0 past q call (Some d) e f g p = elim (cases_Bool (p == q)) [
   | inl y ↦ (let mine : draft p past ≡ Some d = own (λ p. draft p past) p q y ∙ e in
@@ -120,7 +129,7 @@ ended : (i : Problem) (t0 : List Placed) (h : List JournalEntry) (b : Bool) (o :
 ended i t0 h true o g = tt
 ended i t0 h false o g = g
 
-abandon_turn : (i : Problem) (t0 : List Placed) (past : List Turn) (q : ℕ) (o : Option OpenDraft) → Good i t0 (accepted_of past) (commits past) (λ p. draft p past) → (p : ℕ) → GoodDraft i t0 (accepted_of past) (turned p (commits past) (Abandon q) (abandon_answer o) (draft p past))
+abandon_turn : (i : Problem) (t0 : List Placed) (past : List Turn) (q : ℕ) (o : Option OpenDraft) → Good i t0 (accepted_of past) (commits past) (λ p. draft p past) → (p : ℕ) → GoodDraft i t0 (accepted_of past) (turned p (commits past) (Abandon q) (abandon_answer (seen i t0 past o)) (draft p past))
 abandon_turn i t0 past q None g p = g.good p
 abandon_turn i t0 past q (Some d) g p = ended i t0 (accepted_of past) (p == q) (draft p past) (g.good p)
 
@@ -133,16 +142,16 @@ commit_turn i t0 past q d None e s l g =
     let mine : GoodDraft i t0 h (Some d) = subst (GoodDraft i t0 h) e (g.good q) in
     let one : JournalEntry = record { planner = q; asked = d.asked } in
     let same = draft_frame i (base i t0 past d) (now i t0 past) (calls_of d.asked) (lawful_after i t0 (take d.count h) l (Each-take (CallsFit i) d.count h g.fit)) (lawful_after i t0 h l g.fit) mine.2 s in
-    let list : h ++ entry q (draft q past) ≡ h ++ one ∷ [] = ap (λ o. h ++ entry q o) e in
+    let list : h ++ draft_entry q (draft q past) ≡ h ++ one ∷ [] = ap (λ o. h ++ draft_entry q o) e in
     record {
       legal = subst (Legal i t0) (sym list) (Legal-push i t0 h one g.legal (mine.1 ∙ sym same.replies_same));
       fit = subst (Each (CallsFit i)) (sym list) (Each-join (CallsFit i) h (one ∷ []) g.fit (mine.2, tt));
       counted = sym (ap length list ∙ length-append h (one ∷ []) ∙ ap (λ n. n + 1) (sym g.counted));
-      good = λ p. ended i t0 (h ++ entry q (draft q past)) (p == q) (draft p past) (grown i t0 h (entry q (draft q past)) (draft p past) (g.good p));
+      good = λ p. ended i t0 (h ++ draft_entry q (draft q past)) (p == q) (draft p past) (grown i t0 h (draft_entry q (draft q past)) (draft p past) (g.good p));
     }
 
 commit_any : (i : Problem) (t0 : List Placed) (past : List Turn) (q : ℕ) (o : Option OpenDraft) → draft q past ≡ o → Lawful i t0 →
-    Good i t0 (accepted_of past) (commits past) (λ p. draft p past) → Good i t0 (accepted_of past ++ entered (Commit q) (commit_answer i t0 past o) past) (commits past + is_commit (commit_answer i t0 past o)) (λ p. turned p (commits past) (Commit q) (commit_answer i t0 past o) (draft p past))
+    Good i t0 (accepted_of past) (commits past) (λ p. draft p past) → Good i t0 (accepted_of past ++ entered (Commit q) (commit_answer (now i t0 past) (commits past) (seen i t0 past o)) past) (commits past + is_commit (commit_answer (now i t0 past) (commits past) (seen i t0 past o))) (λ p. turned p (commits past) (Commit q) (commit_answer (now i t0 past) (commits past) (seen i t0 past o)) (draft p past))
 commit_any i t0 past q None e l g = kept i t0 (accepted_of past) (commits past) (λ p. draft p past) (λ p. draft p past) g g.good
 commit_any i t0 past q (Some d) e l g = commit_turn i t0 past q d (stale i (base i t0 past d) (now i t0 past) (calls_of d.asked)) e refl l g
 
@@ -166,49 +175,49 @@ refresh_turn i t0 past q d None e s l g p = elim (cases_Bool (p == q)) [
 ]
 
 refresh_any : (i : Problem) (t0 : List Placed) (past : List Turn) (q : ℕ) (o : Option OpenDraft) → draft q past ≡ o → Lawful i t0 →
-    Good i t0 (accepted_of past) (commits past) (λ p. draft p past) → (p : ℕ) → GoodDraft i t0 (accepted_of past) (turned p (commits past) (Refresh q) (refresh_answer i t0 past o) (draft p past))
+    Good i t0 (accepted_of past) (commits past) (λ p. draft p past) → (p : ℕ) → GoodDraft i t0 (accepted_of past) (turned p (commits past) (Refresh q) (refresh_answer (now i t0 past) (seen i t0 past o)) (draft p past))
 refresh_any i t0 past q None e l g p = g.good p
 refresh_any i t0 past q (Some d) e l g p = refresh_turn i t0 past q d (stale i (base i t0 past d) (now i t0 past) (calls_of d.asked)) e refl l g p
 
 -- only the answer Committed counts as a commit or adds an entry
-open_counts : (o : Option OpenDraft) → is_commit (open_answer o) ≡ 0
+open_counts : (o : Option OpenValue) → is_commit (open_answer o) ≡ 0
 open_counts None = refl
 open_counts (Some d) = refl
 
-ask_counts : (i : Problem) (t0 : List Placed) (past : List Turn) (call : Call) (o : Option OpenDraft) → is_commit (ask_answer i t0 past call o) ≡ 0
-ask_counts i t0 past call None = refl
-ask_counts i t0 past call (Some d) = refl
+ask_counts : (call : Call) (o : Option OpenValue) → is_commit (ask_answer call o) ≡ 0
+ask_counts call None = refl
+ask_counts call (Some d) = refl
 
-peek_counts : (i : Problem) (t0 : List Placed) (past : List Turn) (look : Look) (o : Option OpenDraft) → is_commit (peek_answer i t0 past look o) ≡ 0
-peek_counts i t0 past look None = refl
-peek_counts i t0 past look (Some d) = refl
+peek_counts : (look : Look) (o : Option OpenValue) → is_commit (peek_answer look o) ≡ 0
+peek_counts look None = refl
+peek_counts look (Some d) = refl
 
-status_counts : (i : Problem) (t0 : List Placed) (past : List Turn) (o : Option OpenDraft) → is_commit (status_answer i t0 past o) ≡ 0
-status_counts i t0 past None = refl
-status_counts i t0 past (Some d) = refl
+status_counts : (list : List Placed) (n : ℕ) (o : Option OpenValue) → is_commit (status_answer list n o) ≡ 0
+status_counts list n None = refl
+status_counts list n (Some d) = refl
 
 renewal_counts : (o : Option Row) → is_commit (renewal o) ≡ 0
 renewal_counts None = refl
 renewal_counts (Some row) = refl
 
-refresh_counts : (i : Problem) (t0 : List Placed) (past : List Turn) (o : Option OpenDraft) → is_commit (refresh_answer i t0 past o) ≡ 0
-refresh_counts i t0 past None = refl
-refresh_counts i t0 past (Some d) = renewal_counts (stale i (base i t0 past d) (now i t0 past) (calls_of d.asked))
+refresh_counts : (list : List Placed) (o : Option OpenValue) → is_commit (refresh_answer list o) ≡ 0
+refresh_counts list None = refl
+refresh_counts list (Some d) = renewal_counts (stale_row list d.draft)
 
-abandon_counts : (o : Option OpenDraft) → is_commit (abandon_answer o) ≡ 0
+abandon_counts : (o : Option OpenValue) → is_commit (abandon_answer o) ≡ 0
 abandon_counts None = refl
 abandon_counts (Some d) = refl
 
-plain_turn : (i : Problem) (t0 : List Placed) (past : List Turn) (n : ℕ) (event : Event) → EventFits i n event → Lawful i t0 → Good i t0 (accepted_of past) (commits past) (λ p. draft p past) →
-    Good i t0 (accepted_of past ++ entered event (plain i t0 past event) past) (commits past + is_commit (plain i t0 past event)) (λ p. turned p (commits past) event (plain i t0 past event) (draft p past))
-plain_turn i t0 past n (Open q) f l g = rw (open_counts (draft q past)) (kept i t0 (accepted_of past) (commits past) (λ p. draft p past) (λ p. turned p (commits past) (Open q) (open_answer (draft q past)) (draft p past)) g (open_turn i t0 past q (draft q past) g))
-plain_turn i t0 past n (Ask q call) f l g = rw (ask_counts i t0 past call (draft q past)) (kept i t0 (accepted_of past) (commits past) (λ p. draft p past) (λ p. turned p (commits past) (Ask q call) (ask_answer i t0 past call (draft q past)) (draft p past)) g (ask_turn i t0 past q call (draft q past) refl f.1 g))
-plain_turn i t0 past n (Peek q look) f l g = rw (peek_counts i t0 past look (draft q past)) (kept i t0 (accepted_of past) (commits past) (λ p. draft p past) (λ p. draft p past) g g.good)
-plain_turn i t0 past n (Status q) f l g = rw (status_counts i t0 past (draft q past)) (kept i t0 (accepted_of past) (commits past) (λ p. draft p past) (λ p. draft p past) g g.good)
-plain_turn i t0 past n (Commit q) f l g = commit_any i t0 past q (draft q past) refl l g
-plain_turn i t0 past n (Refresh q) f l g = rw (refresh_counts i t0 past (draft q past)) (kept i t0 (accepted_of past) (commits past) (λ p. draft p past) (λ p. turned p (commits past) (Refresh q) (refresh_answer i t0 past (draft q past)) (draft p past)) g (refresh_any i t0 past q (draft q past) refl l g))
-plain_turn i t0 past n (Abandon q) f l g = rw (abandon_counts (draft q past)) (kept i t0 (accepted_of past) (commits past) (λ p. draft p past) (λ p. turned p (commits past) (Abandon q) (abandon_answer (draft q past)) (draft p past)) g (abandon_turn i t0 past q (draft q past) g))
-plain_turn i t0 past n (Show look) f l g = kept i t0 (accepted_of past) (commits past) (λ p. draft p past) (λ p. draft p past) g g.good
+reference_turn : (i : Problem) (t0 : List Placed) (past : List Turn) (n : ℕ) (event : Event) → EventFits i n event → Lawful i t0 → Good i t0 (accepted_of past) (commits past) (λ p. draft p past) →
+    Good i t0 (accepted_of past ++ entered event (reference_answer i t0 past event) past) (commits past + is_commit (reference_answer i t0 past event)) (λ p. turned p (commits past) event (reference_answer i t0 past event) (draft p past))
+reference_turn i t0 past n (Open q) f l g = rw (open_counts (seen i t0 past (draft q past))) (kept i t0 (accepted_of past) (commits past) (λ p. draft p past) (λ p. turned p (commits past) (Open q) (open_answer (seen i t0 past (draft q past))) (draft p past)) g (open_turn i t0 past q (draft q past) g))
+reference_turn i t0 past n (Ask q call) f l g = rw (ask_counts call (seen i t0 past (draft q past))) (kept i t0 (accepted_of past) (commits past) (λ p. draft p past) (λ p. turned p (commits past) (Ask q call) (ask_answer call (seen i t0 past (draft q past))) (draft p past)) g (ask_turn i t0 past q call (draft q past) refl f.1 g))
+reference_turn i t0 past n (Peek q look) f l g = rw (peek_counts look (seen i t0 past (draft q past))) (kept i t0 (accepted_of past) (commits past) (λ p. draft p past) (λ p. draft p past) g g.good)
+reference_turn i t0 past n (Status q) f l g = rw (status_counts (now i t0 past) (commits past) (seen i t0 past (draft q past))) (kept i t0 (accepted_of past) (commits past) (λ p. draft p past) (λ p. draft p past) g g.good)
+reference_turn i t0 past n (Commit q) f l g = commit_any i t0 past q (draft q past) refl l g
+reference_turn i t0 past n (Refresh q) f l g = rw (refresh_counts (now i t0 past) (seen i t0 past (draft q past))) (kept i t0 (accepted_of past) (commits past) (λ p. draft p past) (λ p. turned p (commits past) (Refresh q) (refresh_answer (now i t0 past) (seen i t0 past (draft q past))) (draft p past)) g (refresh_any i t0 past q (draft q past) refl l g))
+reference_turn i t0 past n (Abandon q) f l g = rw (abandon_counts (seen i t0 past (draft q past))) (kept i t0 (accepted_of past) (commits past) (λ p. draft p past) (λ p. turned p (commits past) (Abandon q) (abandon_answer (seen i t0 past (draft q past))) (draft p past)) g (abandon_turn i t0 past q (draft q past) g))
+reference_turn i t0 past n (Show look) f l g = kept i t0 (accepted_of past) (commits past) (λ p. draft p past) (λ p. draft p past) g g.good
 
 no_memory_turn : (i : Problem) (t0 : List Placed) (past : List Turn) (event : Event) → Good i t0 (accepted_of past) (commits past) (λ p. draft p past) →
     Good i t0 (accepted_of past ++ entered event NoMemory past) (commits past + 0) (λ p. turned p (commits past) event NoMemory (draft p past))
@@ -223,7 +232,7 @@ no_memory_turn i t0 past (Show look) g = kept i t0 (accepted_of past) (commits p
 
 right_turn : (i : Problem) (t0 : List Placed) (past : List Turn) (n : ℕ) (event : Event) (answer : Answer) → IsRight i t0 past event answer → EventFits i n event → Lawful i t0 → Good i t0 (accepted_of past) (commits past) (λ p. draft p past) →
     Good i t0 (accepted_of past ++ entered event answer past) (commits past + is_commit answer) (λ p. turned p (commits past) event answer (draft p past))
-right_turn i t0 past n event answer (inl e) f l g = rw e (plain_turn i t0 past n event f l g)
+right_turn i t0 past n event answer (inl e) f l g = rw e (reference_turn i t0 past n event f l g)
 right_turn i t0 past n event answer (inr w) f l g = rw w.0 (no_memory_turn i t0 past event g)
 
 pub right_is_good : (i : Problem) (t0 : List Placed) (n : ℕ) (past : List Turn) → Lawful i t0 → RunFits i n past → Right i t0 past → Good i t0 (accepted_of past) (commits past) (λ p. draft p past)
@@ -236,7 +245,7 @@ headline i t0 n past l f r =
     (g.legal, lawful_after i t0 (accepted_of past) l g.fit)
 
 -- a commit after a turn that neither counts as a commit nor adds an entry
-foretold : (i : Problem) (t0 : List Placed) (past : List Turn) (turn : Turn) (s : Standing) (o : Option OpenDraft) → accepted_of (turn ∷ past) ≡ accepted_of past → commits (turn ∷ past) ≡ commits past → status_answer i t0 past o ≡ Draft s → commit_answer i t0 (turn ∷ past) o ≡ acceptance (commits past + 1) s.stale
+foretold : (i : Problem) (t0 : List Placed) (past : List Turn) (turn : Turn) (s : DraftStatus) (o : Option OpenDraft) → accepted_of (turn ∷ past) ≡ accepted_of past → commits (turn ∷ past) ≡ commits past → status_answer (now i t0 past) (commits past) (seen i t0 past o) ≡ Draft s → commit_answer (now i t0 (turn ∷ past)) (commits (turn ∷ past)) (seen i t0 (turn ∷ past) o) ≡ acceptance (commits past + 1) s.stale
 foretold i t0 past turn s None same counted e = cc
 foretold i t0 past turn s (Some d) same counted e =
     let is : record {
@@ -245,7 +254,7 @@ foretold i t0 past turn s (Some d) same counted e =
       stale = stale i (base i t0 past d) (now i t0 past) (calls_of d.asked);
     } ≡ s = cc in
     ap₂ (λ h n. acceptance (n + 1) (stale i (after i t0 (take d.count h)) (after i t0 h) (calls_of d.asked))) same counted
-    ∙ ap (λ (x : Standing). acceptance (commits past + 1) x.stale) is
+    ∙ ap (λ (x : DraftStatus). acceptance (commits past + 1) x.stale) is
 
 pub status_foretells : StatusForetells
 status_foretells i t0 past p s e = foretold i t0 past (answered (Status p) (Draft s)) s (draft p past) (append-nil (accepted_of past)) (omega arith) e

@@ -5,7 +5,8 @@ use Rattle.std.proofs.lemmas.List.{get_or_default}
 use Rattle.ctt_problem.specs.Problem.{Problem}
 use Rattle.ctt_problem.specs.declared.placed.Placed.{Placed}
 use Rattle.ctt_draft.specs.DraftValues.{Settles}
-use Rattle.ctt_core.specs.Desks.{OpenValue, DeskValue, draft_at, IsCounted, IsFresh}
+use Rattle.ctt_core.specs.Answers.{OpenValue}
+use Rattle.ctt_core.specs.Desks.{DeskValue, draft_at, IsCounted, IsFresh}
 use Rattle.ctt_core.specs.declared.journal.JournalEntry.{JournalEntry}
 
 some_of : (P : OpenValue → Type 0) (o : Option OpenValue) (d : OpenValue) → IfSome o P → o ≡ Some d → P d

@@ -1,28 +1,20 @@
--- The value of a desk: its state, its answers and its next state, none of which depends on a run; a
--- law says that the answers are those of the reference desk.
-use Rattle.std.specs.Prelude.{ℕ, ◌+◌, ◌-◌, ◌^◌, ◌<◌, ◌≤◌, ◌≡◌, ◌⊎◌, true, List, [], ◌∷◌, ◌++◌, length, take, Option, Some, None, slice_index_or, slice_set, IfSome}
+-- The value of a desk, what it shows and its next state, none of which depends on a run; a law says
+-- that it shows what the reference desk shows.
+use Rattle.std.specs.Prelude.{ℕ, ◌^◌, ◌<◌, ◌≤◌, ◌≡◌, List, [], ◌∷◌, ◌++◌, length, Option, Some, None, slice_index_or, slice_set, IfSome}
 use Rattle.ctt_problem.specs.Problem.{Problem}
 use Rattle.ctt_problem.specs.declared.placed.Placed.{Placed}
 use Rattle.ctt_rules.specs.Hard.{Lawful}
-use Rattle.ctt_edits.specs.Calls.{reply}
-use Rattle.ctt_edits.specs.Looks.{shown}
 use Rattle.ctt_edits.specs.declared.call.Call.{Call}
-use Rattle.ctt_edits.specs.declared.looks.Look.{Look}
 use Rattle.ctt_edits.specs.declared.reply.Reply.{Reply}
-use Rattle.ctt_edits.specs.declared.row.Row.{Row}
-use Rattle.ctt_draft.specs.Drafts.{calls_of, whole, changes, stale}
-use Rattle.ctt_draft.specs.DraftValues.{DraftValue, present, asked_more, refreshed, Settles}
+use Rattle.ctt_draft.specs.Drafts.{calls_of, whole}
+use Rattle.ctt_draft.specs.DraftValues.{asked_more, refreshed, Settles}
+use Rattle.ctt_core.specs.Answers.{OpenValue, DeskView, answer_to, IsPermitted}
 use Rattle.ctt_core.specs.declared.event.Event.{Event}
-use Rattle.ctt_core.specs.declared.event.Event.TheVariants.{Open, Ask, Peek, Status, Commit, Refresh, Abandon, Show}
+use Rattle.ctt_core.specs.declared.event.Event.TheVariants.{Open, Ask, Commit, Refresh, Abandon}
 use Rattle.ctt_core.specs.declared.answer.Answer.{Answer}
-use Rattle.ctt_core.specs.declared.answer.Answer.TheVariants.{Opened, AlreadyOpen, NoDraft, Replied, Draft, Committed, Refreshed, Stale, Abandoned, NoMemory}
+use Rattle.ctt_core.specs.declared.answer.Answer.TheVariants.{Opened, Replied, Committed, Refreshed, Stale, Abandoned}
 use Rattle.ctt_core.specs.declared.journal.JournalEntry.{JournalEntry}
-use Rattle.ctt_core.specs.Runs.{after, Turn, OpenDraft, draft, accepted_of, now, acceptance, renewal, may_want}
-
--- an open draft, and how many drafts had been accepted when its snapshot was taken
-pub record OpenValue : Type 0 where
-  pub since : ℕ
-  pub draft : DraftValue
+use Rattle.ctt_core.specs.Runs.{Turn, draft, accepted_of, now, stored}
 
 -- a desk: the opening timetable, the present one, the accepted drafts, and the open draft of each
 -- planner
@@ -37,71 +29,15 @@ pub record DeskValue : Type 0 where
 abbrev pub draft_at : List (Option OpenValue) → ℕ → Option OpenValue
 draft_at drafts p = slice_index_or drafts p None
 
--- what a desk stores of a run's open draft: with its snapshot, which is the timetable after the
--- first d.count commits
-abbrev pub kept : Problem → List Placed → List JournalEntry → Option OpenDraft → Option OpenValue
-kept i t0 h None = None
-kept i t0 h (Some d) = Some (record { since = d.count; draft = record { problem = i; base = after i t0 (take d.count h); asked = d.asked } })
-
 -- the desk is in the state that the run leads to
 pub record StandsAt (v : DeskValue) (past : List Turn) : Type 0 where
   pub list : v.list ≡ now v.problem v.opening past
   pub journal : v.journal ≡ accepted_of past
-  pub drafts : (p : ℕ) → draft_at v.drafts p ≡ kept v.problem v.opening (accepted_of past) (draft p past)
+  pub drafts : (p : ℕ) → draft_at v.drafts p ≡ stored v.problem v.opening (accepted_of past) (draft p past)
 
--- the desk's answer to an open, given the planner's open draft, if any
-abbrev pub to_open : Option OpenValue → Answer
-to_open None = Opened
-to_open (Some d) = AlreadyOpen
-
--- the answer to a call
-abbrev pub to_ask : Call → Option OpenValue → Answer
-to_ask call None = NoDraft
-to_ask call (Some d) = Replied (reply d.draft.problem (present d.draft) call)
-
--- the answer to a look at the draft
-abbrev pub to_peek : Look → Option OpenValue → Answer
-to_peek look None = NoDraft
-to_peek look (Some d) = Replied (shown d.draft.problem (present d.draft) look)
-
--- the row that makes a draft stale on the desk's timetable, if any
-abbrev pub stale_row : DeskValue → DraftValue → Option Row
-stale_row v d = stale d.problem d.base v.list (calls_of d.asked)
-
--- the answer to a status
-abbrev pub to_status : DeskValue → Option OpenValue → Answer
-to_status v None = NoDraft
-to_status v (Some d) = Draft (record {
-  edits = length (changes d.draft.problem d.draft.base (calls_of d.draft.asked));
-  behind = length v.journal - d.since;
-  stale = stale_row v d.draft;
-})
-
--- the answer to a commit
-abbrev pub to_commit : DeskValue → Option OpenValue → Answer
-to_commit v None = NoDraft
-to_commit v (Some d) = acceptance (length v.journal + 1) (stale_row v d.draft)
-
--- the answer to a refresh
-abbrev pub to_refresh : DeskValue → Option OpenValue → Answer
-to_refresh v None = NoDraft
-to_refresh v (Some d) = renewal (stale_row v d.draft)
-
--- the answer to an abandon
-abbrev pub to_abandon : Option OpenValue → Answer
-to_abandon None = NoDraft
-to_abandon (Some d) = Abandoned
-
--- the desk's answer to an event, if memory does not run out
-abbrev pub answer_of : DeskValue → Event → Answer
-answer_of v (Open p) = to_open (draft_at v.drafts p)
-answer_of v (Ask p call) = to_ask call (draft_at v.drafts p)
-answer_of v (Peek p look) = to_peek look (draft_at v.drafts p)
-answer_of v (Status p) = to_status v (draft_at v.drafts p)
-answer_of v (Commit p) = to_commit v (draft_at v.drafts p)
-answer_of v (Refresh p) = to_refresh v (draft_at v.drafts p)
-answer_of v (Abandon p) = to_abandon (draft_at v.drafts p)
-answer_of v (Show look) = Replied (shown v.problem v.list look)
+-- what the desk shows
+abbrev pub view_of : DeskValue → DeskView
+view_of v = record { list = v.list; count = length v.journal; drafts = λ p. draft_at v.drafts p }
 
 -- the desk with d as the open draft of planner p
 abbrev pub with_draft : ℕ → Option OpenValue → DeskValue → DeskValue
@@ -120,28 +56,26 @@ with_base v (Some d) = Some (record { since = length v.journal; draft = refreshe
 -- the desk after an accepted commit
 abbrev pub settled : ℕ → DeskValue → Option OpenValue → DeskValue
 settled p v None = v
-settled p v (Some d) = record {
-  problem = v.problem;
-  opening = v.opening;
+settled p v (Some d) = record v {
   list = whole d.draft.problem v.list (calls_of d.draft.asked);
   journal = v.journal ++ record { planner = p; asked = d.draft.asked } ∷ [];
   drafts = slice_set v.drafts p None;
 }
 
 -- the next state of the desk, after an event with this answer
-abbrev pub goes_on : DeskValue → Event → Answer → DeskValue
-goes_on v (Open p) Opened = with_draft p (Some (record { since = length v.journal; draft = record { problem = v.problem; base = v.list; asked = [] } })) v
-goes_on v (Ask p call) (Replied told) = with_draft p (with_call call told (draft_at v.drafts p)) v
-goes_on v (Commit p) (Committed n) = settled p v (draft_at v.drafts p)
-goes_on v (Commit p) (Stale row) = with_draft p None v
-goes_on v (Refresh p) Refreshed = with_draft p (with_base v (draft_at v.drafts p)) v
-goes_on v (Refresh p) (Stale row) = with_draft p None v
-goes_on v (Abandon p) Abandoned = with_draft p None v
-goes_on v _ _ = v
+abbrev pub next_state : DeskValue → Event → Answer → DeskValue
+next_state v (Open p) Opened = with_draft p (Some (record { since = length v.journal; draft = record { problem = v.problem; base = v.list; asked = [] } })) v
+next_state v (Ask p call) (Replied told) = with_draft p (with_call call told (draft_at v.drafts p)) v
+next_state v (Commit p) (Committed n) = settled p v (draft_at v.drafts p)
+next_state v (Commit p) (Stale row) = with_draft p None v
+next_state v (Refresh p) Refreshed = with_draft p (with_base v (draft_at v.drafts p)) v
+next_state v (Refresh p) (Stale row) = with_draft p None v
+next_state v (Abandon p) Abandoned = with_draft p None v
+next_state v _ _ = v
 
 -- the answer is that of the desk, or out of memory if that may happen
 abbrev pub IsAnswerTo : DeskValue → Event → Answer → Type 0
-IsAnswerTo v event answer = (answer ≡ answer_of v event) ⊎ ((answer ≡ NoMemory) × (may_want event (answer_of v event) ≡ true))
+IsAnswerTo v event answer = IsPermitted event (answer_to v.problem (view_of v) event) answer
 
 -- if no draft was accepted since the draft's snapshot was taken, this is the desk's timetable, of n
 -- accepted drafts

@@ -5,15 +5,16 @@ use Rattle.ctt_problem.specs.Problem.{Problem, IsProblem}
 use Rattle.ctt_problem.specs.declared.placed.Placed.{Placed}
 use Rattle.ctt_rules.specs.Hard.{Lawful}
 use Rattle.ctt_edits.specs.Openings.{opening}
-use Rattle.ctt_core.specs.Runs.{after, Legal, Turn, answered, commits, accepted_of, now, plain, acceptance, Right, EventFits, RunFits, onto}
-use Rattle.ctt_core.specs.Desks.{DeskValue, StandsAt, goes_on, IsAnswerTo}
+use Rattle.ctt_core.specs.Runs.{after, Legal, Turn, answered, commits, accepted_of, now, view_after, reference_answer, Right, EventFits, RunFits, onto}
+use Rattle.ctt_core.specs.Answers.{SameView, acceptance}
+use Rattle.ctt_core.specs.Desks.{DeskValue, StandsAt, view_of, next_state, IsAnswerTo}
 use Rattle.ctt_core.specs.Entries.{EntryFits}
 use Rattle.ctt_core.specs.Audits.{IsVerdict}
 use Rattle.ctt_core.specs.declared.event.Event.{Event}
 use Rattle.ctt_core.specs.declared.event.Event.TheVariants.{Status, Commit}
 use Rattle.ctt_core.specs.declared.answer.Answer.{Answer}
 use Rattle.ctt_core.specs.declared.answer.Answer.TheVariants.{Draft}
-use Rattle.ctt_core.specs.declared.standing.Standing.{Standing}
+use Rattle.ctt_core.specs.declared.draft_status.DraftStatus.{DraftStatus}
 use Rattle.ctt_core.specs.declared.auditing.Verdict.{Verdict}
 use Rattle.ctt_core.specs.declared.auditing.Verdict.TheVariants.{Agrees}
 use Rattle.ctt_core.specs.declared.journal.JournalEntry.{JournalEntry}
@@ -29,10 +30,14 @@ pub record Stands (v : DeskValue) (past : List Turn) : Type 0 where
   pub right : Right v.problem v.opening past
   pub at : StandsAt v past
 
--- a desk in the state of a correct run gives the answers of the reference desk, and moves to the
--- state of the longer run
-abbrev pub DeskIsPlain : Type 0
-DeskIsPlain = (v : DeskValue) (past : List Turn) (event : Event) (answer : Answer) → Lawful v.problem v.opening → Stands v past → EventFits v.problem (length v.drafts) event → IsAnswerTo v event answer → Stands (goes_on v event answer) (answered event answer ∷ past)
+-- a desk in the state of a correct run shows what the reference desk shows, so that it gives the same
+-- answers
+abbrev pub DeskShowsReference : Type 0
+DeskShowsReference = (v : DeskValue) (past : List Turn) → Lawful v.problem v.opening → Stands v past → SameView (view_of v) (view_after v.problem v.opening past)
+
+-- by these answers it moves to the state of the longer run
+abbrev pub DeskFollowsReference : Type 0
+DeskFollowsReference = (v : DeskValue) (past : List Turn) (event : Event) (answer : Answer) → Lawful v.problem v.opening → Stands v past → EventFits v.problem (length v.drafts) event → IsAnswerTo v event answer → Stands (next_state v event answer) (answered event answer ∷ past)
 
 -- the journal is the run's accepted history, which is legal; the timetable is the opening with the
 -- journal applied, and lawful
@@ -59,7 +64,7 @@ JournalAgrees = (v : DeskValue) (past : List Turn) → IsProblem v.problem → L
 -- the right answer to a commit directly after a status: stale by the row that the status reported,
 -- or accepted if it reported none
 abbrev pub StatusForetells : Type 0
-StatusForetells = (i : Problem) (t0 : List Placed) (past : List Turn) (p : ℕ) (s : Standing) → plain i t0 past (Status p) ≡ Draft s → plain i t0 (answered (Status p) (Draft s) ∷ past) (Commit p) ≡ acceptance (commits past + 1) s.stale
+StatusForetells = (i : Problem) (t0 : List Placed) (past : List Turn) (p : ℕ) (s : DraftStatus) → reference_answer i t0 past (Status p) ≡ Draft s → reference_answer i t0 (answered (Status p) (Draft s) ∷ past) (Commit p) ≡ acceptance (commits past + 1) s.stale
 
 -- adding events to a run, and then more events, is adding all of them
 abbrev pub OntoJoins : Type 0

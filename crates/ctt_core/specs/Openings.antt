@@ -10,9 +10,9 @@ use Rattle.ctt_core.specs.declared.desk_fault.DeskFault.{DeskFault}
 use Rattle.ctt_core.specs.declared.desk_fault.DeskFault.TheVariants.{Unlawful, NoMemory}
 
 -- the first lecture that cannot be placed, with its fault; memory may run out at any time
-abbrev pub IsOpeningFault : Problem → List Placed → DeskFault → Type 0
-IsOpeningFault i ls (Unlawful at f) = opening i ls ≡ Err (at, f)
-IsOpeningFault i ls NoMemory = Unit {0}
+abbrev pub IsDeskFault : Problem → List Placed → DeskFault → Type 0
+IsDeskFault i ls (Unlawful at f) = opening i ls ≡ Err (at, f)
+IsDeskFault i ls NoMemory = Unit {0}
 
 -- the timetable u is t with the lecture placed, or t if there was a fault
 abbrev pub IsPlaced : List Placed → List Placed → Placed → Option EditFault → Type 0

@@ -1,21 +1,20 @@
 -- Runs of many planners: their drafts, the accepted history, and the answers of the reference desk
--- (`plain`), which define correctness.
-use Rattle.std.specs.Prelude.{ℕ, ◌+◌, ◌-◌, ◌<◌, ◌≡◌, ◌⊎◌, Bool, true, false, cond, List, [], ◌∷◌, ◌++◌, length, take, ◌==◌, Option, Some, None}
+-- (`reference_answer`), which define correctness.
+use Rattle.std.specs.Prelude.{ℕ, ◌+◌, ◌<◌, ◌≡◌, cond, List, [], ◌∷◌, ◌++◌, take, ◌==◌, Option, Some, None}
 use Rattle.std.specs.List.{AllByRecursion as Each}
 use Rattle.ctt_problem.specs.Problem.{Problem}
 use Rattle.ctt_problem.specs.declared.placed.Placed.{Placed}
-use Rattle.ctt_edits.specs.Calls.{CallFits, reply}
-use Rattle.ctt_edits.specs.Looks.{LookFits, shown}
+use Rattle.ctt_edits.specs.Calls.{CallFits}
+use Rattle.ctt_edits.specs.Looks.{LookFits}
 use Rattle.ctt_edits.specs.declared.call.Call.{Call}
-use Rattle.ctt_edits.specs.declared.looks.Look.{Look}
 use Rattle.ctt_edits.specs.declared.reply.Reply.{Reply}
-use Rattle.ctt_edits.specs.declared.row.Row.{Row}
-use Rattle.ctt_draft.specs.Drafts.{calls_of, replies_in, replies, whole, changes, stale}
+use Rattle.ctt_draft.specs.Drafts.{calls_of, replies_in, replies, whole}
 use Rattle.ctt_draft.specs.declared.asked.Asked.{Asked}
+use Rattle.ctt_core.specs.Answers.{OpenValue, DeskView, answer_to, IsPermitted}
 use Rattle.ctt_core.specs.declared.event.Event.{Event}
 use Rattle.ctt_core.specs.declared.event.Event.TheVariants.{Open, Ask, Peek, Status, Commit, Refresh, Abandon, Show}
 use Rattle.ctt_core.specs.declared.answer.Answer.{Answer}
-use Rattle.ctt_core.specs.declared.answer.Answer.TheVariants.{Opened, AlreadyOpen, NoDraft, Replied, Draft, Committed, Refreshed, Stale, Abandoned, NoMemory}
+use Rattle.ctt_core.specs.declared.answer.Answer.TheVariants.{Opened, Replied, Committed, Refreshed, Stale, Abandoned}
 use Rattle.ctt_core.specs.declared.journal.JournalEntry.{JournalEntry}
 
 -- the timetable after a history of drafts, each run without interruption, one after another
@@ -85,13 +84,13 @@ draft p [] = None
 draft p (turn ∷ past) = turned p (commits past) turn.event turn.answer (draft p past)
 
 -- the journal entry of an open draft, if there is one
-abbrev pub entry : ℕ → Option OpenDraft → List JournalEntry
-entry p None = []
-entry p (Some d) = record { planner = p; asked = d.asked } ∷ []
+abbrev pub draft_entry : ℕ → Option OpenDraft → List JournalEntry
+draft_entry p None = []
+draft_entry p (Some d) = record { planner = p; asked = d.asked } ∷ []
 
 -- the entry that a turn adds to the history, if it is an accepted commit
 abbrev pub entered : Event → Answer → List Turn → List JournalEntry
-entered (Commit p) (Committed n) past = entry p (draft p past)
+entered (Commit p) (Committed n) past = draft_entry p (draft p past)
 entered _ _ past = []
 
 -- the drafts that were accepted, in commit order
@@ -103,85 +102,23 @@ accepted_of (turn ∷ past) = accepted_of past ++ entered turn.event turn.answer
 abbrev pub now : Problem → List Placed → List Turn → List Placed
 now i t0 past = after i t0 (accepted_of past)
 
--- the snapshot of a draft: the timetable when it was opened or last refreshed
-abbrev pub base : Problem → List Placed → List Turn → OpenDraft → List Placed
-base i t0 past d = after i t0 (take d.count (accepted_of past))
+-- an open draft of a run with its snapshot, which is the timetable when it was opened or last
+-- refreshed
+abbrev pub stored : Problem → List Placed → List JournalEntry → Option OpenDraft → Option OpenValue
+stored i t0 h None = None
+stored i t0 h (Some d) = Some (record { since = d.count; draft = record { problem = i; base = after i t0 (take d.count h); asked = d.asked } })
 
--- the reference desk's answer to an open, given the planner's open draft, if any
-abbrev pub open_answer : Option OpenDraft → Answer
-open_answer None = Opened
-open_answer (Some d) = AlreadyOpen
+-- what the reference desk shows, which depends on the past turns alone
+abbrev pub view_after : Problem → List Placed → List Turn → DeskView
+view_after i t0 past = record { list = now i t0 past; count = commits past; drafts = λ p. stored i t0 (accepted_of past) (draft p past) }
 
--- the answer to a call: its reply on the timetable that the draft leaves on its snapshot
-abbrev pub ask_answer : Problem → List Placed → List Turn → Call → Option OpenDraft → Answer
-ask_answer i t0 past call None = NoDraft
-ask_answer i t0 past call (Some d) = Replied (reply i (whole i (base i t0 past d) (calls_of d.asked)) call)
-
--- the answer to a look at the draft: what it shows on the timetable that the draft leaves on its
--- snapshot
-abbrev pub peek_answer : Problem → List Placed → List Turn → Look → Option OpenDraft → Answer
-peek_answer i t0 past look None = NoDraft
-peek_answer i t0 past look (Some d) = Replied (shown i (whole i (base i t0 past d) (calls_of d.asked)) look)
-
--- the answer to a status: the number of edits accepted in the draft, the number of drafts accepted
--- since its snapshot, and the row for which a commit would now be refused, if any
-abbrev pub status_answer : Problem → List Placed → List Turn → Option OpenDraft → Answer
-status_answer i t0 past None = NoDraft
-status_answer i t0 past (Some d) = Draft (record {
-  edits = length (changes i (base i t0 past d) (calls_of d.asked));
-  behind = commits past - d.count;
-  stale = stale i (base i t0 past d) (now i t0 past) (calls_of d.asked);
-})
-
--- the result of a commit: the number of accepted drafts, or the stale row
-abbrev pub acceptance : ℕ → Option Row → Answer
-acceptance n None = Committed n
-acceptance n (Some row) = Stale row
-
--- the answer to a commit
-abbrev pub commit_answer : Problem → List Placed → List Turn → Option OpenDraft → Answer
-commit_answer i t0 past None = NoDraft
-commit_answer i t0 past (Some d) = acceptance (commits past + 1) (stale i (base i t0 past d) (now i t0 past) (calls_of d.asked))
-
--- the result of a refresh: that the draft is up to date, or the stale row
-abbrev pub renewal : Option Row → Answer
-renewal None = Refreshed
-renewal (Some row) = Stale row
-
--- the answer to a refresh
-abbrev pub refresh_answer : Problem → List Placed → List Turn → Option OpenDraft → Answer
-refresh_answer i t0 past None = NoDraft
-refresh_answer i t0 past (Some d) = renewal (stale i (base i t0 past d) (now i t0 past) (calls_of d.asked))
-
--- the answer to an abandon
-abbrev pub abandon_answer : Option OpenDraft → Answer
-abandon_answer None = NoDraft
-abandon_answer (Some d) = Abandoned
-
--- the answer of the reference desk, which depends on the past turns alone
-abbrev pub plain : Problem → List Placed → List Turn → Event → Answer
-plain i t0 past (Open p) = open_answer (draft p past)
-plain i t0 past (Ask p call) = ask_answer i t0 past call (draft p past)
-plain i t0 past (Peek p look) = peek_answer i t0 past look (draft p past)
-plain i t0 past (Status p) = status_answer i t0 past (draft p past)
-plain i t0 past (Commit p) = commit_answer i t0 past (draft p past)
-plain i t0 past (Refresh p) = refresh_answer i t0 past (draft p past)
-plain i t0 past (Abandon p) = abandon_answer (draft p past)
-plain i t0 past (Show look) = Replied (shown i (now i t0 past) look)
-
--- whether memory may run out for an event with this answer: never for a status or an abandon, nor
--- if the answer is that a draft is open already, that there is none, or that it is stale
-abbrev pub may_want : Event → Answer → Bool
-may_want (Status p) a = false
-may_want (Abandon p) a = false
-may_want _ AlreadyOpen = false
-may_want _ NoDraft = false
-may_want _ (Stale row) = false
-may_want _ _ = true
+-- the answer of the reference desk
+abbrev pub reference_answer : Problem → List Placed → List Turn → Event → Answer
+reference_answer i t0 past event = answer_to i (view_after i t0 past) event
 
 -- the answer is that of the reference desk, or out of memory if that may happen
 abbrev pub IsRight : Problem → List Placed → List Turn → Event → Answer → Type 0
-IsRight i t0 past event answer = (answer ≡ plain i t0 past event) ⊎ ((answer ≡ NoMemory) × (may_want event (plain i t0 past event) ≡ true))
+IsRight i t0 past event answer = IsPermitted event (reference_answer i t0 past event) answer
 
 -- a correct run: all its answers are right
 abbrev pub Right : Problem → List Placed → List Turn → Type 0

@@ -1,6 +1,6 @@
 //! The answers of a desk.
 
-use crate::standing::Standing;
+use crate::draft_status::DraftStatus;
 use ctt_edits::{Reply, Row};
 
 /// The answer to an event.
@@ -15,7 +15,7 @@ pub enum Answer {
     /// The reply to the call or the look.
     Replied(Reply),
     /// The status of the draft.
-    Draft(Standing),
+    Draft(DraftStatus),
     /// The draft was accepted. The number is that of all drafts accepted so far, this one included.
     Committed(u64),
     /// The draft is up to date.

@@ -1,22 +1,22 @@
 //! The desk: a timetable, the planners' open drafts on it, and the journal.
 
-ghost use Rattle.std.specs.Prelude.{◌≡◌, ℕ, ◌<◌, List, [], ◌∷◌, length, None, Ok, IfOk, IfErr, OnErr};
+ghost use Rattle.std.specs.Prelude.{◌≡◌, ℕ, List, [], ◌∷◌, length, None, Ok, IfOk, IfErr, OnErr};
 ghost use Rattle.std.specs.List.{AllByRecursion as Each};
 ghost use Rattle.ctt_problem.specs.Timetable.{Fits};
 ghost use Rattle.ctt_rules.specs.Hard.{Lawful};
 ghost use Rattle.ctt_rules.specs.Penalty.{penalty};
 ghost use Rattle.ctt_core.specs.Runs.{after, Legal, Turn, answered, accepted_of, EventFits, onto};
 ghost use Rattle.ctt_core.specs.Laws.{Stands};
-ghost use Rattle.ctt_core.specs.Desks.{IsAnswerTo, goes_on, draft_at, SameDesk};
+ghost use Rattle.ctt_core.specs.Desks.{IsAnswerTo, next_state, draft_at, SameDesk};
 ghost use Rattle.ctt_core.specs.declared.answer.Answer.TheVariants.{NoMemory as OutOfMemory};
 ghost use Rattle.ctt_edits.specs.Openings.{opening};
-ghost use Rattle.ctt_core.specs.Openings.{IsOpeningFault};
+ghost use Rattle.ctt_core.specs.Openings.{IsDeskFault};
 
 use crate::answer::Answer;
 use crate::desk_fault::DeskFault;
+use crate::desk_laws;
 use crate::event::Event;
 use crate::journal::JournalEntry;
-use crate::laws;
 use crate::open_draft::OpenDraft;
 use crate::opening::place_all;
 use ctt_board::{Rooms, Sheet, Timetable};
@@ -97,7 +97,7 @@ impl<'i, S: Sheet<'i>> Desk<'i, S> {
             opening instance.now lectures.now ≡ Ok desk.opening) }
         ensures planners { IfOk result (λ desk. length desk.drafts ≡ planners) }
         ensures stands { IfOk result (λ desk. Stands desk []) }
-        ensures fault { IfErr result (IsOpeningFault instance.now lectures.now) }
+        ensures fault { IfErr result (IsDeskFault instance.now lectures.now) }
     {
         let sheet: S = place_all(alloc, instance, lectures)?;
         sheet.lawful();
@@ -164,7 +164,7 @@ impl<'i, S: Sheet<'i>> Desk<'i, S> {
     pub fn step(&mut self, event: Event) -> Answer
         requires { EventFits self.old.problem (length self.old.drafts) event }
         ensures answer { IsAnswerTo self.old event result }
-        ensures goes_on { self.new ≡ goes_on self.old event result }
+        ensures state { self.new ≡ next_state self.old event result }
         ensures no_memory { result ≡ OutOfMemory → self.new ≡ self.old }
         ensures same { SameDesk self.old self.new }
         ensures stands { (past : List Turn) → Stands self.old past
@@ -177,8 +177,8 @@ impl<'i, S: Sheet<'i>> Desk<'i, S> {
             → self.new.list ≡ after self.new.problem self.new.opening self.new.journal }
         ensures lawful { Lawful self.new.problem self.new.list }
     {
-        laws::desk_is_plain();
-        laws::desk_is_serial();
+        desk_laws::desk_follows_reference();
+        desk_laws::desk_is_serial();
         self.lawful();
         let answer = self.answer(event);
         self.lawful();
@@ -208,7 +208,7 @@ impl<'i, S: Sheet<'i>> Desk<'i, S> {
         ensures lawful { Lawful self.new.problem self.new.list }
         ensures err { OnErr result (self.new ≡ self.old) }
     {
-        laws::desk_is_serial();
+        desk_laws::desk_is_serial();
         self.lawful();
         let mut answers = Vec::with_capacity(*self.opening.allocator(), events.len())?;
         for event in events {

@@ -6,7 +6,7 @@ ghost use Rattle.ctt_draft.specs.DraftValues.{Settles};
 ghost use Rattle.ctt_core.specs.Desks.{IsCounted};
 
 use ctt_board::{Sheet, Timetable};
-use ctt_draft::Draft;
+use ctt_draft::{Draft, draft_laws};
 use ctt_edits::Row;
 use std::marker::Model;
 
@@ -15,15 +15,15 @@ use std::marker::Model;
 pub(crate) struct OpenDraft<'i, S: Timetable> {
     /// The number of drafts that had been accepted when its snapshot was taken.
     pub(crate) since: u64,
-    pub(crate) draft: Draft<'i, S>,
+    pub(crate) draft: Box<Draft<'i, S>>,
 }
 
 impl<'i, S: Timetable> Model for OpenDraft<'i, S> {
-    ghost use Rattle.ctt_core.specs.Desks.{OpenValue};
+    ghost use Rattle.ctt_core.specs.Answers.{OpenValue};
 
     ghost Value = { OpenValue };
 
-    ghost view = { λ d. record { since = d.since; draft = d.draft } };
+    ghost view = { λ d. record { since = d.since; draft = d.draft.value } };
 }
 
 impl<'i, S: Sheet<'i>> OpenDraft<'i, S> {
@@ -38,7 +38,8 @@ impl<'i, S: Sheet<'i>> OpenDraft<'i, S> {
         ensures fresh { result ≡ None → Settles self.now.draft (S.list sheet.now) }
     {
         if self.since == accepted {
-            self.draft.fresh();
+            draft_laws::settles_at_once();
+            self.draft.lawful();
             return None;
         }
         self.draft.stale(sheet).unwrap()

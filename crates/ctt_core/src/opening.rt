@@ -6,7 +6,7 @@ ghost use Rattle.ctt_problem.specs.Timetable.{Fits};
 ghost use Rattle.ctt_edits.specs.Edits.{edit_fault};
 ghost use Rattle.ctt_edits.specs.declared.edit.Edit.TheVariants.{Place};
 ghost use Rattle.ctt_edits.specs.Openings.{opening};
-ghost use Rattle.ctt_core.specs.Openings.{IsOpeningFault, IsPlaced};
+ghost use Rattle.ctt_core.specs.Openings.{IsDeskFault, IsPlaced};
 
 use crate::desk_fault::DeskFault;
 use ctt_board::{Rooms, Sheet, Timetable};
@@ -43,7 +43,7 @@ pub fn place_all<'i, S: Sheet<'i>>(
     requires { Each (Fits instance.now) lectures.now }
     ensures problem { IfOk result (λ sheet. S.problem sheet ≡ instance.now) }
     ensures list { IfOk result (λ sheet. opening instance.now lectures.now ≡ Ok (S.list sheet)) }
-    ensures fault { IfErr result (IsOpeningFault instance.now lectures.now) }
+    ensures fault { IfErr result (IsDeskFault instance.now lectures.now) }
 {
     let mut sheet: S = S::empty(alloc, instance)?;
     for (at, lecture) in lectures.iter().enumerate() {

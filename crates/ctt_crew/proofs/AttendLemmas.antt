@@ -1,46 +1,28 @@
 -- A planner of a crew, item by item.
-use Rattle.std.proofs.Common.{◌≡◌, ◌++◌, append-nil, append_assoc, true, false, cond, ℕ, List, [], ◌∷◌, filter, map, Option, Some, None, sym, subst}
+use Rattle.std.proofs.Common.{◌≡◌, ◌++◌, append-nil, append_assoc, true, false, cond, ℕ, List, [], ◌∷◌, filter, map, sym, subst}
 use Rattle.ctt_problem.specs.Problem.{Problem}
 use Rattle.ctt_problem.specs.declared.placed.Placed.{Placed}
-use Rattle.ctt_edits.specs.declared.call.Call.{Call}
-use Rattle.ctt_core.specs.declared.event.Event.{Event}
-use Rattle.ctt_core.specs.declared.event.Event.TheVariants.{Open, Ask, Peek, Status, Commit, Refresh, Abandon, Show}
 use Rattle.ctt_desk.specs.Planners.{PlannerValue}
 use Rattle.ctt_script.specs.ScriptText.{has_words, own_item}
-use Rattle.ctt_crew.specs.Attending.{call_in, AreAttending, IsAttending}
+use Rattle.ctt_crew.specs.Attending.{AreAttending, IsAttending}
 use Rattle.ctt_seat.specs.Attended.{AnswersItems, AreAttended, IsAttended, own_items}
-use Rattle.ctt_seat.specs.Seats.{AnswersCall, AnswersLine}
-use Rattle.ctt_seat.specs.declared.seat.Seat.{Seat}
+use Rattle.ctt_seat.specs.Seats.{AnswersLine, SeatValue}
 
-module _ {X Y : Type 0} (i : Problem) (t0 : List Placed) (p : ℕ) (all : List (List ℕ)) (before : Seat X Y) where
+module _ (i : Problem) (t0 : List Placed) (p : ℕ) (all : List (List ℕ)) (before : SeatValue) where
   -- at first no line has been answered
   pub begins : (text : List ℕ) → text ≡ [] → IsAttending i t0 p all all before before text
   begins text none = λ after new is. subst (λ old. AnswersItems i t0 (own_items i p all) before after old new) none is
 
   -- a line without words is passed over
-  pub passed_over : (words : List ℕ) (left : List (List ℕ)) (seat : Seat X Y) (text : List ℕ) → IsAttending i t0 p all (words ∷ left) before seat text → has_words words ≡ false → IsAttending i t0 p all left before seat text
+  pub passed_over : (words : List ℕ) (left : List (List ℕ)) (seat : SeatValue) (text : List ℕ) → IsAttending i t0 p all (words ∷ left) before seat text → has_words words ≡ false → IsAttending i t0 p all left before seat text
   passed_over words left seat text h none = λ after new rest.
       h after new (subst (λ b. AnswersItems i t0 (map (own_item i p) (cond b (words ∷ filter has_words left) (filter has_words left))) seat after text new) (sym none) rest)
 
   -- a line is answered
-  pub one_more : (words : List ℕ) (left : List (List ℕ)) (seat next : Seat X Y) (text more : List ℕ) → IsAttending i t0 p all (words ∷ left) before seat text → has_words words ≡ true → AnswersLine i t0 (own_item i p words) seat next text more
+  pub one_more : (words : List ℕ) (left : List (List ℕ)) (seat next : SeatValue) (text more : List ℕ) → IsAttending i t0 p all (words ∷ left) before seat text → has_words words ≡ true → AnswersLine i t0 (own_item i p words) seat next text more
       → IsAttending i t0 p all left before next more
   one_more words left seat next text more h some is = λ after new rest.
       h after new (subst (λ b. AnswersItems i t0 (map (own_item i p) (cond b (words ∷ filter has_words left) (filter has_words left))) seat after text new) (sym some) (next, more, is, rest))
-
--- the line of a call is answered as the call is
-pub call_answered : {X Y : Type 0} (i : Problem) (t0 : List Placed) (read : Option Event) (call : Call) (seat next : Seat X Y) (old new : List ℕ) → call_in read ≡ Some call → AnswersCall i call seat next old new → AnswersLine i t0 read seat next old new
-call_answered i t0 None call seat next old new e h = cc
-call_answered i t0 (Some (Open q)) call seat next old new e h = cc
-call_answered i t0 (Some (Ask q asked)) call seat next old new e h =
-    let same : asked ≡ call = cc in
-    subst (λ c. AnswersCall i c seat next old new) (sym same) h
-call_answered i t0 (Some (Peek q look)) call seat next old new e h = cc
-call_answered i t0 (Some (Status q)) call seat next old new e h = cc
-call_answered i t0 (Some (Commit q)) call seat next old new e h = cc
-call_answered i t0 (Some (Refresh q)) call seat next old new e h = cc
-call_answered i t0 (Some (Abandon q)) call seat next old new e h = cc
-call_answered i t0 (Some (Show look)) call seat next old new e h = cc
 
 module _ (i : Problem) (t0 : List Placed) (all : List (PlannerValue × List ℕ)) where
   -- one more planner has left, with his answers

@@ -1,11 +1,11 @@
 -- The planners of a crew.
-use Rattle.std.proofs.Common.{◌≡◌, ◌∙◌, ◌+◌, ◌<◌, ◌++◌, ◌∷◌, List, [], ℕ, length, map, zip, refl, ap, sym, subst, Result, Ok, Err}
+use Rattle.std.proofs.Common.{◌≡◌, ◌∙◌, ◌<◌, ◌++◌, ◌∷◌, List, [], ℕ, length, map, zip, refl, ap, sym, subst, Result, Ok, Err}
 use Rattle.std.specs.Prelude.{IfErr, IfOk, IsOkAnd}
 use Rattle.std.proofs.lemmas.List.{map-append}
 use Rattle.ctt_problem.specs.Problem.{Problem}
 use Rattle.ctt_problem.specs.declared.placed.Placed.{Placed}
 use Rattle.ctt_desk.specs.Planners.{PlannerValue, new_planners}
-use Rattle.ctt_seat.specs.Attended.{AreAttended, IsClosing, IsCrewText}
+use Rattle.ctt_seat.specs.Attended.{AreAttended, IsClosingReport, IsCrewText}
 use Rattle.ctt_crew.specs.CrewFaults.{IsCrewFault, IsReportFault, added_fault}
 use Rattle.ctt_crew.specs.declared.crew_fault.CrewFault.{CrewFault}
 
@@ -32,6 +32,6 @@ report_fits (Err why) n fault fits is = subst (IsCrewFault n) (sym is) fits
 -- the report of the answers to some scripts
 pub is_crew_text : {A E : Type 0} (done : Result A E) (planners : A → List PlannerValue) (texts : A → List (List ℕ)) (problem : Problem) (opening : List Placed) (scripts : List (List ℕ)) (text : List ℕ)
     → IfOk done (λ a. AreAttended problem opening (zip (new_planners (length scripts)) scripts) (planners a) (texts a))
-    → IsOkAnd done (λ a. IsClosing problem opening (planners a) (texts a) text) → IsCrewText problem opening scripts text
+    → IsOkAnd done (λ a. IsClosingReport problem opening (planners a) (texts a) text) → IsCrewText problem opening scripts text
 is_crew_text (Ok a) planners texts problem opening scripts text attended closes = record { planners = planners a; answers = texts a; attended = attended; closes = closes }
 is_crew_text (Err e) planners texts problem opening scripts text attended closes = absurd closes

@@ -1,4 +1,3 @@
 pub mod AttendLemmas
 pub mod CrewLemmas
-pub mod PlainLemmas
 pub mod SeenLemmas

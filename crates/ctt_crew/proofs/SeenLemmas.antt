@@ -10,26 +10,21 @@ use Rattle.ctt_core.specs.declared.event.Event.TheVariants.{Open, Ask, Peek, Sta
 use Rattle.ctt_core.specs.declared.journal.JournalEntry.{JournalEntry}
 use Rattle.ctt_desk.specs.Histories.{entry_of}
 use Rattle.ctt_desk.specs.Planners.{PlannerValue, DraftingValue, IsAccepted}
-use Rattle.ctt_desk.specs.Refusals.{IsNotRefreshed, IsRefused, IsUnread}
-use Rattle.ctt_desk.specs.declared.refusal.Refusal.{Refusal}
-use Rattle.ctt_desk.specs.declared.refusal.Refusal.TheVariants as refusal
-use Rattle.ctt_desk.specs.declared.refusal.RefreshRefusal.{RefreshRefusal}
-use Rattle.ctt_desk.specs.declared.refusal.RefreshRefusal.TheVariants as unrefreshed
+use Rattle.ctt_desk.specs.Refusals.{HasNotRead}
 use Rattle.ctt_desk.specs.declared.shared_fault.SharedFault.{SharedFault}
 use Rattle.ctt_desk.specs.declared.shared_fault.SharedFault.TheVariants.{Unlawful, NoPlace as Unplaced, NoMemory}
 use Rattle.ctt_desk.proofs.PrefixLemmas.{prefix_self, prefix_trans}
 use Rattle.ctt_seat.specs.Attended.{AnswersItems, leaver}
-use Rattle.ctt_crew.specs.Laws.{CommitsStay, SeenStays}
-use Rattle.ctt_seat.specs.Seats.{Abandons, AnswersLine, Asks, Commits, Opens, Refreshes, Shows, States, Takes, seat_refused, seat_unrefreshed}
-use Rattle.ctt_seat.specs.declared.seat.Seat.{Seat}
+use Rattle.ctt_crew.specs.SeenLaws.{CommitsStay, SeenStays}
+use Rattle.ctt_seat.specs.Seats.{Abandons, AnswersLine, Asks, Commits, IsCommitRefused, OpensDraft, Refreshes, SeatValue, ShowsPublished, States, Takes}
 use Rattle.ctt_seat.specs.declared.seat.Seat.TheVariants.{Free, Drafting}
-use Rattle.ctt_seat.specs.declared.seat.Told.{Told}
+use Rattle.ctt_seat.specs.declared.seat.SeatAnswer.{SeatAnswer}
 
 -- an unchanged planner has seen the same
 same_seen : (p q : PlannerValue) → q ≡ p → IsPrefix p.front q.front
 same_seen p q same = subst (λ (r : PlannerValue). IsPrefix p.front r.front) (sym same) (prefix_self p.front)
 
-unread : (i : Problem) (t0 : List Placed) (p q : PlannerValue) (fault : SharedFault) → IsUnread i t0 p q fault → IsPrefix p.front q.front
+unread : (i : Problem) (t0 : List Placed) (p q : PlannerValue) (fault : SharedFault) → HasNotRead i t0 p q fault → IsPrefix p.front q.front
 unread i t0 p q (Unlawful at f) h = absurd h
 unread i t0 p q Unplaced h = same_seen p q h
 unread i t0 p q NoMemory h = h.begins
@@ -40,86 +35,82 @@ accepted i t0 d q receipt h =
     let entry : JournalEntry = entry_of d.planner.number d.asked in
     ((h.between ++ entry ∷ [], sym (append_assoc d.planner.front h.between (entry ∷ [])) ∙ sym h.ends), sym (ap (λ (r : PlannerValue). r.front) h.planner))
 
-module _ {X Y : Type 0} where
-  -- what was seen at one seat is a prefix of what is seen at the next
-  abbrev Stays : Seat X Y → Seat X Y → Type 0
-  Stays before after = IsPrefix (leaver before).front (leaver after).front
+-- what was seen at one seat is a prefix of what is seen at the next
+abbrev Stays : SeatValue → SeatValue → Type 0
+Stays before after = IsPrefix (leaver before).front (leaver after).front
 
-  same : (before after : Seat X Y) → after ≡ before → Stays before after
-  same before after e = same_seen (leaver before) (leaver after) (ap leaver e)
+same : (before after : SeatValue) → after ≡ before → Stays before after
+same before after e = same_seen (leaver before) (leaver after) (ap leaver e)
 
-  opens : (i : Problem) (t0 : List Placed) (before after : Seat X Y) (is : Told) → Opens i t0 before after is → Stays before after
-  opens i t0 (Free p) (Drafting d) is h = h.0.planner.begins
-  opens i t0 (Free p) (Free q) is h = unread i t0 p q h.0 h.1
-  opens i t0 (Drafting d) after is h = same (Drafting d) after h.0
+opens : (i : Problem) (t0 : List Placed) (before after : SeatValue) (is : SeatAnswer) → OpensDraft i t0 before after is → Stays before after
+opens i t0 (Free p) (Drafting d) is h = h.0.planner.begins
+opens i t0 (Free p) (Free q) is h = unread i t0 p q h.0 h.1
+opens i t0 (Drafting d) after is h = same (Drafting d) after h.0
 
-  asks : (i : Problem) (call : Call) (before after : Seat X Y) (is : Told) → Asks i call before after is → Stays before after
-  asks i call (Free p) after is h = same (Free p) after h.0
-  asks i call (Drafting d) after is (inl h) = same_seen d.planner (leaver after) (ap leaver h.2)
-  asks i call (Drafting d) after is (inr h) = same (Drafting d) after h.0
+asks : (i : Problem) (call : Call) (before after : SeatValue) (is : SeatAnswer) → Asks i call before after is → Stays before after
+asks i call (Free p) after is h = same (Free p) after h.0
+asks i call (Drafting d) after is (inl h) = same_seen d.planner (leaver after) (ap leaver h.2)
+asks i call (Drafting d) after is (inr h) = same (Drafting d) after h.0
 
-  refused : (i : Problem) (t0 : List Placed) (d : DraftingValue) (why : Refusal X Y) → IsRefused i t0 d why → Stays (Drafting d) (seat_refused why)
-  refused i t0 d (refusal.NotYours q count) h = h.planner.begins
-  refused i t0 d (refusal.Stale q row asked) h = h.0.planner.begins
-  refused i t0 d (refusal.NoMemory back) h = same (Drafting d) (Drafting back) (ap Drafting h.0)
+refused : (i : Problem) (t0 : List Placed) (d : DraftingValue) (after : SeatValue) (is : SeatAnswer) → IsCommitRefused i t0 d after is → Stays (Drafting d) after
+refused i t0 d after is (inl h) = subst (Stays (Drafting d)) (sym h.3) h.2.planner.begins
+refused i t0 d after is (inr (inl h)) = subst (Stays (Drafting d)) (sym h.5) h.3.planner.begins
+refused i t0 d after is (inr (inr h)) = same (Drafting d) after h.1.0
 
-  commits : (i : Problem) (t0 : List Placed) (before after : Seat X Y) (outcome : Result (List JournalEntry) Told) → Commits i t0 before after outcome → Stays before after
-  commits i t0 (Free p) after (Ok receipt) h = absurd h
-  commits i t0 (Free p) after (Err is) h = same (Free p) after h.0
-  commits i t0 (Drafting d) after (Ok receipt) h =
-      let r = accepted i t0 d h.0 receipt h.1 in
-      subst (Stays (Drafting d)) (sym h.2) (subst (IsPrefix d.planner.front) r.1 r.0)
-  commits i t0 (Drafting d) after (Err is) h = subst (Stays (Drafting d)) (sym h.2) (refused i t0 d h.0 h.1)
+commits : (i : Problem) (t0 : List Placed) (before after : SeatValue) (outcome : Result (List JournalEntry) SeatAnswer) → Commits i t0 before after outcome → Stays before after
+commits i t0 (Free p) after (Ok receipt) h = absurd h
+commits i t0 (Free p) after (Err is) h = same (Free p) after h.0
+commits i t0 (Drafting d) after (Ok receipt) h =
+    let r = accepted i t0 d h.0 receipt h.1 in
+    subst (Stays (Drafting d)) (sym h.2) (subst (IsPrefix d.planner.front) r.1 r.0)
+commits i t0 (Drafting d) after (Err is) h = refused i t0 d after is h
 
-  -- the receipt's history is what the planner has then seen
-  committed : (i : Problem) (t0 : List Placed) (before after : Seat X Y) (receipt : List JournalEntry) → Commits i t0 before after (Ok receipt) → receipt ≡ (leaver after).front
-  committed i t0 (Free p) after receipt h = absurd h
-  committed i t0 (Drafting d) after receipt h = (accepted i t0 d h.0 receipt h.1).1 ∙ sym (ap (λ (s : Seat X Y). (leaver s).front) h.2)
+-- the receipt's history is what the planner has then seen
+committed : (i : Problem) (t0 : List Placed) (before after : SeatValue) (receipt : List JournalEntry) → Commits i t0 before after (Ok receipt) → receipt ≡ (leaver after).front
+committed i t0 (Free p) after receipt h = absurd h
+committed i t0 (Drafting d) after receipt h = (accepted i t0 d h.0 receipt h.1).1 ∙ sym (ap (λ (s : SeatValue). (leaver s).front) h.2)
 
-  unrefreshed_so : (i : Problem) (t0 : List Placed) (d : DraftingValue) (why : RefreshRefusal X Y) → IsNotRefreshed i t0 d why → Stays (Drafting d) (seat_unrefreshed why)
-  unrefreshed_so i t0 d (unrefreshed.NoPlace back) h = same (Drafting d) (Drafting back) (ap Drafting h)
-  unrefreshed_so i t0 d (unrefreshed.NoMemory back) h = same (Drafting d) (Drafting back) (ap Drafting h.0)
-  unrefreshed_so i t0 d (unrefreshed.Stale q row asked) h = h.planner.begins
+refreshes : (i : Problem) (t0 : List Placed) (before after : SeatValue) (is : SeatAnswer) → Refreshes i t0 before after is → Stays before after
+refreshes i t0 (Free p) after is h = same (Free p) after h.0
+refreshes i t0 (Drafting d) after is (inl h) = subst (Stays (Drafting d)) (sym h.2) h.1.planner.begins
+refreshes i t0 (Drafting d) after is (inr (inl h)) = subst (Stays (Drafting d)) (sym h.4) h.3.planner.begins
+refreshes i t0 (Drafting d) after is (inr (inr (inl h))) = same (Drafting d) after h.0
+refreshes i t0 (Drafting d) after is (inr (inr (inr h))) = same (Drafting d) after h.1.0
 
-  refreshes : (i : Problem) (t0 : List Placed) (before after : Seat X Y) (is : Told) → Refreshes i t0 before after is → Stays before after
-  refreshes i t0 (Free p) after is h = same (Free p) after h.0
-  refreshes i t0 (Drafting d) after is (inl h) = subst (Stays (Drafting d)) (sym h.2) h.1.planner.begins
-  refreshes i t0 (Drafting d) after is (inr h) = subst (Stays (Drafting d)) (sym h.2) (unrefreshed_so i t0 d h.0 h.1)
+abandons : (before after : SeatValue) (is : SeatAnswer) → Abandons before after is → Stays before after
+abandons (Free p) after is h = same (Free p) after h.0
+abandons (Drafting d) after is h = same_seen d.planner (leaver after) (ap leaver h.0)
 
-  abandons : (before after : Seat X Y) (is : Told) → Abandons before after is → Stays before after
-  abandons (Free p) after is h = same (Free p) after h.0
-  abandons (Drafting d) after is h = same_seen d.planner (leaver after) (ap leaver h.0)
+shows : (i : Problem) (t0 : List Placed) (look : Look) (before after : SeatValue) (is : SeatAnswer) → ShowsPublished i t0 look before after is → Stays before after
+shows i t0 look (Free p) (Drafting d) is h = absurd h
+shows i t0 look (Free p) (Free q) is (inl h) = h.1.planner.begins
+shows i t0 look (Free p) (Free q) is (inr h) = unread i t0 p q h.0 h.1
+shows i t0 look (Drafting d) after is h = same (Drafting d) after h.0
 
-  shows : (i : Problem) (t0 : List Placed) (look : Look) (before after : Seat X Y) (is : Told) → Shows i t0 look before after is → Stays before after
-  shows i t0 look (Free p) (Drafting d) is h = absurd h
-  shows i t0 look (Free p) (Free q) is (inl h) = h.1.planner.begins
-  shows i t0 look (Free p) (Free q) is (inr h) = unread i t0 p q h.0 h.1
-  shows i t0 look (Drafting d) after is h = same (Drafting d) after h.0
+states : (i : Problem) (t0 : List Placed) (before after : SeatValue) (is : SeatAnswer) → States i t0 before after is → Stays before after
+states i t0 (Free p) after is h = same (Free p) after h.0
+states i t0 (Drafting d) (Drafting e) is (same_draft, inl h) = h.1.planner.begins
+states i t0 (Drafting d) (Drafting e) is (same_draft, inr h) = unread i t0 d.planner e.planner h.0 h.1
+states i t0 (Drafting d) (Free q) is h = absurd h
 
-  states : (i : Problem) (t0 : List Placed) (before after : Seat X Y) (is : Told) → States i t0 before after is → Stays before after
-  states i t0 (Free p) after is h = same (Free p) after h.0
-  states i t0 (Drafting d) (Drafting e) is (same_draft, inl h) = h.1.planner.begins
-  states i t0 (Drafting d) (Drafting e) is (same_draft, inr h) = unread i t0 d.planner e.planner h.0 h.1
-  states i t0 (Drafting d) (Free q) is h = absurd h
+takes : (i : Problem) (t0 : List Placed) (event : Event) (before after : SeatValue) (is : SeatAnswer) → Takes i t0 event before after is → Stays before after
+takes i t0 (Open p) before after is h = opens i t0 before after is h
+takes i t0 (Ask p call) before after is h = asks i call before after is h
+takes i t0 (Peek p look) before after is h = same before after h.0
+takes i t0 (Status p) before after is h = states i t0 before after is h
+takes i t0 (Commit p) before after is h = commits i t0 before after h.0 h.1
+takes i t0 (Refresh p) before after is h = refreshes i t0 before after is h
+takes i t0 (Abandon p) before after is h = abandons before after is h
+takes i t0 (Show look) before after is h = shows i t0 look before after is h
 
-  takes : (i : Problem) (t0 : List Placed) (event : Event) (before after : Seat X Y) (is : Told) → Takes i t0 event before after is → Stays before after
-  takes i t0 (Open p) before after is h = opens i t0 before after is h
-  takes i t0 (Ask p call) before after is h = asks i call before after is h
-  takes i t0 (Peek p look) before after is h = same before after h.0
-  takes i t0 (Status p) before after is h = states i t0 before after is h
-  takes i t0 (Commit p) before after is h = commits i t0 before after h.0 h.1
-  takes i t0 (Refresh p) before after is h = refreshes i t0 before after is h
-  takes i t0 (Abandon p) before after is h = abandons before after is h
-  takes i t0 (Show look) before after is h = shows i t0 look before after is h
+answers_line : (i : Problem) (t0 : List Placed) (read : Option Event) (before after : SeatValue) (old new : List ℕ) → AnswersLine i t0 read before after old new → Stays before after
+answers_line i t0 None before after old new h = same before after h.0
+answers_line i t0 (Some event) before after old new h = takes i t0 event before after h.0 h.1
 
-  answers_line : (i : Problem) (t0 : List Placed) (read : Option Event) (before after : Seat X Y) (old new : List ℕ) → AnswersLine i t0 read before after old new → Stays before after
-  answers_line i t0 None before after old new h = same before after h.0
-  answers_line i t0 (Some event) before after old new h = takes i t0 event before after h.0 h.1
-
-  answers_items : (i : Problem) (t0 : List Placed) (items : List (Option Event)) (before after : Seat X Y) (old new : List ℕ) → AnswersItems i t0 items before after old new → Stays before after
-  answers_items i t0 [] before after old new h = same before after h.0
-  answers_items i t0 (item ∷ items) before after old new h =
-      prefix_trans (leaver before).front (leaver h.0).front (leaver after).front (answers_line i t0 item before h.0 old h.1 h.2) (answers_items i t0 items h.0 after h.1 new h.3)
+answers_items : (i : Problem) (t0 : List Placed) (items : List (Option Event)) (before after : SeatValue) (old new : List ℕ) → AnswersItems i t0 items before after old new → Stays before after
+answers_items i t0 [] before after old new h = same before after h.0
+answers_items i t0 (item ∷ items) before after old new h =
+    prefix_trans (leaver before).front (leaver h.0).front (leaver after).front (answers_line i t0 item before h.0 old h.1 h.2) (answers_items i t0 items h.0 after h.1 new h.3)
 
 pub seen_stays : SeenStays
 seen_stays i t0 items before after old new h = answers_items i t0 items before after old new h

@@ -6,10 +6,10 @@ use Rattle.ctt_crew.specs.declared.crew_fault.CrewFault.{CrewFault}
 use Rattle.ctt_crew.specs.declared.crew_fault.CrewFault.TheVariants as crew_fault
 
 -- the fault of a desk that opens empty, as a crew's fault
-abbrev pub of_shared : SharedFault → CrewFault
-of_shared (Unlawful at f) = crew_fault.NoMemory
-of_shared Unplaced = crew_fault.NoPlace
-of_shared NoMemory = crew_fault.NoMemory
+abbrev pub crew_fault_of : SharedFault → CrewFault
+crew_fault_of (Unlawful at f) = crew_fault.NoMemory
+crew_fault_of Unplaced = crew_fault.NoPlace
+crew_fault_of NoMemory = crew_fault.NoMemory
 
 -- a fault of a crew of this many planners: a thread that was not started is that of one of them
 abbrev pub IsCrewFault : ℕ → CrewFault → Type 0

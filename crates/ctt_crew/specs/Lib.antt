@@ -1,3 +1,3 @@
 pub mod Attending
 pub mod CrewFaults
-pub mod Laws
+pub mod SeenLaws

@@ -1,43 +1,23 @@
 //! The work of one planner of a crew, on a thread of his own.
 
-ghost use Rattle.std.specs.Prelude.{◌≡◌, ◌<◌, ℕ, IfOk, IfSome, IsOk, OnOk, string_bytes};
-ghost use Rattle.ctt_edits.specs.Calls.{CallFits};
+ghost use Rattle.std.specs.Prelude.{◌≡◌, ◌<◌, ℕ, IfOk, IfSome, IsOk, string_bytes};
 ghost use Rattle.ctt_core.specs.Runs.{EventFits};
 ghost use Rattle.ctt_seat.specs.Attended.{Attends, IsAttended, leaver};
-ghost use Rattle.ctt_seat.specs.Seats.{AnswersCall, AnswersLine};
-ghost use Rattle.ctt_crew.specs.Attending.{call_in};
+ghost use Rattle.ctt_seat.specs.Seats.{AnswersLine, seat_value};
 
 use crate::gate::Gate;
 use ctt_board::Sheet;
 use ctt_core::{Event, PlannerNo};
 use ctt_desk::{Naming, Planner, SharedDesk};
-use ctt_edits::Call;
 use ctt_grid::GridSheet;
-use ctt_problem::{Instance, NoMemory, let_go};
+use ctt_problem::{Instance, NoMemory, drop_whole};
 use ctt_script::{Lines, has_words, read_own_line, write_bad_line};
-use ctt_seat::{Seat, write_told};
+use ctt_seat::{Seat, write_seat_answer};
 use std::alloc::{AllocError, Global};
 use std::marker::{Model, PhantomData};
 use std::snapshot::Snapshot;
 use std::sync::Wait;
 use std::thread::Promise;
-
-/// Makes the call that a line asks for, and appends the line of the answer.
-fn answer_call<'i, S: Sheet<'i>, J: Naming>(
-    seat: &mut Seat<'i, S, J>,
-    instance: &Instance,
-    call: Call,
-    text: &mut String,
-) -> Result<(), AllocError>
-    requires same { J.problem ≡ instance.now }
-    requires fits { CallFits instance.now call }
-    ensures { OnOk result
-        (AnswersCall instance.now call seat.old seat.new (string_bytes text.old)
-        (string_bytes text.new)) }
-{
-    let told = seat.ask(call);
-    write_told(text, instance, &told)
-}
 
 /// Returns the value if the write succeeded.
 fn kept_if<T: Drop>(value: T, written: Result<(), AllocError>) -> Result<T, NoMemory>
@@ -62,27 +42,17 @@ fn answer_own_line<'i, S: Sheet<'i>, J: Naming, R: Wait>(
     requires fits { (planners : ℕ) → planner < planners
         → IfSome read (EventFits instance.now planners) }
     ensures { IfOk result (λ next.
-        AnswersLine instance.now J.opening read seat.entry next (string_bytes text.old)
-        (string_bytes text.new)) }
+        AnswersLine instance.now J.opening read (seat_value seat.entry) (seat_value next)
+        (string_bytes text.old) (string_bytes text.new)) }
 {
     match read {
         Some(event) => {
             let (seat, told) = seat.take(rt, desk, event);
-            let written = write_told(text, instance, &told);
-            let_go(told);
+            let written = write_seat_answer(text, instance, &told);
+            drop_whole(told);
             kept_if(seat, written)
         }
         None => kept_if(seat, write_bad_line(text)),
-    }
-}
-
-/// Returns the call that a line asks for, if any.
-fn call_in(read: &Option<Event>) -> Option<Call>
-    ensures { result ≡ call_in read.now }
-{
-    match *read {
-        Some(Event::Ask(_, call)) => Some(call),
-        _ => None,
     }
 }
 
@@ -105,9 +75,9 @@ fn attend<'i, 'x, S: Sheet<'i>, J: Naming, R: Wait, G: Gate>(
     number: PlannerNo,
     seat: Seat<'i, S, J>,
 ) -> Result<(Planner<S, J>, String), NoMemory>
-    requires { number ≡ (leaver seat).number }
+    requires { number ≡ (leaver (seat_value seat)).number }
     ensures { IfOk result (λ done. Attends J.problem J.opening attendance.entry.script.now
-        seat.entry done.0 (string_bytes done.1)) }
+        (seat_value seat.entry) done.0 (string_bytes done.1)) }
 {
     let Attendance {
         alloc,
@@ -119,7 +89,7 @@ fn attend<'i, 'x, S: Sheet<'i>, J: Naming, R: Wait, G: Gate>(
     // The answers are seldom more than twice as long as the script. Capacity that they leave unused
     // is never written, and so costs nothing.
     let Ok(mut text) = String::with_capacity(alloc, script.len().saturating_mul(2)) else {
-        let_go(seat);
+        drop_whole(seat);
         return Err(NoMemory);
     };
     let mut seat = seat;
@@ -129,21 +99,13 @@ fn attend<'i, 'x, S: Sheet<'i>, J: Naming, R: Wait, G: Gate>(
         if read.is_some() || has_words(line) {
             at = at.saturating_add(1);
             gate.before(number, at);
-            if let Some(call) = call_in(&read) {
-                if answer_call(&mut seat, instance, call, &mut text).is_err() {
-                    let_go(seat);
-                    let_go(text);
-                    return Err(NoMemory);
+            seat = match answer_own_line(rt, desk, instance, seat, number, read, &mut text) {
+                Ok(seat) => seat,
+                Err(error) => {
+                    drop_whole(text);
+                    return Err(error);
                 }
-            } else {
-                seat = match answer_own_line(rt, desk, instance, seat, number, read, &mut text) {
-                    Ok(seat) => seat,
-                    Err(error) => {
-                        let_go(text);
-                        return Err(error);
-                    }
-                };
-            }
+            };
             gate.after(number, at);
         }
     }

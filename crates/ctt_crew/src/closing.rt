@@ -1,14 +1,14 @@
 //! The end of a crew's desk.
 
 ghost use Rattle.std.specs.Prelude.{◌≡◌, IfErr, IfOk, IsOkAnd, map, string_bytes};
-ghost use Rattle.ctt_seat.specs.Attended.{HoldsSeen, IsClosing};
+ghost use Rattle.ctt_seat.specs.Attended.{HoldsSeen, IsClosingReport};
 ghost use Rattle.ctt_crew.specs.CrewFaults.{IsReportFault};
 ghost use Rattle.ctt_crew.specs.declared.crew_fault.CrewFault.TheVariants as crew_fault;
 
 use crate::crew_fault::CrewFault;
 use ctt_board::Timetable;
 use ctt_desk::{Closed, Naming, Planner, SharedDesk};
-use ctt_problem::let_go;
+use ctt_problem::drop_whole;
 use ctt_seat::{closing_report, end_desk};
 use std::alloc::Global;
 use std::sync::Wait;
@@ -34,14 +34,14 @@ fn report_after<S: Timetable, J: Naming, R: Wait>(
     planners: Vec<Planner<S, J>>,
     answers: Vec<String>,
 ) -> Result<Vec<u8>, CrewFault>
-    ensures closes { IfOk result (λ text. IsClosing J.problem J.opening planners.items
+    ensures closes { IfOk result (λ text. IsClosingReport J.problem J.opening planners.items
         (map string_bytes answers.items) text.items) }
     ensures fault { IfErr result (λ fault. fault ≡ crew_fault.NoMemory) }
 {
     let mut planners = planners;
     let closed = closed_after(rt, desk, planners.as_mut_slice());
     let report = closing_report(alloc, &closed, answers);
-    let_go(closed);
+    drop_whole(closed);
     match report {
         Ok(text) => Ok(text),
         Err(_) => Err(CrewFault::NoMemory),
@@ -55,14 +55,14 @@ pub(crate) fn last_report<S: Timetable, J: Naming, R: Wait>(
     desk: SharedDesk<S, J>,
     done: Result<(Vec<Planner<S, J>>, Vec<String>), CrewFault>,
 ) -> Result<Vec<u8>, CrewFault>
-    ensures closes { IfOk result (λ text. IsOkAnd done (λ done. IsClosing J.problem J.opening
+    ensures closes { IfOk result (λ text. IsOkAnd done (λ done. IsClosingReport J.problem J.opening
         done.0.items (map string_bytes done.1.items) text.items)) }
     ensures fault { IfErr result (IsReportFault done) }
 {
     match done {
         Ok((planners, answers)) => report_after(rt, alloc, desk, planners, answers),
         Err(fault) => {
-            let_go(end_desk(rt, alloc, desk));
+            drop_whole(end_desk(rt, alloc, desk));
             Err(fault)
         }
     }

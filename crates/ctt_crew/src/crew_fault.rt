@@ -1,7 +1,7 @@
 //! Why a crew could not finish.
 
 ghost use Rattle.std.specs.Prelude.{◌≡◌};
-ghost use Rattle.ctt_crew.specs.CrewFaults.{of_shared};
+ghost use Rattle.ctt_crew.specs.CrewFaults.{crew_fault_of};
 ghost use Rattle.ctt_crew.specs.declared.crew_fault.CrewFault.TheVariants as crew_fault;
 
 use ctt_core::PlannerNo;
@@ -25,7 +25,7 @@ pub enum CrewFault {
 }
 
 impl From<SharedFault> for CrewFault {
-    ghost from_gives = { λ fault given. given ≡ of_shared fault };
+    ghost from_gives = { λ fault given. given ≡ crew_fault_of fault };
 
     /// Converts the fault of a crew's desk, which opens empty and so is never `Unlawful`.
     fn from(fault: SharedFault) -> CrewFault {

@@ -1,7 +1,7 @@
 //! A crew: planners on threads, each with a script of his own.
 
 ghost use Rattle.std.specs.Prelude.{◌≡◌, ◌≤◌, ◌++◌, ◌∷◌, [], length, IfErr, IfOk, IsOkAnd, OnOk, map, zip, string_bytes};
-ghost use Rattle.ctt_desk.specs.Names.{IsNamed};
+ghost use Rattle.ctt_desk.specs.Names.{IsNameOf};
 ghost use Rattle.ctt_desk.specs.Planners.{new_planners};
 ghost use Rattle.ctt_seat.specs.Attended.{AreAttended, IsAttended, IsCrewText};
 ghost use Rattle.ctt_crew.specs.CrewFaults.{IsCrewFault, added_fault};
@@ -15,7 +15,7 @@ use ctt_board::{Sheet, Timetable};
 use ctt_core::PlannerNo;
 use ctt_desk::{Named, Naming, Opened, Planner, SharedDesk, SharedFault};
 use ctt_grid::GridSheet;
-use ctt_problem::{Instance, NoMemory, let_go};
+use ctt_problem::{Instance, NoMemory, drop_whole};
 use std::alloc::Global;
 use std::marker::{Brand, PhantomData, Send, Sync};
 use std::sync::Wait;
@@ -99,7 +99,7 @@ fn work_at_once<'i, 'x, J: Naming + Send + Sync, R: Threads + Wait + Sync, G: Ga
                 { attend_on_grid(work, rt) };
                 let started = scope.spawn_with(promise, attending);
                 if let Err(fault) = push_started(&mut threads, started, number) {
-                    let_go(threads);
+                    drop_whole(threads);
                     return Err(fault);
                 }
             }
@@ -133,8 +133,8 @@ fn attendances<'i, 'x, P: Drop, J: Naming, G: Gate>(
             desk: PhantomData,
         };
         if let Err(refused) = works.push((planner, attendance)) {
-            let_go(refused);
-            let_go(works);
+            drop_whole(refused);
+            drop_whole(works);
             return Err(CrewFault::NoMemory);
         }
     }
@@ -184,7 +184,7 @@ fn crew_named<'i, J: Naming + Send + Sync, R: Threads + Wait + Sync, G: Gate>(
     count: u16,
     gate: &G,
 ) -> Result<Vec<u8>, CrewFault>
-    requires named { IsNamed J.problem J.opening J.planners J.book opened count }
+    requires named { IsNameOf J.problem J.opening J.planners J.book opened count }
     requires problem { opened.problem ≡ instance.now }
     requires counted { length scripts.now ≡ count }
     ensures text { IfOk result (λ text.

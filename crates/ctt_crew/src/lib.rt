@@ -6,7 +6,7 @@ mod closing;
 mod crew_fault;
 mod crew_run;
 mod gate;
-pub mod laws;
+pub mod seen_laws;
 
 pub use crew_fault::CrewFault;
 pub use crew_run::crew;

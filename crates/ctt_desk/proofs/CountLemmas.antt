@@ -6,7 +6,7 @@ use Rattle.std.proofs.lemmas.List.{get_or-set_same, get_or-set_other, get_or_def
 use Rattle.std.proofs.lemmas.List.Sums.{length-filter, count_by-le-length}
 use Rattle.ctt_draft.specs.declared.asked.Asked.{Asked}
 use Rattle.ctt_core.specs.declared.journal.JournalEntry.{JournalEntry}
-use Rattle.ctt_desk.specs.Histories.{own, entry_of, Counted}
+use Rattle.ctt_desk.specs.Histories.{own, entry_of, CountsDrafts}
 use Rattle.ctt_desk.proofs.OwnLemmas.{own-append, counted_now}
 
 -- one more planner without an entry
@@ -28,7 +28,7 @@ own_none : (p q : ℕ) (asked : List Asked) → p ≢ q → length (own q (entry
 own_none p q asked apart = ap (λ b. length (cond b (entry_of p asked ∷ []) [])) (ne_eqb p q apart)
 
 -- the stored count of a planner is the number of his entries
-pub count_read : (planners p k count : ℕ) (counts : List ℕ) (h : List JournalEntry) → Counted planners counts h → p < planners → k ≡ p → count ≡ get_or counts k count → count ≡ length (own p h)
+pub count_read : (planners p k count : ℕ) (counts : List ℕ) (h : List JournalEntry) → CountsDrafts planners counts h → p < planners → k ≡ p → count ≡ get_or counts k count → count ≡ length (own p h)
 count_read planners p k count counts h c lt at read =
     read ∙ ap (λ n. get_or counts n count) at ∙ get_or_default counts p count 0 (omega (arith, lt, c.0)) ∙ c.1 p lt
 
@@ -38,7 +38,7 @@ others_same p q h asked apart =
     omega (arith, ap length (own-append q h (e ∷ [])) ∙ length-append (own q h) (own q (e ∷ [])), own_none p q asked (λ same. apart (sym same)))
 
 -- one more entry of planner p
-pub counted_more : (planners p k count : ℕ) (counts : List ℕ) (h : List JournalEntry) (asked : List Asked) → Counted planners counts h → p < planners → k ≡ p → count ≡ length (own p h) → Counted planners (set counts k (count + 1)) (h ++ entry_of p asked ∷ [])
+pub counted_more : (planners p k count : ℕ) (counts : List ℕ) (h : List JournalEntry) (asked : List Asked) → CountsDrafts planners counts h → p < planners → k ≡ p → count ≡ length (own p h) → CountsDrafts planners (set counts k (count + 1)) (h ++ entry_of p asked ∷ [])
 counted_more planners p k count counts h asked c lt at is = (length-set counts k (count + 1) ∙ c.0, λ q. λ less. each q less)
   where
     each : (q : ℕ) → q < planners → get_or (set counts k (count + 1)) q 0 ≡ length (own q (h ++ entry_of p asked ∷ []))

@@ -8,12 +8,12 @@ use Rattle.ctt_problem.specs.Problem.{Problem}
 use Rattle.ctt_problem.specs.declared.placed.Placed.{Placed}
 use Rattle.ctt_core.specs.declared.journal.JournalEntry.{JournalEntry}
 use Rattle.ctt_desk.specs.declared.shown.View.{View}
-use Rattle.ctt_desk.specs.Published.{IsAfter, Keeps, Shows, seeing}
+use Rattle.ctt_desk.specs.Published.{IsAfterHistory, Keeps, SeesPublished, seeing}
 use Rattle.ctt_desk.proofs.PrefixLemmas.{prefix_self, prefix_trans}
 
 -- a step of one seat, in which the published history grows or stays the same
-pub sees : (i : Problem) (opening : List Placed) (seat : ℕ) (v : View) (j j' : Problem) (t t' : List Placed) (h h' : List JournalEntry) → IsPrefix h h' → IsAfter i opening j' t' h' → (views : List View) → Keeps i opening j t h views → get_elem? views seat ≡ some v
-    → (w : View) × Keeps i opening j' t' h' (set views seat w) × Shows i opening v j' t' h' w
+pub sees : (i : Problem) (opening : List Placed) (seat : ℕ) (v : View) (j j' : Problem) (t t' : List Placed) (h h' : List JournalEntry) → IsPrefix h h' → IsAfterHistory i opening j' t' h' → (views : List View) → Keeps i opening j t h views → get_elem? views seat ≡ some v
+    → (w : View) × Keeps i opening j' t' h' (set views seat w) × SeesPublished i opening v j' t' h' w
 sees i opening seat v j j' t t' h h' grows right views kept at = (
   seeing h',
   record {
@@ -34,5 +34,5 @@ comes i opening j t h views kept = record {
 }
 
 -- the first seat
-pub begins : (i : Problem) (opening : List Placed) (j : Problem) (t : List Placed) (h : List JournalEntry) → IsAfter i opening j t h → Keeps i opening j t h (seeing [] ∷ [])
+pub begins : (i : Problem) (opening : List Placed) (j : Problem) (t : List Placed) (h : List JournalEntry) → IsAfterHistory i opening j t h → Keeps i opening j t h (seeing [] ∷ [])
 begins i opening j t h right = comes i opening j t h [] (record { right = right; seen = λ n u e. absurd (some-ne-none u (sym e)) })

@@ -12,5 +12,5 @@ abbrev pub head_of : Book → Named
 head_of book = record { tracked = true; key = 0; book = book }
 
 -- if the expected length was found, the entry was appended to the history that had been seen
-abbrev pub Adds : Step JournalEntry → View JournalEntry ℕ → ℕ → View JournalEntry ℕ → Type 0
-Adds s v found w = MatchBool (found == s.old) (w.0 ≡ v.0 ++ s.ask ∷ []) (Unit {0})
+abbrev pub AppendsEntry : Step JournalEntry → View JournalEntry ℕ → ℕ → View JournalEntry ℕ → Type 0
+AppendsEntry s v found w = MatchBool (found == s.old) (w.0 ≡ v.0 ++ s.ask ∷ []) (Unit {0})

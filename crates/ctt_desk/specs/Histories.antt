@@ -29,13 +29,13 @@ pub record Standing (i j : Problem) (opening t : List Placed) (journal : List Jo
   pub lawful : Lawful i t
 
 -- counts has the number of drafts of each planner in the journal
-abbrev pub Counted : ℕ → List ℕ → List JournalEntry → Type 0
-Counted planners counts journal = (length counts ≡ planners) × ((p : ℕ) → p < planners → slice_index_or counts p 0 ≡ length (own p journal))
+abbrev pub CountsDrafts : ℕ → List ℕ → List JournalEntry → Type 0
+CountsDrafts planners counts journal = (length counts ≡ planners) × ((p : ℕ) → p < planners → slice_index_or counts p 0 ≡ length (own p journal))
 
 -- what else holds whenever the lock is free: the stored opening is the desk's, and counts is right
 pub record IsLocked (opening opened : List Placed) (planners : ℕ) (counts : List ℕ) (journal : List JournalEntry) : Type 0 where
   pub opens : opened ≡ opening
-  pub counted : Counted planners counts journal
+  pub counted : CountsDrafts planners counts journal
 
 -- the journal has as many drafts of planner p as he committed
 abbrev pub IsHis : List JournalEntry → ℕ → ℕ → Type 0

@@ -30,7 +30,7 @@ pub record OpenedValue : Type 0 where
   pub book : Book
 
 -- the name says the instance, lectures and logbook of this opening, and this number of planners
-pub record IsNamed (problem : Problem) (opening : List Placed) (planners : ℕ) (book : Book) (opened : OpenedValue) (count : ℕ) : Type 0 where
+pub record IsNameOf (problem : Problem) (opening : List Placed) (planners : ℕ) (book : Book) (opened : OpenedValue) (count : ℕ) : Type 0 where
   pub of : opened.problem ≡ problem
   pub opens : opened.list ≡ opening
   pub counted : count ≡ planners

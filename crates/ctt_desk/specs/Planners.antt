@@ -12,7 +12,7 @@ use Rattle.ctt_draft.specs.Drafts.{calls_of, whole, changes, stale}
 use Rattle.ctt_draft.specs.declared.asked.Asked.{Asked}
 use Rattle.ctt_core.specs.Runs.{after, Legal}
 use Rattle.ctt_core.specs.declared.journal.JournalEntry.{JournalEntry}
-use Rattle.ctt_core.specs.declared.standing.Standing.{Standing}
+use Rattle.ctt_core.specs.declared.draft_status.DraftStatus.{DraftStatus}
 use Rattle.ctt_desk.specs.Histories.{own, entry_of}
 
 -- a planner: the number, how many drafts he committed, and the front, the history that he has seen
@@ -92,7 +92,7 @@ pub record IsSameDraft (d e : DraftingValue) : Type 0 where
 -- the status of the draft d, which is now e: how many edits were accepted in it, how many drafts
 -- its planner has seen since its base, and the least row that it read and that differs after all
 -- that he has seen
-pub record IsStatus (i : Problem) (opening : List Placed) (d e : DraftingValue) (s : Standing) : Type 0 where
+pub record IsStatus (i : Problem) (opening : List Placed) (d e : DraftingValue) (s : DraftStatus) : Type 0 where
   pub planner : Grows i opening d.planner e.planner
   pub edits : s.edits ≡ length (changes i d.base (calls_of d.asked))
   pub behind : length d.since + s.behind ≡ length e.planner.front

@@ -18,7 +18,7 @@ pub record ShownValue : Type 0 where
   pub history : List JournalEntry
 
 -- the timetable t of the problem j, which is i, is the opening after a legal history
-pub record IsAfter (i : Problem) (opening : List Placed) (j : Problem) (t : List Placed) (history : List JournalEntry) : Type 0 where
+pub record IsAfterHistory (i : Problem) (opening : List Placed) (j : Problem) (t : List Placed) (history : List JournalEntry) : Type 0 where
   pub same : j ≡ i
   pub legal : Legal i opening history
   pub list : t ≡ after i opening history
@@ -43,11 +43,11 @@ seeing history = record { seen = history }
 -- the protocol: the published timetable is the opening after a legal history, and each seat has
 -- seen a prefix of that history
 pub record Keeps (i : Problem) (opening : List Placed) (j : Problem) (t : List Placed) (history : List JournalEntry) (views : List View) : Type 0 where
-  pub right : IsAfter i opening j t history
+  pub right : IsAfterHistory i opening j t history
   pub seen : (seat : ℕ) (v : View) → get_elem? views seat ≡ some v → IsPrefix v.seen history
 
 -- a step: the published history extends what the seat had seen, and the seat has then seen it all
-pub record Shows (i : Problem) (opening : List Placed) (v : View) (j : Problem) (t : List Placed) (history : List JournalEntry) (w : View) : Type 0 where
+pub record SeesPublished (i : Problem) (opening : List Placed) (v : View) (j : Problem) (t : List Placed) (history : List JournalEntry) (w : View) : Type 0 where
   pub grows : IsPrefix v.seen history
   pub all : w ≡ seeing history
-  pub right : IsAfter i opening j t history
+  pub right : IsAfterHistory i opening j t history

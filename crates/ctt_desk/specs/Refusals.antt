@@ -26,7 +26,7 @@ IsNotRefreshed i opening d (Outdated q row asked) = IsStale i opening d q row as
 
 -- the planner p, who could not read, is now q: unchanged if he got no place, and with at least as
 -- much seen if memory ran out
-abbrev pub IsUnread : Problem → List Placed → PlannerValue → PlannerValue → SharedFault → Type 0
-IsUnread i opening p q (Unlawful at f) = ⊥
-IsUnread i opening p q NoPlace = q ≡ p
-IsUnread i opening p q OutOfMemory = Grows i opening p q
+abbrev pub HasNotRead : Problem → List Placed → PlannerValue → PlannerValue → SharedFault → Type 0
+HasNotRead i opening p q (Unlawful at f) = ⊥
+HasNotRead i opening p q NoPlace = q ≡ p
+HasNotRead i opening p q OutOfMemory = Grows i opening p q

@@ -37,7 +37,7 @@ impl Gain<JournalEntry, u64> for NoTrade {
 pub struct Addition;
 
 impl Play<JournalEntry, u64> for Addition {
-    ghost use Rattle.ctt_desk.specs.Books.{Adds};
+    ghost use Rattle.ctt_desk.specs.Books.{AppendsEntry};
 
-    ghost then = { Adds };
+    ghost then = { AppendsEntry };
 }

@@ -5,8 +5,8 @@ ghost use Rattle.ctt_rules.specs.Hard.{Lawful};
 ghost use Rattle.ctt_rules.specs.Penalty.{penalty};
 ghost use Rattle.ctt_core.specs.Runs.{after, Legal};
 
-use crate::front::Front;
 use crate::naming::Naming;
+use crate::observed_prefix::ObservedPrefix;
 use ctt_board::Timetable;
 use ctt_core::JournalEntry;
 use ctt_problem::{NoMemory, Placed};
@@ -18,7 +18,7 @@ pub struct Closed<S: Timetable, J: Naming> {
     pub(crate) journal: Vec<JournalEntry>,
     pub(crate) sheet: S,
     /// The journal as a seen history.
-    pub(crate) front: Front<J>,
+    pub(crate) front: ObservedPrefix<J>,
 }
 
 // A derived `Drop` would be proved again in every dependent crate.
@@ -71,7 +71,7 @@ impl<S: Timetable, J: Naming> Closed<S, J> {
     }
 
     /// Returns the journal as a seen history.
-    pub(crate) fn front(&self) -> &Front<J>
+    pub(crate) fn front(&self) -> &ObservedPrefix<J>
         ensures { result.now ≡ self.now }
     {
         &self.front

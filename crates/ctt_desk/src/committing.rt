@@ -12,7 +12,7 @@ use crate::receipt::Receipt;
 use crate::refusal::Refusal;
 use crate::shared_desk::SharedDesk;
 use ctt_board::{Sheet, Timetable};
-use ctt_problem::let_go;
+use ctt_problem::drop_whole;
 use std::sync::{MutexGuard, Wait};
 
 impl<'i, S: Sheet<'i>, J: Naming> Drafting<'i, S, J> {
@@ -40,7 +40,7 @@ impl<'i, S: Sheet<'i>, J: Naming> Drafting<'i, S, J> {
             Ok(()) => Ok(planner.with_receipt(front)),
             Err((draft, cause)) => match cause {
                 Cause::NotYours(count) => {
-                    let_go(draft);
+                    drop_whole(draft);
                     Err(Refusal::NotYours(planner.seeing(front), count))
                 }
                 Cause::Stale(row) => {

@@ -11,14 +11,14 @@ ghost use Rattle.ctt_draft.specs.Undoing.{undoing};
 ghost use Rattle.ctt_desk.specs.Histories.{entry_of};
 ghost use Rattle.ctt_desk.specs.Planners.{present_of, asked_also};
 
-use crate::front::Front;
 use crate::naming::Naming;
+use crate::observed_prefix::ObservedPrefix;
 use crate::planner::Planner;
 use ctt_board::{Sheet, Timetable};
 use ctt_core::JournalEntry;
 use ctt_draft::{AskedCalls, Draft, Work};
-use ctt_edits::{Call, Edit, Look, Reply, laws};
-use ctt_problem::{Instance, NoMemory, let_go};
+use ctt_edits::{Call, Edit, Look, Reply, edit_laws};
+use ctt_problem::{Instance, NoMemory, drop_whole};
 use std::alloc::Global;
 use std::marker::Model;
 
@@ -28,7 +28,7 @@ use std::marker::Model;
 pub struct Drafting<'i, S: Timetable, J: Naming> {
     pub(crate) planner: Planner<S, J>,
     pub(crate) draft: Box<Draft<'i, S>>,
-    pub(crate) since: Front<J>,
+    pub(crate) since: ObservedPrefix<J>,
 }
 
 impl<'i, S: Timetable, J: Naming> Model for Drafting<'i, S, J> {
@@ -69,7 +69,7 @@ pub(crate) fn end_draft<'i, S: Sheet<'i>>(draft: Box<Draft<'i, S>>) -> AskedCall
     ensures { result ≡ draft.entry.value.asked }
 {
     let Work { asked, changes } = Box::into_inner(draft).finish();
-    let_go(changes);
+    drop_whole(changes);
     AskedCalls::new(asked)
 }
 
@@ -91,7 +91,7 @@ impl<'i, S: Sheet<'i>, J: Naming> Drafting<'i, S, J> {
         ensures fits { IfOk result (IsReply J.problem) }
         ensures err { OnErr result (self.new ≡ self.old) }
     {
-        laws::replies_fit();
+        edit_laws::replies_fit();
         self.draft.instance().limits_hold();
         self.draft.lawful();
         self.draft.call(call)
@@ -105,7 +105,7 @@ impl<'i, S: Sheet<'i>, J: Naming> Drafting<'i, S, J> {
             told ≡ shown J.problem (present_of J.problem self.now) look.now) }
         ensures fits { IfOk result (IsReply J.problem) }
     {
-        laws::replies_fit();
+        edit_laws::replies_fit();
         self.draft.instance().limits_hold();
         self.draft.lawful();
         self.draft.peek(look)
@@ -137,8 +137,8 @@ impl<'i, S: Sheet<'i>, J: Naming> Drafting<'i, S, J> {
             draft,
             since,
         } = self;
-        let_go(draft);
-        let_go(since);
+        drop_whole(draft);
+        drop_whole(since);
         planner
     }
 

@@ -5,12 +5,12 @@ ghost use mathlib.Core.List.{IsPrefix};
 ghost use Rattle.ctt_draft.specs.Drafts.{calls_of, stale};
 ghost use Rattle.ctt_draft.specs.DraftValues.{Settles};
 ghost use Rattle.ctt_core.specs.Runs.{after, Legal};
-ghost use Rattle.ctt_desk.specs.Histories.{entry_of, Counted, IsFreshAt, IsCause};
+ghost use Rattle.ctt_desk.specs.Histories.{entry_of, CountsDrafts, IsFreshAt, IsCause};
 ghost use Rattle.ctt_desk.specs.declared.locked.Cause.TheVariants.{NoMemory as OutOfMemory};
 
 use crate::closed::Closed;
-use crate::front::{Front, Head, extend};
 use crate::naming::Naming;
+use crate::observed_prefix::{Head, ObservedPrefix, extend};
 use crate::publisher::Publisher;
 use crate::shown::Shown;
 use crate::update::Update;
@@ -49,7 +49,7 @@ where
     counts: Vec<u64>,
     sheet: S,
     /// The journal as a seen history.
-    front: Front<J>,
+    front: ObservedPrefix<J>,
     head: Head<J>,
     /// `Some` whenever the lock is free.
     publisher: Option<Publisher<S, J>>,
@@ -76,7 +76,7 @@ where
 
 /// Returns a count of 0 for each planner.
 pub(crate) fn no_counts(alloc: Global, planners: u16) -> Result<Vec<u64>, AllocError>
-    ensures { IfOk result (λ counts. Counted planners counts.items []) }
+    ensures { IfOk result (λ counts. CountsDrafts planners counts.items []) }
 {
     let mut counts = Vec::with_capacity(alloc, planners as usize)?;
     for _ in 0..planners {
@@ -101,12 +101,12 @@ impl<S: Timetable, J: Naming> Locked<S, J> {
         opening: Vec<Placed>,
         counts: Vec<u64>,
         sheet: S,
-        front: Front<J>,
+        front: ObservedPrefix<J>,
         head: Head<J>,
         publisher: Publisher<S, J>,
     ) -> Self
         requires opening { opening.items ≡ J.opening }
-        requires counts { Counted J.planners counts.items [] }
+        requires counts { CountsDrafts J.planners counts.items [] }
         requires problem { S.problem sheet ≡ J.problem }
         requires list { S.list sheet ≡ J.opening }
         requires front { front ≡ [] }
@@ -154,45 +154,41 @@ impl<'i, S: Sheet<'i>, J: Naming> Locked<S, J> {
     pub(crate) fn commit<R: Wait>(
         &mut self,
         rt: &R,
-        number: PlannerNo,
+        planner: PlannerNo,
         committed: u64,
-        front: &mut Front<J>,
+        front: &mut ObservedPrefix<J>,
         draft: Box<Draft<'i, S>>,
     ) -> Result<(), (Box<Draft<'i, S>>, Cause)>
         requires problem { draft.value.problem ≡ J.problem }
-        requires planner { number < J.planners }
+        requires planner { planner < J.planners }
         ensures legal { Legal J.problem J.opening self.old }
         ensures fresh { IfOk result (λ _.
-            IsFreshAt J.problem J.opening self.old number committed draft.entry.value) }
+            IsFreshAt J.problem J.opening self.old planner committed draft.entry.value) }
         ensures journal { IfOk result (λ _.
-            self.new ≡ self.old ++ entry_of number draft.entry.value.asked ∷ []) }
+            self.new ≡ self.old ++ entry_of planner draft.entry.value.asked ∷ []) }
         ensures front { IfOk result (λ _. front.new ≡ self.new) }
         ensures begins { IfOk result (λ _. IsPrefix front.old self.old) }
         ensures seen { Legal J.problem J.opening front.new }
         ensures err { IfErr result (λ refused. (self.new ≡ self.old)
             × (refused.0 ≡ draft.entry)
-            × IsCause J.problem J.opening self.old number committed front.old front.new
+            × IsCause J.problem J.opening self.old planner committed front.old front.new
             draft.entry.value refused.1) }
     {
         if !front.begins(&self.front) {
             return Err((draft, Cause::NotYours(self.front.len())));
         }
-        let count = self.counts[number.get() as usize];
+        let count = self.counts[planner.get() as usize];
         if count != committed {
             *front = self.front.again();
             return Err((draft, Cause::NotYours(count)));
         }
-        match self.stale(&draft) {
-            None => {
-                self.accept(rt, number, draft)?;
-                *front = self.front.again();
-                Ok(())
-            }
-            Some(row) => {
-                *front = self.front.again();
-                Err((draft, Cause::Stale(row)))
-            }
+        if let Some(row) = self.stale(&draft) {
+            *front = self.front.again();
+            return Err((draft, Cause::Stale(row)));
         }
+        self.accept(rt, planner, draft)?;
+        *front = self.front.again();
+        Ok(())
     }
 
     /// Returns the least row that a draft read and that differs in the current timetable.
@@ -212,14 +208,14 @@ impl<'i, S: Sheet<'i>, J: Naming> Locked<S, J> {
     fn accept<R: Wait>(
         &mut self,
         rt: &R,
-        number: PlannerNo,
+        planner: PlannerNo,
         draft: Box<Draft<'i, S>>,
     ) -> Result<(), (Box<Draft<'i, S>>, Cause)>
         requires problem { draft.value.problem ≡ J.problem }
-        requires planner { number < J.planners }
+        requires planner { planner < J.planners }
         requires settles { Settles draft.value (after J.problem J.opening self.old) }
         ensures journal { IfOk result (λ _.
-            self.new ≡ self.old ++ entry_of number draft.entry.value.asked ∷ []) }
+            self.new ≡ self.old ++ entry_of planner draft.entry.value.asked ∷ []) }
         ensures err { IfErr result (λ refused. (self.new ≡ self.old)
             × (refused.0 ≡ draft.entry) × (refused.1 ≡ OutOfMemory)) }
     {
@@ -227,7 +223,7 @@ impl<'i, S: Sheet<'i>, J: Naming> Locked<S, J> {
             return Err((draft, Cause::NoMemory));
         }
         draft.lawful();
-        let Some(front) = extend(&self.front, &self.head, number, &draft) else {
+        let Some(front) = extend(&self.front, &self.head, planner, &draft) else {
             return Err((draft, Cause::NoMemory));
         };
         let work = Box::into_inner(draft).finish();
@@ -235,15 +231,11 @@ impl<'i, S: Sheet<'i>, J: Naming> Locked<S, J> {
         self.sheet.lawful();
         let Work { asked, changes } = work;
         let asked = AskedCalls::new(asked);
-        let entry = JournalEntry {
-            planner: number,
-            asked,
-        };
-        self.journal.push(entry).unwrap();
-        let count = self.counts[number.get() as usize];
+        self.journal.push(JournalEntry { planner, asked }).unwrap();
+        let count = self.counts[planner.get() as usize];
         let place = self.journal.len() as u64;
         prove!(count < place);
-        self.counts[number.get() as usize] = count + 1;
+        self.counts[planner.get() as usize] = count + 1;
         let update = Update::new(changes, self.front.again(), front.again());
         self.front = front;
         let publisher = self.publisher.take().unwrap().publish(rt, update);

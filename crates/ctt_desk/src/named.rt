@@ -1,6 +1,6 @@
 //! Openings of desks that have a name.
 
-ghost use Rattle.ctt_desk.specs.Names.{IsNamed};
+ghost use Rattle.ctt_desk.specs.Names.{IsNameOf};
 
 use crate::naming::Naming;
 use crate::opened::Opened;
@@ -16,5 +16,5 @@ pub struct Named<S: Timetable, J: Naming> {
     pub count: u16,
     /// The desk's name.
     pub name: PhantomData<J>,
-    ghost named: { IsNamed J.problem J.opening J.planners J.book opened count },
+    ghost named: { IsNameOf J.problem J.opening J.planners J.book opened count },
 }

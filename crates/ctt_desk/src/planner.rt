@@ -8,18 +8,18 @@ ghost use Rattle.ctt_draft.specs.Drafts.{calls_of, stale};
 ghost use Rattle.ctt_core.specs.Runs.{after, Legal};
 ghost use Rattle.ctt_desk.specs.Histories.{own};
 ghost use Rattle.ctt_desk.specs.Planners.{new_planner, committed_more, seen_up_to, Grows, IsOpen, IsViewed};
-ghost use Rattle.ctt_desk.specs.Refusals.{IsUnread};
+ghost use Rattle.ctt_desk.specs.Refusals.{HasNotRead};
 
 use crate::drafting::Drafting;
-use crate::front::Front;
 use crate::naming::Naming;
+use crate::observed_prefix::ObservedPrefix;
 use crate::receipt::Receipt;
 use crate::shared_fault::SharedFault;
 use crate::shown::{Place, Shown, enter};
 use ctt_board::{Sheet, Timetable};
 use ctt_core::PlannerNo;
 use ctt_draft::Draft;
-use ctt_edits::{Look, Reply, Row, laws};
+use ctt_edits::{Look, Reply, Row, edit_laws};
 use ctt_problem::NoMemory;
 use std::alloc::Global;
 use std::marker::Model;
@@ -30,7 +30,7 @@ pub struct Planner<S: Timetable, J: Naming> {
     pub(crate) alloc: Global,
     pub(crate) number: PlannerNo,
     pub(crate) committed: u64,
-    pub(crate) front: Front<J>,
+    pub(crate) front: ObservedPrefix<J>,
     /// `None` only while the planner reads.
     pub(crate) place: Option<Place<S, J>>,
 }
@@ -64,7 +64,12 @@ impl<S: Timetable, J: Naming> Model for Planner<S, J> {
 
 impl<S: Timetable, J: Naming> Planner<S, J> {
     /// Makes a planner who has committed and seen nothing.
-    pub(crate) fn new(alloc: Global, number: u16, front: &Front<J>, place: Place<S, J>) -> Self
+    pub(crate) fn new(
+        alloc: Global,
+        number: u16,
+        front: &ObservedPrefix<J>,
+        place: Place<S, J>,
+    ) -> Self
         requires number { number < J.planners }
         requires front { front.now ≡ [] }
         ensures { result ≡ new_planner number }
@@ -104,7 +109,7 @@ impl<S: Timetable, J: Naming> Planner<S, J> {
     }
 
     /// Returns a copy of the history that the planner has seen.
-    pub(crate) fn front(&self) -> Front<J>
+    pub(crate) fn front(&self) -> ObservedPrefix<J>
         ensures same { result ≡ self.now.front }
         ensures legal { Legal J.problem J.opening result }
     {
@@ -112,7 +117,7 @@ impl<S: Timetable, J: Naming> Planner<S, J> {
     }
 
     /// Returns whether a history begins with the planner's front.
-    pub(crate) fn begins(&self, history: &Front<J>) -> bool
+    pub(crate) fn begins(&self, history: &ObservedPrefix<J>) -> bool
         ensures begins { IsTrue result → IsPrefix self.now.front history.now }
         ensures shorter { IsTrue result ↔ (length self.now.front ≤ length history.now) }
     {
@@ -120,7 +125,7 @@ impl<S: Timetable, J: Naming> Planner<S, J> {
     }
 
     /// Replaces the planner's front.
-    pub(crate) fn seeing(self, front: Front<J>) -> Self
+    pub(crate) fn seeing(self, front: ObservedPrefix<J>) -> Self
         requires { self.committed ≤ length (own self.number front) }
         ensures { result ≡ seen_up_to self front }
     {
@@ -131,7 +136,7 @@ impl<S: Timetable, J: Naming> Planner<S, J> {
 
     /// Counts a commit, the last entry of `front`, and returns the planner with its receipt.
     #[inline(always)]
-    pub(crate) fn with_receipt(self, front: Front<J>) -> (Self, Receipt<J>)
+    pub(crate) fn with_receipt(self, front: ObservedPrefix<J>) -> (Self, Receipt<J>)
         requires { length (own self.number front) ≡ self.committed + 1 }
         ensures planner { result.0 ≡ committed_more (seen_up_to self front) }
         ensures receipt { result.1 ≡ front }
@@ -164,7 +169,7 @@ impl<'i, S: Sheet<'i>, J: Naming> Planner<S, J> {
     pub fn open(self) -> Result<Drafting<'i, S, J>, (Self, SharedFault)>
         ensures ok { IfOk result (IsOpen J.problem J.opening self) }
         ensures err { IfErr result (λ refused.
-            IsUnread J.problem J.opening self refused.0 refused.1) }
+            HasNotRead J.problem J.opening self refused.0 refused.1) }
     {
         let mut planner = self;
         match enter(planner.place.take().unwrap(), &planner.front) {
@@ -196,7 +201,7 @@ impl<'i, S: Sheet<'i>, J: Naming> Planner<S, J> {
         requires { LookFits J.problem look.now }
         ensures ok { IfOk result (IsViewed J.problem J.opening look.now self.old self.new) }
         ensures fits { IfOk result (IsReply J.problem) }
-        ensures err { IfErr result (IsUnread J.problem J.opening self.old self.new) }
+        ensures err { IfErr result (HasNotRead J.problem J.opening self.old self.new) }
     {
         match enter(self.place.take().unwrap(), &self.front) {
             Err(place) => {
@@ -219,7 +224,7 @@ impl<'i, S: Sheet<'i>, J: Naming> Planner<S, J> {
         ensures row { IfOk result (λ row. row ≡ stale J.problem draft.now.base
             (after J.problem J.opening self.new.front) (calls_of draft.now.asked)) }
         ensures grows { IfOk result (λ _. Grows J.problem J.opening self.old self.new) }
-        ensures err { IfErr result (IsUnread J.problem J.opening self.old self.new) }
+        ensures err { IfErr result (HasNotRead J.problem J.opening self.old self.new) }
     {
         match enter(self.place.take().unwrap(), &self.front) {
             Err(place) => {
@@ -264,7 +269,7 @@ fn look_at<'i, S: Sheet<'i>>(alloc: Global, sheet: &S, look: &Look) -> Result<Re
         told ≡ shown_of (S.problem sheet.now) (S.list sheet.now) look.now) }
     ensures fits { IfOk result (IsReply (S.problem sheet.now)) }
 {
-    laws::replies_fit();
+    edit_laws::replies_fit();
     sheet.instance().limits_hold();
     sheet.lawful();
     ctt_edits::look(alloc, sheet, look)

@@ -1,14 +1,14 @@
 //! The writer of the published copies.
 
 ghost use Rattle.std.specs.Prelude.{◌≡◌, ◌<◌, ◌^◌, [], IfOk};
-ghost use Rattle.ctt_desk.specs.Published.{IsAfter};
+ghost use Rattle.ctt_desk.specs.Published.{IsAfterHistory};
 
-use crate::front::Front;
 use crate::naming::Naming;
+use crate::observed_prefix::ObservedPrefix;
 use crate::shown::{Place, Published, Sees, Shown, View};
 use crate::update::Update;
 use ctt_board::Timetable;
-use ctt_problem::{NoMemory, let_go};
+use ctt_problem::{NoMemory, drop_whole};
 use left_right::Absorb;
 use left_right::writer::Writer;
 use std::alloc::Global;
@@ -46,12 +46,12 @@ impl<S: Timetable, J: Naming> Publisher<S, J> {
         rt: &R,
         alloc: Global,
         opening: &S,
-        front: &Front<J>,
+        front: &ObservedPrefix<J>,
         places: usize,
     ) -> Result<Self, NoMemory>
         requires places { (0 < places) × (places < 2 ^ 32) }
-        requires opening { IsAfter J.problem J.opening (S.problem opening.now) (S.list opening.now)
-            front.now }
+        requires opening { IsAfterHistory J.problem J.opening (S.problem opening.now)
+            (S.list opening.now) front.now }
         requires front { front.now ≡ [] }
         ensures { IfOk result (λ publisher. publisher.history ≡ []) }
     {
@@ -92,6 +92,6 @@ impl<S: Timetable, J: Naming> Publisher<S, J> {
     /// Ends the publishing: no reader can enter any more.
     pub(crate) fn end<R: Wait>(self, rt: &R) {
         let Publisher { writer, last: _ } = self;
-        let_go(writer.take(rt));
+        drop_whole(writer.take(rt));
     }
 }

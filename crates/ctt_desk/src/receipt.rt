@@ -4,14 +4,14 @@ ghost use Rattle.std.specs.Prelude.{◌≡◌, ◌≤◌, ◌↔◌, IsTrue, len
 ghost use mathlib.Core.List.{IsPrefix};
 ghost use Rattle.ctt_core.specs.Runs.{Legal};
 
-use crate::front::Front;
 use crate::naming::Naming;
+use crate::observed_prefix::ObservedPrefix;
 use std::marker::Model;
 
 /// Evidence that a draft was accepted. Contracts see the history that ends with that draft.
 #[derive(Drop)]
 pub struct Receipt<J: Naming> {
-    pub(crate) front: Front<J>,
+    pub(crate) front: ObservedPrefix<J>,
 }
 
 impl<J: Naming> Model for Receipt<J> {

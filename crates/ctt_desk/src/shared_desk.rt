@@ -7,17 +7,17 @@ ghost use Rattle.ctt_desk.specs.Planners.{new_planners};
 ghost use Rattle.ctt_desk.specs.Faults.{IsWant};
 
 use crate::closed::Closed;
-use crate::front::{Front, first};
 use crate::locked::{Locked, no_counts};
 use crate::named::Named;
 use crate::naming::Naming;
+use crate::observed_prefix::{ObservedPrefix, first};
 use crate::opened::Opened;
 use crate::planner::Planner;
 use crate::publisher::Publisher;
 use crate::shared_fault::SharedFault;
 use crate::shown::Shown;
 use ctt_board::Timetable;
-use ctt_problem::let_go;
+use ctt_problem::drop_whole;
 use left_right::Absorb;
 use std::alloc::Global;
 use std::sync::{Mutex, Wait};
@@ -34,7 +34,7 @@ where
 fn planners<S: Timetable, J: Naming>(
     alloc: Global,
     count: u16,
-    front: &Front<J>,
+    front: &ObservedPrefix<J>,
     publisher: &Publisher<S, J>,
 ) -> Result<Vec<Planner<S, J>>, SharedFault>
     requires count { count ≡ J.planners }
@@ -56,7 +56,10 @@ fn planners<S: Timetable, J: Naming>(
 }
 
 /// Returns whether a history begins with the front of each planner.
-fn begins_with_all<S: Timetable, J: Naming>(planners: &[Planner<S, J>], history: &Front<J>) -> bool
+fn begins_with_all<S: Timetable, J: Naming>(
+    planners: &[Planner<S, J>],
+    history: &ObservedPrefix<J>,
+) -> bool
     ensures begins { IsTrue result → All (λ p. IsPrefix p.front history.now) planners.now }
     ensures shorter { IsTrue result ↔ All (λ p. length p.front ≤ length history.now) planners.now }
 {
@@ -113,7 +116,7 @@ impl<S: Timetable, J: Naming> SharedDesk<S, J> {
                 Ok((desk, planners))
             }
             Err(fault) => {
-                let_go(locked.close(rt));
+                drop_whole(locked.close(rt));
                 Err(fault)
             }
         }

@@ -2,10 +2,10 @@
 
 ghost use Rattle.std.specs.Prelude.{◌≡◌, IfOk};
 ghost use mathlib.Core.List.{IsPrefix};
-ghost use Rattle.ctt_desk.specs.Published.{IsAfter};
+ghost use Rattle.ctt_desk.specs.Published.{IsAfterHistory};
 
-use crate::front::Front;
 use crate::naming::Naming;
+use crate::observed_prefix::ObservedPrefix;
 use crate::update::Update;
 use crossbeam_utils::rule::{Outcome, Protocol};
 use ctt_board::Timetable;
@@ -21,11 +21,11 @@ use std::marker::{Model, PhantomData};
 #[derive(Drop)]
 pub struct Shown<S: Timetable, J: Naming> {
     pub(crate) sheet: S,
-    pub(crate) front: Front<J>,
+    pub(crate) front: ObservedPrefix<J>,
 }
 
 impl<S: Timetable, J: Naming> Model for Shown<S, J> {
-    ghost use Rattle.ctt_desk.specs.Published.{IsAfter, ShownValue};
+    ghost use Rattle.ctt_desk.specs.Published.{IsAfterHistory, ShownValue};
 
     ghost Value = { ShownValue };
 
@@ -36,16 +36,17 @@ impl<S: Timetable, J: Naming> Model for Shown<S, J> {
     } };
 
     ghost invariant = { λ s.
-        IsAfter J.problem J.opening (S.problem s.sheet) (S.list s.sheet) s.front };
+        IsAfterHistory J.problem J.opening (S.problem s.sheet) (S.list s.sheet) s.front };
 }
 
 impl<S: Timetable, J: Naming> Shown<S, J> {
     /// Copies a timetable together with its history.
-    pub(crate) fn copy_of(sheet: &S, front: &Front<J>) -> Result<Self, NoMemory>
-        requires { IsAfter J.problem J.opening (S.problem sheet.now) (S.list sheet.now) front.now }
+    pub(crate) fn copy_of(sheet: &S, front: &ObservedPrefix<J>) -> Result<Self, NoMemory>
+        requires { IsAfterHistory J.problem J.opening (S.problem sheet.now) (S.list sheet.now)
+            front.now }
         ensures history { IfOk result (λ shown. shown.history ≡ front.now) }
         ensures right { IfOk result (λ shown.
-            IsAfter J.problem J.opening shown.problem shown.list shown.history) }
+            IsAfterHistory J.problem J.opening shown.problem shown.list shown.history) }
     {
         Ok(Shown {
             sheet: sheet.copy()?,
@@ -58,7 +59,7 @@ impl<S: Timetable, J: Naming> Shown<S, J> {
         requires { update.now.before ≡ self.old.history }
         ensures history { self.new.history ≡ update.now.front }
         ensures grows { IsPrefix self.old.history self.new.history }
-        ensures right { IsAfter J.problem J.opening self.new.problem self.new.list
+        ensures right { IsAfterHistory J.problem J.opening self.new.problem self.new.list
             self.new.history }
     {
         self.sheet.apply_all(update.changes());
@@ -106,9 +107,9 @@ pub struct Sees<J: Naming> {
 }
 
 impl<S: Timetable, J: Naming> Outcome<Shown<S, J>, View> for Sees<J> {
-    ghost use Rattle.ctt_desk.specs.Published.{Shows};
+    ghost use Rattle.ctt_desk.specs.Published.{SeesPublished};
 
-    ghost then = { λ v x y w. Shows J.problem J.opening v y.problem y.list y.history w };
+    ghost then = { λ v x y w. SeesPublished J.problem J.opening v y.problem y.list y.history w };
 }
 
 /// The reader handle of a planner who is not reading.
@@ -121,10 +122,10 @@ pub(crate) type Visit<S, J> = Reading<Shown<S, J>, View, Published<J>>;
 /// Returns the place if the writer is gone, or if the copy is older than `front`.
 pub(crate) fn enter<S: Timetable, J: Naming>(
     place: Place<S, J>,
-    front: &Front<J>,
-) -> Result<(Visit<S, J>, Front<J>), Place<S, J>>
+    front: &ObservedPrefix<J>,
+) -> Result<(Visit<S, J>, ObservedPrefix<J>), Place<S, J>>
     ensures right { IfOk result (λ entered.
-        IsAfter J.problem J.opening entered.0.part.value.problem entered.0.part.value.list
+        IsAfterHistory J.problem J.opening entered.0.part.value.problem entered.0.part.value.list
         entered.1) }
     ensures begins { IfOk result (λ entered. IsPrefix front.now entered.1) }
 {

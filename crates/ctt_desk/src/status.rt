@@ -1,30 +1,30 @@
 //! What a planner with an open draft sees of the published timetable.
 
-ghost use Rattle.std.specs.Prelude.{◌≡◌, IfOk, IfErr};
+ghost use Rattle.std.specs.Prelude.{IfOk, IfErr};
 ghost use Rattle.ctt_edits.specs.Fitting.{IsReply};
 ghost use Rattle.ctt_edits.specs.Looks.{LookFits};
 ghost use Rattle.ctt_desk.specs.Planners.{IsSameDraft, IsStatus, IsViewed};
-ghost use Rattle.ctt_desk.specs.Refusals.{IsUnread};
+ghost use Rattle.ctt_desk.specs.Refusals.{HasNotRead};
 
 use crate::drafting::Drafting;
 use crate::naming::Naming;
 use crate::shared_fault::SharedFault;
 use ctt_board::Sheet;
-use ctt_core::Standing;
+use ctt_core::DraftStatus;
 use ctt_edits::{Look, Reply};
 
 impl<'i, S: Sheet<'i>, J: Naming> Drafting<'i, S, J> {
     /// Compares the draft with the latest published timetable, whose history the planner has then
     /// seen. The draft and its base are unchanged.
-    pub fn status(&mut self) -> Result<Standing, SharedFault>
+    pub fn status(&mut self) -> Result<DraftStatus, SharedFault>
         ensures ok { IfOk result (IsStatus J.problem J.opening self.old self.new) }
         ensures draft { IsSameDraft self.old self.new }
         ensures err { IfErr result
-            (IsUnread J.problem J.opening self.old.planner self.new.planner) }
+            (HasNotRead J.problem J.opening self.old.planner self.new.planner) }
     {
         let stale = self.planner.stale(&self.draft)?;
         let behind = self.planner.seen() - self.since.len();
-        Ok(Standing::of(&self.draft, behind, stale))
+        Ok(DraftStatus::of(&self.draft, behind, stale))
     }
 
     /// Looks at the latest published timetable, whose history the planner has then seen. The draft
@@ -36,7 +36,7 @@ impl<'i, S: Sheet<'i>, J: Naming> Drafting<'i, S, J> {
         ensures fits { IfOk result (IsReply J.problem) }
         ensures draft { IsSameDraft self.old self.new }
         ensures err { IfErr result
-            (IsUnread J.problem J.opening self.old.planner self.new.planner) }
+            (HasNotRead J.problem J.opening self.old.planner self.new.planner) }
     {
         self.planner.view(look)
     }

@@ -3,8 +3,8 @@
 ghost use Rattle.std.specs.Prelude.{◌≡◌, []};
 ghost use Rattle.ctt_desk.specs.Published.{Leads};
 
-use crate::front::Front;
 use crate::naming::Naming;
+use crate::observed_prefix::ObservedPrefix;
 use ctt_board::Change;
 use std::alloc::Global;
 use std::marker::Model;
@@ -13,8 +13,8 @@ use std::marker::Model;
 #[derive(Drop)]
 pub(crate) struct Update<J: Naming> {
     changes: Vec<Change>,
-    before: Front<J>,
-    front: Front<J>,
+    before: ObservedPrefix<J>,
+    front: ObservedPrefix<J>,
 }
 
 impl<J: Naming> Model for Update<J> {
@@ -29,7 +29,11 @@ impl<J: Naming> Model for Update<J> {
 
 impl<J: Naming> Update<J> {
     /// Makes the update of a commit that extends the history `before` to `front`.
-    pub(crate) fn new(changes: Vec<Change>, before: Front<J>, front: Front<J>) -> Self
+    pub(crate) fn new(
+        changes: Vec<Change>,
+        before: ObservedPrefix<J>,
+        front: ObservedPrefix<J>,
+    ) -> Self
         requires { Leads J.problem J.opening changes.items before front }
         ensures { result ≡ record { changes = changes.items; before = before; front = front } }
     {
@@ -41,7 +45,7 @@ impl<J: Naming> Update<J> {
     }
 
     /// Makes the update that changes nothing and leaves the history as it is.
-    pub(crate) fn none(alloc: Global, front: &Front<J>) -> Self
+    pub(crate) fn none(alloc: Global, front: &ObservedPrefix<J>) -> Self
         ensures { result ≡ record { changes = []; before = front.now; front = front.now } }
     {
         Update {
@@ -60,7 +64,7 @@ impl<J: Naming> Update<J> {
     }
 
     /// Returns the history after the commit.
-    pub(crate) fn front(&self) -> &Front<J>
+    pub(crate) fn front(&self) -> &ObservedPrefix<J>
         ensures { result.now ≡ self.now.front }
     {
         &self.front

@@ -7,7 +7,7 @@ use Rattle.ctt_problem.specs.declared.placed.Placed.{Placed}
 use Rattle.ctt_rules.specs.Hard.{Lawful}
 use Rattle.ctt_board.specs.Changes.{apply, apply_all, ChangesFit}
 use Rattle.ctt_board.specs.declared.cell.Cell.{Cell}
-use Rattle.ctt_edits.specs.Calls.{CallFits, reply, cells_of, cells_if}
+use Rattle.ctt_edits.specs.Calls.{CallFits, reply, cells_of_call, cells_if}
 use Rattle.ctt_edits.specs.Edits.{EditFits, edit_fault, change}
 use Rattle.ctt_edits.specs.declared.call.Call.{Call}
 use Rattle.ctt_edits.specs.declared.call.Call.TheVariants.{Look as Looks, Edit as Edits}
@@ -43,8 +43,8 @@ pub whole_is : (i : Problem) (calls : List Call) (t : List Placed) → whole i t
 whole_is i [] t = refl
 whole_is i (call ∷ calls) t =
     whole_is i calls (after_call i t call)
-    ∙ ap (apply_all (changes i (after_call i t call) calls)) (sym (made_all (cells_of i t call) t))
-    ∙ sym (apply_all-append (made (cells_of i t call)) (changes i (after_call i t call) calls) t)
+    ∙ ap (apply_all (changes i (after_call i t call) calls)) (sym (made_all (cells_of_call i t call) t))
+    ∙ sym (apply_all-append (made (cells_of_call i t call)) (changes i (after_call i t call) calls) t)
 
 -- an edit changes something
 pub made_edit : (t : List Placed) (e : Edit) → made (change t e) ≡ change t e ∷ []
@@ -63,15 +63,15 @@ fits_if : (i : Problem) (t : List Placed) (e : Edit) (o : Option EditFault) → 
 fits_if i t e None k h f = rw (made_edit t e) (edits_fit i t e h f k, tt)
 fits_if i t e (Some fault) k h f = tt
 
-call_fits : (i : Problem) (t : List Placed) (call : Call) → Lawful i t → CallFits i call → ChangesFit i (made (cells_of i t call)) t
+call_fits : (i : Problem) (t : List Placed) (call : Call) → Lawful i t → CallFits i call → ChangesFit i (made (cells_of_call i t call)) t
 call_fits i t (Looks look) h f = tt
 call_fits i t (Edits e) h f = fits_if i t e (edit_fault i t e) refl h f
 
 pub changes_fit : (i : Problem) (t : List Placed) (calls : List Call) → Lawful i t → Each (CallFits i) calls → ChangesFit i (changes i t calls) t
 changes_fit i t [] h f = tt
 changes_fit i t (call ∷ calls) h f =
-    ChangesFit-append i (made (cells_of i t call)) (changes i (after_call i t call) calls) t (call_fits i t call h f.0)
-    (rw (made_all (cells_of i t call) t) (changes_fit i (after_call i t call) calls (lawful_after_call i t call h f.0) f.1))
+    ChangesFit-append i (made (cells_of_call i t call)) (changes i (after_call i t call) calls) t (call_fits i t call h f.0)
+    (rw (made_all (cells_of_call i t call) t) (changes_fit i (after_call i t call) calls (lawful_after_call i t call h f.0) f.1))
 
 -- one more call
 pub replies-push : (i : Problem) (t : List Placed) (calls : List Call) (call : Call) → replies i t (calls ++ call ∷ []) ≡ replies i t calls ++ reply i (whole i t calls) call ∷ []
@@ -82,8 +82,8 @@ pub whole-push : (i : Problem) (t : List Placed) (calls : List Call) (call : Cal
 whole-push i t [] call = refl
 whole-push i t (x ∷ xs) call = whole-push i (after_call i t x) xs call
 
-pub changes-push : (i : Problem) (t : List Placed) (calls : List Call) (call : Call) → changes i t (calls ++ call ∷ []) ≡ changes i t calls ++ made (cells_of i (whole i t calls) call)
-changes-push i t [] call = append-nil (made (cells_of i t call))
+pub changes-push : (i : Problem) (t : List Placed) (calls : List Call) (call : Call) → changes i t (calls ++ call ∷ []) ≡ changes i t calls ++ made (cells_of_call i (whole i t calls) call)
+changes-push i t [] call = append-nil (made (cells_of_call i t call))
 changes-push i t (x ∷ xs) call =
-    ap (λ rest. made (cells_of i t x) ++ rest) (changes-push i (after_call i t x) xs call)
-    ∙ sym (append_assoc (made (cells_of i t x)) (changes i (after_call i t x) xs) (made (cells_of i (whole i (after_call i t x) xs) call)))
+    ap (λ rest. made (cells_of_call i t x) ++ rest) (changes-push i (after_call i t x) xs call)
+    ∙ sym (append_assoc (made (cells_of_call i t x)) (changes i (after_call i t x) xs) (made (cells_of_call i (whole i (after_call i t x) xs) call)))

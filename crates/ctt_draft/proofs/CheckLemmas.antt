@@ -3,7 +3,7 @@ use Rattle.std.proofs.Common.{◌≡◌, List, [], Option, Some, None, Result, O
 use Rattle.ctt_problem.specs.Problem.{Problem}
 use Rattle.ctt_problem.specs.declared.placed.Placed.{Placed}
 use Rattle.ctt_board.specs.declared.cell.Cell.{Cell}
-use Rattle.ctt_edits.specs.Calls.{reply, cells_of, cells_if}
+use Rattle.ctt_edits.specs.Calls.{reply, cells_of_call, cells_if}
 use Rattle.ctt_edits.specs.Edits.{edit_fault, change, checked, checked_by}
 use Rattle.ctt_edits.specs.Looks.{told_or}
 use Rattle.ctt_edits.specs.declared.call.Call.TheVariants.{Edit as Edits}
@@ -26,7 +26,7 @@ accepted i k t u e got is same list =
     (ap₂ (λ p x. edit_fault p x e) (sym same) (sym list) ∙ h.0, h.1 ∙ ap (λ x. change x e) list)
 
 -- an edit that does not pass is refused with its fault, and changes nothing
-pub refused : (i k : Problem) (t u : List Placed) (e : Edit) (f : EditFault) → ◌≡◌ {A = Result (List Cell) EditFault} (Err f) (checked k u e) → k ≡ i → u ≡ t → (Refused f ≡ reply i t (Edits e)) × (cells_of i t (Edits e) ≡ [])
+pub refused : (i k : Problem) (t u : List Placed) (e : Edit) (f : EditFault) → ◌≡◌ {A = Result (List Cell) EditFault} (Err f) (checked k u e) → k ≡ i → u ≡ t → (Refused f ≡ reply i t (Edits e)) × (cells_of_call i t (Edits e) ≡ [])
 refused i k t u e f is same list =
     let h : edit_fault i t e ≡ Some f = ap₂ (λ p x. edit_fault p x e) (sym same) (sym list) ∙ err_is (edit_fault k u e) (change u e) f is in
     (sym (ap (λ o. told_or o Done) h), ap (λ o. cells_if o (change t e)) h)

@@ -11,7 +11,7 @@ use Rattle.ctt_board.specs.Changes.{room_at, holder_at}
 use Rattle.ctt_board.specs.declared.cell.Cell.{Cell}
 use Rattle.ctt_board.proofs.BetweenLemmas.{there_fits}
 use Rattle.ctt_board.proofs.SameLemmas.{room_by_course_row, room_by_slot_row, same_cell, differ}
-use Rattle.ctt_draft.specs.Undo.{is_of, is_named}
+use Rattle.ctt_draft.specs.Undo.{is_cell_of, is_named}
 use Rattle.ctt_draft.specs.Comparisons.{Compared, base_of, is_other, has_other_in_course, has_other_in_slot, is_none_or_named, agrees_in_room, IsComparable}
 use Rattle.ctt_draft.proofs.HeldLemmas.{held, stands, held_too}
 
@@ -40,17 +40,17 @@ some_other p P base sheet (x ∷ xs) h e same = elim (cases_Bool (p x && is_othe
 -- if the sheet differs from no cell that passes a test, it agrees with the snapshot in a recorded
 -- cell that passes
 none_other : (p : Cell → Bool) (base sheet : List Placed) (cells : List Cell) (c s : ℕ) → HasRooms base cells → list_any (λ x. p x && is_other sheet x) cells ≡ false
-    → ((x : Cell) → is_of c s x ≡ true → p x ≡ true) → is_named c s cells ≡ true → room_at c s base ≡ room_at c s sheet
+    → ((x : Cell) → is_cell_of c s x ≡ true → p x ≡ true) → is_named c s cells ≡ true → room_at c s base ≡ room_at c s sheet
 none_other p base sheet [] c s h e passes named = cc
 none_other p base sheet (x ∷ xs) c s h e passes named =
     let parts = or_parts (p x && is_other sheet x) (list_any (λ z. p z && is_other sheet z) xs) e in
-    elim (cases_Bool (is_of c s x)) [
+    elim (cases_Bool (is_cell_of c s x)) [
       | inl y ↦ (
           let fine : is_other sheet x ≡ false = sym (ap (λ b. b && is_other sheet x) (passes x y)) ∙ parts.0 in
           let at = and_parts (x.course == c) (x.slot == s) y in
           let there : room_at x.course x.slot base ≡ room_at x.course x.slot sheet = sym h.0 ∙ same_cell x.room (room_at x.course x.slot sheet) fine in
           sym (ap₂ (λ d e. room_at d e base) (eqb-true x.course c at.0) (eqb-true x.slot s at.1)) ∙ there ∙ ap₂ (λ d e. room_at d e sheet) (eqb-true x.course c at.0) (eqb-true x.slot s at.1))
-      | inr n ↦ none_other p base sheet xs c s h.1 parts.1 passes (rest (is_of c s x) (is_named c s xs) named n)
+      | inr n ↦ none_other p base sheet xs c s h.1 parts.1 passes (rest (is_cell_of c s x) (is_named c s xs) named n)
     ]
   where
     rest : (a b : Bool) → (a || b) ≡ true → a ≡ false → b ≡ true
@@ -66,10 +66,10 @@ unnamed s cells None e = cc
 unnamed s cells (Some c) e = (c, refl, e)
 
 module _ (v : Compared) (h : IsComparable v) where
-  course_passes : (c s : ℕ) (x : Cell) → is_of c s x ≡ true → (x.course == c) ≡ true
+  course_passes : (c s : ℕ) (x : Cell) → is_cell_of c s x ≡ true → (x.course == c) ≡ true
   course_passes c s x y = (and_parts (x.course == c) (x.slot == s) y).0
 
-  slot_passes : (c s : ℕ) (x : Cell) → is_of c s x ≡ true → (x.slot == s) ≡ true
+  slot_passes : (c s : ℕ) (x : Cell) → is_cell_of c s x ≡ true → (x.slot == s) ≡ true
   slot_passes c s x y = (and_parts (x.course == c) (x.slot == s) y).1
 
   -- the sheet differs from a recorded cell
@@ -90,7 +90,7 @@ module _ (v : Compared) (h : IsComparable v) where
       differ P (room_at c s v.present) (room_at c s v.sheet) (ap not parts.0) (λ q. h.records.others c s parts.1 ∙ same q)
 
   -- a cell of a row in which the sheet differs from no recorded cell
-  same_by : (p : Cell → Bool) (c s : ℕ) → list_any (λ x. p x && is_other v.sheet x) v.undo ≡ false → ((x : Cell) → is_of c s x ≡ true → p x ≡ true)
+  same_by : (p : Cell → Bool) (c s : ℕ) → list_any (λ x. p x && is_other v.sheet x) v.undo ≡ false → ((x : Cell) → is_cell_of c s x ≡ true → p x ≡ true)
       → (same_room (room_at c s v.present) (room_at c s v.sheet) || is_named c s v.undo) ≡ true → room_at c s (base_of v) ≡ room_at c s v.sheet
   same_by p c s none passes e = elim (cases_Bool (is_named c s v.undo)) [
     | inl y ↦ none_other p (base_of v) v.sheet v.undo c s h.records.rooms none passes y

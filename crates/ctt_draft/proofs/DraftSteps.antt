@@ -7,7 +7,7 @@ use Rattle.ctt_problem.specs.Problem.{Problem, course_count, slot_count}
 use Rattle.ctt_problem.specs.declared.placed.Placed.{Placed}
 use Rattle.ctt_board.specs.Changes.{apply, ChangeFits, apply_all, ChangesFit}
 use Rattle.ctt_board.specs.declared.cell.Cell.{Cell}
-use Rattle.ctt_edits.specs.Calls.{CallFits, reply, cells_of, cells_if, reads_course, reads_slot}
+use Rattle.ctt_edits.specs.Calls.{CallFits, reply, cells_of_call, cells_if, reads_course, reads_slot}
 use Rattle.ctt_edits.specs.RowSets.{RowSet, is_in, AddsReads}
 use Rattle.ctt_edits.specs.declared.row.Row.{Row}
 use Rattle.ctt_edits.specs.declared.row.Row.TheVariants.{Course as CourseRow, Slot as SlotRow}
@@ -81,14 +81,14 @@ module _ (i k : Problem) (base here : List Placed) (asked : List Asked) (old : L
   rebased = subst (λ b. IsDraft i k b here asked old undo rows) (sym back_to) d
 
   -- the cells of one more call
-  noted_here : (call : Call) → all_noted here (cells_of i here call) undo.cells ≡ undo_of base (changes i base (calls_of asked ++ call ∷ []))
+  noted_here : (call : Call) → all_noted here (cells_of_call i here call) undo.cells ≡ undo_of base (changes i base (calls_of asked ++ call ∷ []))
   noted_here call =
-      ap₂ (λ t cells. all_noted t (cells_of i t call) cells) d.present_is recorded_is
-      ∙ ap (λ t. all_noted t (cells_of i (whole i base (calls_of asked)) call) (undo_of base (changes i base (calls_of asked)))) (whole_is i (calls_of asked) base)
-      ∙ undo_made i (changes i base (calls_of asked)) base (cells_of i (whole i base (calls_of asked)) call) fit_there
+      ap₂ (λ t cells. all_noted t (cells_of_call i t call) cells) d.present_is recorded_is
+      ∙ ap (λ t. all_noted t (cells_of_call i (whole i base (calls_of asked)) call) (undo_of base (changes i base (calls_of asked)))) (whole_is i (calls_of asked) base)
+      ∙ undo_made i (changes i base (calls_of asked)) base (cells_of_call i (whole i base (calls_of asked)) call) fit_there
       ∙ ap (undo_of base) (sym (changes-push i base (calls_of asked) call))
 
-  pub undo_more_is : (call : Call) (undo' : UndoValue) → undo' ≡ more_noted here (cells_of i here call) undo → undo' ≡ record { courses = course_count i; slots = slot_count i; cells = undo_of base (changes i base (calls_of asked ++ call ∷ [])) }
+  pub undo_more_is : (call : Call) (undo' : UndoValue) → undo' ≡ more_noted here (cells_of_call i here call) undo → undo' ≡ record { courses = course_count i; slots = slot_count i; cells = undo_of base (changes i base (calls_of asked ++ call ∷ [])) }
   undo_more_is call undo' is =
       is
       ∙ ap₂ (λ (u : UndoValue) cells. record { courses = u.courses; slots = u.slots; cells = cells }) d.undo_is (noted_here call)
@@ -96,8 +96,8 @@ module _ (i k : Problem) (base here : List Placed) (asked : List Asked) (old : L
 -- the invariant holds after one more call: the call and its change are stored, its cells are
 -- recorded, and its rows marked
 pub draft_more : (i k l : Problem) (base here next : List Placed) (asked longer : List Asked) (a : Asked) (old new : List (List Cell)) (undo undo' : UndoValue) (rows rows' : RowSet) → IsDraft i k base here asked old undo rows →
-    longer ≡ asked ++ a ∷ [] → CallFits i a.call → a.reply ≡ reply i here a.call → l ≡ i → next ≡ after_call i here a.call → new ≡ old ++ made (cells_of i here a.call) →
-    undo' ≡ more_noted here (cells_of i here a.call) undo → AddsReads i a.call rows rows' → IsDraft i l base next longer new undo' rows'
+    longer ≡ asked ++ a ∷ [] → CallFits i a.call → a.reply ≡ reply i here a.call → l ≡ i → next ≡ after_call i here a.call → new ≡ old ++ made (cells_of_call i here a.call) →
+    undo' ≡ more_noted here (cells_of_call i here a.call) undo → AddsReads i a.call rows rows' → IsDraft i l base next longer new undo' rows'
 draft_more i k l base here next asked longer a old new undo undo' rows rows' d same f told of is more noted adds =
     let calls : calls_of longer ≡ calls_of asked ++ a.call ∷ [] = ap calls_of same ∙ calls-push asked a in
     record {
@@ -105,7 +105,7 @@ draft_more i k l base here next asked longer a old new undo undo' rows rows' d s
       present_of = of;
       is_told = subst (IsTold i base) (sym same) (told_more i base asked a d.is_told f (told ∙ ap (λ t. reply i t a.call) d.present_is));
       present_is = is ∙ ap (λ t. after_call i t a.call) d.present_is ∙ sym (whole-push i base (calls_of asked) a.call) ∙ ap (whole i base) (sym calls);
-      made_is = more ∙ ap₂ (λ xs t. xs ++ made (cells_of i t a.call)) d.made_is d.present_is ∙ sym (changes-push i base (calls_of asked) a.call) ∙ ap (changes i base) (sym calls);
+      made_is = more ∙ ap₂ (λ xs t. xs ++ made (cells_of_call i t a.call)) d.made_is d.present_is ∙ sym (changes-push i base (calls_of asked) a.call) ∙ ap (changes i base) (sym calls);
       undo_is = undo_more_is i k base here asked old undo rows d a.call undo' noted ∙ ap (λ xs. record { courses = course_count i; slots = slot_count i; cells = undo_of base (changes i base xs) }) (sym calls);
       courses_are = λ n lt. adds.courses n lt ∙ ap (λ b. b || reads_course i a.call n) (d.courses_are n lt) ∙ sym (any-push (λ call. reads_course i call n) (calls_of asked) a.call) ∙ ap (λ xs. all_read_course i xs n) (sym calls);
       slots_are = λ n lt. adds.slots n lt ∙ ap (λ b. b || reads_slot a.call n) (d.slots_are n lt) ∙ sym (any-push (λ call. reads_slot call n) (calls_of asked) a.call) ∙ ap (λ xs. all_read_slot xs n) (sym calls);
@@ -140,12 +140,12 @@ module _ (i j k : Problem) (base here : List Placed) (asked : List Asked) (old :
 -- the steps of a draft, by its value v
 module _ (i k : Problem) (base here : List Placed) (asked : List Asked) (old : List (List Cell)) (undo : UndoValue) (rows : RowSet) (v : DraftValue) (d : IsDraft i k base here asked old undo rows) (e : ◌≡◌ {A = DraftValue} (record { problem = i; base = base; asked = asked }) v) where
   -- a call that changes nothing
-  pub draft_kept : (longer : List Asked) (rows' : RowSet) (call : Call) (told : Reply) → longer ≡ asked ++ record { call = call; reply = told } ∷ [] → CallFits v.problem call → told ≡ reply v.problem (present v) call → cells_of v.problem (present v) call ≡ [] →
+  pub draft_kept : (longer : List Asked) (rows' : RowSet) (call : Call) (told : Reply) → longer ≡ asked ++ record { call = call; reply = told } ∷ [] → CallFits v.problem call → told ≡ reply v.problem (present v) call → cells_of_call v.problem (present v) call ≡ [] →
       AddsReads i call rows rows' → IsDraft i k base here longer old undo rows'
   draft_kept longer rows' call told same f t still adds =
       let f' : CallFits i call = subst (λ (w : DraftValue). CallFits w.problem call) (sym e) f in
       let t' : told ≡ reply i here call = subst (λ (w : DraftValue). told ≡ reply w.problem (present w) call) (sym e) t ∙ ap (λ u. reply i u call) (sym d.present_is) in
-      let still' : cells_of i here call ≡ [] = ap (λ u. cells_of i u call) d.present_is ∙ subst (λ (w : DraftValue). cells_of w.problem (present w) call ≡ []) (sym e) still in
+      let still' : cells_of_call i here call ≡ [] = ap (λ u. cells_of_call i u call) d.present_is ∙ subst (λ (w : DraftValue). cells_of_call w.problem (present w) call ≡ []) (sym e) still in
       draft_more i k k base here here asked longer (record { call = call; reply = told }) old old undo undo rows rows' d same f' t' d.present_of
       (ap (λ cells. apply cells here) (sym still')) (sym (ap (λ cells. old ++ made cells) still' ∙ append-nil old)) (ap (λ cells. more_noted here cells undo) (sym still')) adds
 
@@ -164,8 +164,8 @@ module _ (i k : Problem) (base here : List Placed) (asked : List Asked) (old : L
   draft_made longer rows' x cells l next new undo' same f free cells_are of is more noted adds =
       let f' : EditFits i x = subst (λ (w : DraftValue). EditFits w.problem x) (sym e) f in
       let free' : edit_fault i here x ≡ None = ap (λ u. edit_fault i u x) d.present_is ∙ subst (λ (w : DraftValue). edit_fault w.problem (present w) x ≡ None) (sym e) free in
-      let cells' : cells ≡ cells_of i here (Edits x) = subst (λ (w : DraftValue). cells ≡ change (present w) x) (sym e) cells_are ∙ ap (λ u. change u x) (sym d.present_is) ∙ sym (ap (λ o. cells_if o (change here x)) free') in
-      let one : made (cells_of i here (Edits x)) ≡ cells ∷ [] = ap (λ o. made (cells_if o (change here x))) free' ∙ made_edit here x ∙ ap (λ cs. cs ∷ []) (ap (λ o. cells_if o (change here x)) (sym free') ∙ sym cells') in
+      let cells' : cells ≡ cells_of_call i here (Edits x) = subst (λ (w : DraftValue). cells ≡ change (present w) x) (sym e) cells_are ∙ ap (λ u. change u x) (sym d.present_is) ∙ sym (ap (λ o. cells_if o (change here x)) free') in
+      let one : made (cells_of_call i here (Edits x)) ≡ cells ∷ [] = ap (λ o. made (cells_if o (change here x))) free' ∙ made_edit here x ∙ ap (λ cs. cs ∷ []) (ap (λ o. cells_if o (change here x)) (sym free') ∙ sym cells') in
       draft_more i k l base here next asked longer (record { call = Edits x; reply = Done }) old new undo undo' rows rows' d same f' (sym (ap (λ o. told_or o Done) free')) (of ∙ d.present_of)
       (is ∙ ap (λ cs. apply cs here) cells') (more ∙ ap (λ xs. old ++ xs) (sym one)) (noted ∙ ap (λ cs. more_noted here cs undo) cells') adds
 

@@ -13,14 +13,14 @@ use Rattle.ctt_board.specs.Changes.{apply, apply_all, ChangesFit}
 use Rattle.ctt_board.specs.declared.cell.Cell.{Cell}
 use Rattle.ctt_board.proofs.ApplyLemmas.{agree_apply}
 use Rattle.ctt_board.proofs.OrderLemmas.{in_order}
-use Rattle.ctt_edits.specs.Calls.{CallFits, cells_of, reads_course, reads_slot, row, Agree}
+use Rattle.ctt_edits.specs.Calls.{CallFits, cells_of_call, reads_course, reads_slot, row, Agree}
 use Rattle.ctt_edits.specs.declared.call.Call.{Call}
 use Rattle.ctt_edits.specs.declared.row.Row.{Row}
 use Rattle.ctt_edits.proofs.CallLemmas.{reply_same, cells_same}
 use Rattle.ctt_edits.proofs.ReadLemmas.{AgreeOn, agree_on}
-use Rattle.ctt_draft.specs.DraftValues.{DraftValue, IsTold, Settles}
+use Rattle.ctt_draft.specs.DraftValues.{SettlesAtOnce}
 use Rattle.ctt_draft.specs.Drafts.{calls_of, after_call, replies, made, changes, all_read_course, all_read_slot, all_reads, same_lecture, same_list, differs, stale}
-use Rattle.ctt_draft.specs.Laws.{DraftFrame, SettlingFits}
+use Rattle.ctt_draft.specs.DraftLaws.{DraftFrame, SettlingFits}
 use Rattle.ctt_draft.proofs.CallRuns.{lawful_after_call, whole_is, changes_fit}
 
 -- rows in which two timetables agree still agree after the same cells
@@ -41,9 +41,9 @@ run_same i p q (call ∷ calls) t u h k f a pc qs =
       courses = λ c y. a.courses c (pc c (or_left (reads_course i call c) (all_read_course i calls c) y));
       slots = λ s y. a.slots s (qs s (or_left (reads_slot call s) (all_read_slot calls s) y));
     } in
-    let same : cells_of i t call ≡ cells_of i u call = cells_same i call t u h.timetable k.timetable here in
+    let same : cells_of_call i t call ≡ cells_of_call i u call = cells_same i call t u h.timetable k.timetable here in
     let after : AgreeOn p q (after_call i t call) (after_call i u call) =
-    subst (λ cells. AgreeOn p q (after_call i t call) (apply cells u)) same (agree_after p q (cells_of i t call) t u h.timetable.ascending k.timetable.ascending a) in
+    subst (λ cells. AgreeOn p q (after_call i t call) (apply cells u)) same (agree_after p q (cells_of_call i t call) t u h.timetable.ascending k.timetable.ascending a) in
     let rest : (replies i (after_call i t call) calls ≡ replies i (after_call i u call) calls) × (changes i (after_call i t call) calls ≡ changes i (after_call i u call) calls) =
     run_same i p q calls (after_call i t call) (after_call i u call) (lawful_after_call i t call h f.0) (lawful_after_call i u call k f.0) f.1 after
     (λ c y. pc c (or_right (reads_course i call c) (all_read_course i calls c) y)) (λ s y. qs s (or_right (reads_slot call s) (all_read_slot calls s) y)) in
@@ -79,7 +79,7 @@ differs_by false t u r h = elim (cases_Bool (same_list (row r t) (row r u))) [
 ]
 
 -- no row of a timetable differs from itself, so nothing is stale there
-pub none_stale : (i : Problem) (t : List Placed) (calls : List Call) → stale i t t calls ≡ None
+none_stale : (i : Problem) (t : List Placed) (calls : List Call) → stale i t t calls ≡ None
 none_stale i t calls = none (all_reads i calls)
   where
     none : (rows : List Row) → find (differs t t) rows ≡ None
@@ -111,8 +111,7 @@ pub settling_fits : SettlingFits
 settling_fits i base now calls h k f fresh =
     subst (λ list. ChangesFit i list now) (draft_frame i base now calls h k f fresh).changes_same (changes_fit i now calls k f)
 
--- a draft can be settled on its snapshot
-pub settles_at_once : (d : DraftValue) → Lawful d.problem d.base → IsTold d.problem d.base d.asked → Settles d d.base
+pub settles_at_once : SettlesAtOnce
 settles_at_once d h told =
     let none = none_stale d.problem d.base (calls_of d.asked) in
-    record { fit = settling_fits d.problem d.base d.base (calls_of d.asked) h h told.fit none; same = draft_frame d.problem d.base d.base (calls_of d.asked) h h told.fit none }
+    (none, record { fit = settling_fits d.problem d.base d.base (calls_of d.asked) h h told.fit none; same = draft_frame d.problem d.base d.base (calls_of d.asked) h h told.fit none })

@@ -11,7 +11,7 @@ use Rattle.ctt_rules.proofs.ListLemmas.{Each-filter}
 use Rattle.ctt_board.specs.Changes.{cell, room_at, apply_all, ChangesFit}
 use Rattle.ctt_board.specs.declared.cell.Cell.{Cell}
 use Rattle.ctt_board.proofs.SameLemmas.{room_by_course_row}
-use Rattle.ctt_edits.specs.Calls.{cells_of, cells_if, edit_courses, reads_course}
+use Rattle.ctt_edits.specs.Calls.{cells_of_call, cells_if, edit_courses, reads_course}
 use Rattle.ctt_edits.specs.Edits.{edit_fault, change}
 use Rattle.ctt_edits.specs.RowSets.{RowSet}
 use Rattle.ctt_edits.specs.declared.call.Call.{Call}
@@ -21,8 +21,8 @@ use Rattle.ctt_edits.specs.declared.edit.Edit.TheVariants.{Place, Move, Swap, Re
 use Rattle.ctt_edits.specs.declared.fault.EditFault.{EditFault}
 use Rattle.ctt_draft.specs.Drafts.{calls_of, after_call, made, changes, all_read_course, stale}
 use Rattle.ctt_draft.specs.DraftValues.{DraftValue, IsDraft, refreshed}
-use Rattle.ctt_draft.specs.Laws.{SameOn}
-use Rattle.ctt_draft.specs.Undo.{is_of, first_named, found_in, all_cells, undo_of, put_back, UndoValue}
+use Rattle.ctt_draft.specs.DraftLaws.{SameOn}
+use Rattle.ctt_draft.specs.Undo.{is_cell_of, first_named, found_in, all_cells, undo_of, put_back, UndoValue}
 use Rattle.ctt_draft.specs.declared.asked.Asked.{Asked}
 use Rattle.ctt_draft.proofs.DraftSteps.{back_to, rebased}
 use Rattle.ctt_draft.proofs.FrameLemmas.{agree_read, draft_frame, settling_fits}
@@ -45,7 +45,7 @@ reads_if : (i : Problem) (t : List Placed) (e : Edit) (o : Option EditFault) →
 reads_if i t e None = edit_reads t e
 reads_if i t e (Some fault) = tt
 
-call_reads : (i : Problem) (t : List Placed) (call : Call) → Each (λ (x : Cell). reads_course i call x.course ≡ true) (cells_of i t call)
+call_reads : (i : Problem) (t : List Placed) (call : Call) → Each (λ (x : Cell). reads_course i call x.course ≡ true) (cells_of_call i t call)
 call_reads i t (Looks look) = tt
 call_reads i t (Edits e) = reads_if i t e (edit_fault i t e)
 
@@ -57,9 +57,9 @@ made_cells (x ∷ xs) rest = refl
 named_read : (i : Problem) (p : ℕ → Bool) (calls : List Call) (t : List Placed) → ((c : ℕ) → all_read_course i calls c ≡ true → p c ≡ true) → Each (λ (x : Cell). p x.course ≡ true) (all_cells (changes i t calls))
 named_read i p [] t h = tt
 named_read i p (call ∷ calls) t h =
-    rw (made_cells (cells_of i t call) (changes i (after_call i t call) calls))
-    (Each-append (λ (x : Cell). p x.course ≡ true) (cells_of i t call) (all_cells (changes i (after_call i t call) calls))
-    (Each-map (λ (x : Cell). reads_course i call x.course ≡ true) (λ (x : Cell). p x.course ≡ true) (λ x y. h x.course (or_left (reads_course i call x.course) (all_read_course i calls x.course) y)) (cells_of i t call) (call_reads i t call))
+    rw (made_cells (cells_of_call i t call) (changes i (after_call i t call) calls))
+    (Each-append (λ (x : Cell). p x.course ≡ true) (cells_of_call i t call) (all_cells (changes i (after_call i t call) calls))
+    (Each-map (λ (x : Cell). reads_course i call x.course ≡ true) (λ (x : Cell). p x.course ≡ true) (λ x y. h x.course (or_left (reads_course i call x.course) (all_read_course i calls x.course) y)) (cells_of_call i t call) (call_reads i t call))
     (named_read i p calls (after_call i t call) (λ c y. h c (or_right (reads_course i call c) (all_read_course i calls c) y))))
 
 -- cells in which two timetables agree are recorded with the same rooms
@@ -68,7 +68,7 @@ HasAlike t u x = room_at x.course x.slot t ≡ room_at x.course x.slot u
 
 first_alike : (t u : List Placed) (cells : List Cell) → Each (HasAlike t u) cells → Each (HasAlike t u) (first_named cells)
 first_alike t u [] h = tt
-first_alike t u (x ∷ xs) h = (h.0, Each-filter (HasAlike t u) (λ y. not (is_of x.course x.slot y)) (first_named xs) (first_alike t u xs h.1))
+first_alike t u (x ∷ xs) h = (h.0, Each-filter (HasAlike t u) (λ y. not (is_cell_of x.course x.slot y)) (first_named xs) (first_alike t u xs h.1))
 
 found_alike : (t u : List Placed) (cells : List Cell) → Each (HasAlike t u) cells → map (found_in t) cells ≡ map (found_in u) cells
 found_alike t u [] h = refl

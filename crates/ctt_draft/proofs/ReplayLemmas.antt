@@ -11,7 +11,7 @@ use Rattle.ctt_board.specs.Changes.{ChangeFits, apply, apply_at, cell, is_change
 use Rattle.ctt_board.specs.Fitting.{fits}
 use Rattle.ctt_board.specs.declared.cell.Cell.{Cell}
 use Rattle.ctt_board.proofs.FitLemmas.{fits_as_tested}
-use Rattle.ctt_edits.specs.Calls.{cells_of, cells_if}
+use Rattle.ctt_edits.specs.Calls.{cells_of_call, cells_if}
 use Rattle.ctt_edits.specs.Edits.{or_else, fault_if, try_room_of, edit_fault, change}
 use Rattle.ctt_edits.specs.declared.call.Call.{Call}
 use Rattle.ctt_edits.specs.declared.call.Call.TheVariants.{Look as Looks, Edit as Edits}
@@ -72,13 +72,13 @@ change_if : (i : Problem) (t : List Placed) (e : Edit) (o : Option EditFault) �
 change_if i t e None k = rw (made_edit t e) (edit_is_change i t e k, tt)
 change_if i t e (Some fault) k = tt
 
-call_is_change : (i : Problem) (t : List Placed) (call : Call) → Each (λ x. is_change x ≡ true) (made (cells_of i t call))
+call_is_change : (i : Problem) (t : List Placed) (call : Call) → Each (λ x. is_change x ≡ true) (made (cells_of_call i t call))
 call_is_change i t (Looks look) = tt
 call_is_change i t (Edits e) = change_if i t e (edit_fault i t e) refl
 
 pub are_changes : (i : Problem) (t : List Placed) (calls : List Call) → Each (λ x. is_change x ≡ true) (changes i t calls)
 are_changes i t [] = tt
-are_changes i t (call ∷ calls) = Each-append (λ x. is_change x ≡ true) (made (cells_of i t call)) (changes i (after_call i t call) calls) (call_is_change i t call) (are_changes i (after_call i t call) calls)
+are_changes i t (call ∷ calls) = Each-append (λ x. is_change x ≡ true) (made (cells_of_call i t call)) (changes i (after_call i t call) calls) (call_is_change i t call) (are_changes i (after_call i t call) calls)
 
 pub draft_replays : DraftReplays
 draft_replays i base now calls h k f fresh =

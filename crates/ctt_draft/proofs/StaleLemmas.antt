@@ -12,7 +12,7 @@ use Rattle.ctt_edits.specs.declared.row.Row.TheVariants.{Course as CourseRow, Sl
 use Rattle.ctt_edits.proofs.MarkedRows.{below_same}
 use Rattle.ctt_draft.specs.Drafts.{calls_of, all_read_course, all_read_slot, differs, stale}
 use Rattle.ctt_draft.specs.DraftValues.{DraftValue, IsDraft, Settles}
-use Rattle.ctt_draft.specs.Laws.{DraftFrame, SettlingFits}
+use Rattle.ctt_draft.specs.DraftLaws.{DraftFrame, SettlingFits}
 use Rattle.ctt_draft.specs.Undo.{put_back, UndoValue}
 use Rattle.ctt_draft.specs.Comparisons.{Compared, base_of}
 use Rattle.ctt_draft.specs.declared.asked.Asked.{Asked}

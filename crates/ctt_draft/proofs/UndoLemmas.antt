@@ -16,40 +16,40 @@ use Rattle.ctt_board.specs.declared.cell.Cell.{Cell}
 use Rattle.ctt_board.proofs.RoomLemmas.{rooms_after}
 use Rattle.ctt_board.proofs.CellLemmas.{timetable_is, rows_same}
 use Rattle.ctt_draft.specs.Drafts.{made}
-use Rattle.ctt_draft.specs.Laws.{UndoPutsBack}
-use Rattle.ctt_draft.specs.Undo.{is_of, is_named, first_named, found_in, recorded, all_cells, undo_of, put_back, Records, noted, all_noted}
+use Rattle.ctt_draft.specs.DraftLaws.{UndoPutsBack}
+use Rattle.ctt_draft.specs.Undo.{is_cell_of, is_named, first_named, found_in, recorded, all_cells, undo_of, put_back, Records, noted, all_noted}
 
 -- naming the same place is symmetric
-turned : (x y : Cell) → is_of y.course y.slot x ≡ is_of x.course x.slot y
+turned : (x y : Cell) → is_cell_of y.course y.slot x ≡ is_cell_of x.course x.slot y
 turned x y = grind (arith, nat_tests)
 
 -- a cell of another place is not filtered out
-stays : (x : Cell) (c s : ℕ) → is_of c s x ≡ false → (y : Cell) → is_of c s y ≡ true → not (is_of x.course x.slot y) ≡ true
+stays : (x : Cell) (c s : ℕ) → is_cell_of c s x ≡ false → (y : Cell) → is_cell_of c s y ≡ true → not (is_cell_of x.course x.slot y) ≡ true
 stays x c s e y h = grind (arith, nat_tests)
 
 pub first_names : (c s : ℕ) (cells : List Cell) → is_named c s (first_named cells) ≡ is_named c s cells
 first_names c s [] = refl
-first_names c s (x ∷ xs) = elim (cases_Bool (is_of c s x)) [
+first_names c s (x ∷ xs) = elim (cases_Bool (is_cell_of c s x)) [
   | inl y ↦ rw y refl
-  | inr n ↦ rw n (any-filter_same (is_of c s) (λ y. not (is_of x.course x.slot y)) true (stays x c s n) (first_named xs) ∙ first_names c s xs)
+  | inr n ↦ rw n (any-filter_same (is_cell_of c s) (λ y. not (is_cell_of x.course x.slot y)) true (stays x c s n) (first_named xs) ∙ first_names c s xs)
 ]
 
 -- one more cell
 first_more : (xs : List Cell) (x : Cell) → first_named (xs ++ x ∷ []) ≡ cond (is_named x.course x.slot xs) (first_named xs) (first_named xs ++ x ∷ [])
 first_more [] x = refl
 first_more (y ∷ ys) x = ap (λ zs. y ∷ filter other zs) (first_more ys x) ∙ elim (cases_Bool (is_named x.course x.slot ys)) [
-  | inl named ↦ rw (named, or_right (is_of x.course x.slot y) true refl) refl
-  | inr new ↦ rw new (ap (λ zs. y ∷ zs) (filter-append other (first_named ys) (x ∷ [])) ∙ elim (cases_Bool (is_of x.course x.slot y)) [
+  | inl named ↦ rw (named, or_right (is_cell_of x.course x.slot y) true refl) refl
+  | inr new ↦ rw new (ap (λ zs. y ∷ zs) (filter-append other (first_named ys) (x ∷ [])) ∙ elim (cases_Bool (is_cell_of x.course x.slot y)) [
     | inl same ↦ rw (same, turned x y ∙ same) (ap (λ zs. y ∷ zs) (append-nil (filter other (first_named ys))))
     | inr apart ↦ rw (apart, turned x y ∙ apart) refl
   ])
 ]
   where
     other : Cell → Bool
-    other z = not (is_of y.course y.slot z)
+    other z = not (is_cell_of y.course y.slot z)
 
 pub record_names : (base : List Placed) (c s : ℕ) (cells : List Cell) → is_named c s (recorded base cells) ≡ is_named c s cells
-record_names base c s cells = any_mapped (is_of c s) (found_in base) (first_named cells) ∙ first_names c s cells
+record_names base c s cells = any_mapped (is_cell_of c s) (found_in base) (first_named cells) ∙ first_names c s cells
 
 -- the timetable agrees with the snapshot in all cells except these
 abbrev pub SameBeside : List Placed → List Placed → List Cell → Type 0
@@ -68,7 +68,7 @@ module _ (base t : List Placed) where
       ]
 
   unnamed_before : (named : List Cell) (x : Cell) → SameBeside base t named → SameBeside base t (named ++ x ∷ [])
-  unnamed_before named x same c s e = same c s (or_parts (is_named c s named) (is_named c s (x ∷ [])) (sym (list_any-append (is_of c s) named (x ∷ [])) ∙ e)).0
+  unnamed_before named x same c s e = same c s (or_parts (is_named c s named) (is_named c s (x ∷ [])) (sym (list_any-append (is_cell_of c s) named (x ∷ [])) ∙ e)).0
 
   -- the record after more cells are named
   pub all_noted_is : (xs named : List Cell) → SameBeside base t named → all_noted t xs (recorded base named) ≡ recorded base (named ++ xs)
@@ -86,16 +86,16 @@ found_rooms base (x ∷ xs) = (refl, found_rooms base xs)
 -- a room after cells that do not include its own, and after cells that do
 unnamed_by : (cells : List Cell) (c s : ℕ) (o : Option ℕ) → is_named c s cells ≡ false → room_by cells c s o ≡ o
 unnamed_by [] c s o e = refl
-unnamed_by (x ∷ xs) c s o e = (let parts = or_parts (is_of c s x) (is_named c s xs) e in ap (λ b. room_by xs c s (cond b x.room o)) parts.0 ∙ unnamed_by xs c s o parts.1)
+unnamed_by (x ∷ xs) c s o e = (let parts = or_parts (is_cell_of c s x) (is_named c s xs) e in ap (λ b. room_by xs c s (cond b x.room o)) parts.0 ∙ unnamed_by xs c s o parts.1)
 
 named_by : (base : List Placed) (cells : List Cell) (c s : ℕ) (o : Option ℕ) → Each (λ (x : Cell). x.room ≡ room_at x.course x.slot base) cells → is_named c s cells ≡ true → room_by cells c s o ≡ room_at c s base
 named_by base [] c s o h e = cc
 named_by base (x ∷ xs) c s o h e = elim (cases_Bool (is_named c s xs)) [
-  | inl later ↦ named_by base xs c s (cond (is_of c s x) x.room o) h.1 later
+  | inl later ↦ named_by base xs c s (cond (is_cell_of c s x) x.room o) h.1 later
   | inr last ↦ (
-      let here : is_of c s x ≡ true = here_is (is_of c s x) (is_named c s xs) e last in
+      let here : is_cell_of c s x ≡ true = here_is (is_cell_of c s x) (is_named c s xs) e last in
       let parts = and_parts (x.course == c) (x.slot == s) here in
-      unnamed_by xs c s (cond (is_of c s x) x.room o) last
+      unnamed_by xs c s (cond (is_cell_of c s x) x.room o) last
       ∙ ap (λ b. cond b x.room o) here
       ∙ h.0
       ∙ ap₂ (λ d e. room_at d e base) (eqb-true x.course c parts.0) (eqb-true x.slot s parts.1))
@@ -121,7 +121,7 @@ put_back_is i base t cells h records =
 all_unnamed : (i : Problem) (changes : List (List Cell)) (base : List Placed) → ChangesFit i changes base → SameBeside base (apply_all changes base) (all_cells changes)
 all_unnamed i [] base h c s e = refl
 all_unnamed i (x ∷ xs) base h c s e =
-    let parts = or_parts (is_named c s x) (is_named c s (all_cells xs)) (sym (list_any-append (is_of c s) x (all_cells xs)) ∙ e) in
+    let parts = or_parts (is_named c s x) (is_named c s (all_cells xs)) (sym (list_any-append (is_cell_of c s) x (all_cells xs)) ∙ e) in
     all_unnamed i xs (apply x base) h.1 c s parts.1 ∙ rooms_after x base h.0.cells_fit c s ∙ unnamed_by x c s (room_at c s base) parts.0
 
 pub undo_records : (i : Problem) (changes : List (List Cell)) (base : List Placed) → ChangesFit i changes base → Records base (apply_all changes base) (undo_of base changes)

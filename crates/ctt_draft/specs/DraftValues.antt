@@ -10,9 +10,9 @@ use Rattle.ctt_edits.specs.RowSets.{RowSet, has_course, has_slot}
 use Rattle.ctt_edits.specs.declared.call.Call.{Call}
 use Rattle.ctt_edits.specs.declared.reply.Reply.{Reply}
 use Rattle.ctt_edits.specs.declared.row.Row.{Row}
-use Rattle.ctt_draft.specs.Drafts.{calls_of, replies_in, replies, whole, changes, all_read_course, all_read_slot}
+use Rattle.ctt_draft.specs.Drafts.{calls_of, replies_in, replies, whole, changes, all_read_course, all_read_slot, stale}
 use Rattle.ctt_board.specs.Changes.{ChangesFit}
-use Rattle.ctt_draft.specs.Laws.{SameOn}
+use Rattle.ctt_draft.specs.DraftLaws.{SameOn}
 use Rattle.ctt_draft.specs.Undo.{undo_of, UndoValue}
 use Rattle.ctt_draft.specs.declared.asked.Asked.{Asked}
 
@@ -59,3 +59,7 @@ pub record IsDraft (i present_problem : Problem) (base present : List Placed) (a
 pub record Settles (d : DraftValue) (t : List Placed) : Type 0 where
   pub fit : ChangesFit d.problem (changes d.problem d.base (calls_of d.asked)) t
   pub same : SameOn d.problem d.base t (calls_of d.asked)
+
+-- a draft is not stale on its snapshot, and can be settled there
+abbrev pub SettlesAtOnce : Type 0
+SettlesAtOnce = (d : DraftValue) → Lawful d.problem d.base → IsTold d.problem d.base d.asked → (stale d.problem d.base d.base (calls_of d.asked) ≡ None) × Settles d d.base

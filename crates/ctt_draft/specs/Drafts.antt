@@ -6,7 +6,7 @@ use Rattle.ctt_problem.specs.Problem.{Problem}
 use Rattle.ctt_problem.specs.declared.placed.Placed.{Placed}
 use Rattle.ctt_board.specs.Changes.{apply}
 use Rattle.ctt_board.specs.declared.cell.Cell.{Cell}
-use Rattle.ctt_edits.specs.Calls.{CallFits, reply, cells_of, reads_course, reads_slot, rows_where, row}
+use Rattle.ctt_edits.specs.Calls.{CallFits, reply, cells_of_call, reads_course, reads_slot, rows_where, row}
 use Rattle.ctt_edits.specs.Fitting.{ReplyFits}
 use Rattle.ctt_edits.specs.declared.call.Call.{Call}
 use Rattle.ctt_edits.specs.declared.reply.Reply.{Reply}
@@ -28,7 +28,7 @@ AskedFits i a = CallFits i a.call × ReplyFits i a.reply
 
 -- the timetable after a call
 abbrev pub after_call : Problem → List Placed → Call → List Placed
-after_call i t call = apply (cells_of i t call) t
+after_call i t call = apply (cells_of_call i t call) t
 
 -- the replies to calls that are made on t in order, with no other changes in between
 abbrev pub replies : Problem → List Placed → List Call → List Reply
@@ -48,7 +48,7 @@ made (x ∷ xs) = (x ∷ xs) ∷ []
 -- the changes that calls made on t make, in order
 abbrev pub changes : Problem → List Placed → List Call → List (List Cell)
 changes i t [] = []
-changes i t (call ∷ calls) = made (cells_of i t call) ++ changes i (after_call i t call) calls
+changes i t (call ∷ calls) = made (cells_of_call i t call) ++ changes i (after_call i t call) calls
 
 -- some call reads the row of the course c
 abbrev pub all_read_course : Problem → List Call → ℕ → Bool

@@ -1,5 +1,5 @@
 pub mod Drafts
-pub mod Laws
+pub mod DraftLaws
 pub mod DraftValues
 pub mod Undo
 pub mod Comparisons

@@ -10,17 +10,17 @@ use Rattle.ctt_problem.specs.BitRows.{BitTable, is_marked_in}
 use Rattle.ctt_board.specs.declared.cell.Cell.{Cell}
 
 -- the cell is that of the course c in the slot s
-abbrev pub is_of : ℕ → ℕ → Cell → Bool
-is_of c s x = x.course == c && x.slot == s
+abbrev pub is_cell_of : ℕ → ℕ → Cell → Bool
+is_cell_of c s x = x.course == c && x.slot == s
 
 -- some cell is that of the course c in the slot s
 abbrev pub is_named : ℕ → ℕ → List Cell → Bool
-is_named c s cells = list_any (is_of c s) cells
+is_named c s cells = list_any (is_cell_of c s) cells
 
 -- each cell once, at its first occurrence
 abbrev pub first_named : List Cell → List Cell
 first_named [] = []
-first_named (x ∷ xs) = x ∷ filter (λ y. not (is_of x.course x.slot y)) (first_named xs)
+first_named (x ∷ xs) = x ∷ filter (λ y. not (is_cell_of x.course x.slot y)) (first_named xs)
 
 -- the cell with the room that the timetable has there, if any
 abbrev pub found_in : List Placed → Cell → Cell

@@ -7,7 +7,7 @@ ghost use Rattle.ctt_problem.specs.Lists.{below};
 ghost use Rattle.ctt_problem.specs.Marks.{is_marked};
 ghost use Rattle.ctt_problem.specs.Problem.{course_count, slot_count, room_count};
 ghost use Rattle.ctt_problem.specs.Timetable.{IsTimetable, course_row, slot_row};
-ghost use Rattle.ctt_board.specs.Changes.{room_at, holder_at};
+ghost use Rattle.ctt_board.specs.Changes.{room_at};
 ghost use Rattle.ctt_edits.specs.RowSets.{has_course, has_slot};
 ghost use Rattle.ctt_edits.specs.declared.row.Row.TheVariants.{Course as CourseRow, Slot as SlotRow};
 ghost use Rattle.ctt_draft.specs.Drafts.{differs};

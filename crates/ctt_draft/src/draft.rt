@@ -2,7 +2,7 @@
 
 ghost use Rattle.std.specs.Prelude.{◌≡◌, [], List, IfOk, OnOk, OnErr, None, Ok};
 ghost use Rattle.ctt_problem.specs.declared.placed.Placed.{Placed as Lecture};
-ghost use Rattle.ctt_edits.specs.Calls.{CallFits, reply, cells_of};
+ghost use Rattle.ctt_edits.specs.Calls.{CallFits, reply, cells_of_call};
 ghost use Rattle.ctt_edits.specs.declared.call.Call.TheVariants.{Look as Looks, Edit as Edits};
 ghost use Rattle.ctt_edits.specs.declared.reply.Reply.TheVariants.{Done};
 ghost use Rattle.ctt_edits.specs.Edits.{EditFits, edit_fault, change as change_of};
@@ -14,7 +14,7 @@ ghost use Rattle.ctt_draft.specs.DraftValues.{present, asked_more, IsTold};
 ghost use Rattle.ctt_draft.specs.Undo.{undo_of};
 
 use crate::asked::Asked;
-use crate::laws;
+use crate::draft_laws;
 use crate::undo::Undo;
 use crate::work::Work;
 use ctt_board::{Cell, Change, Rooms, Sheet, Timetable};
@@ -117,7 +117,7 @@ impl<'i, S: Sheet<'i>> Draft<'i, S> {
             → replayed self.now.problem result.now t
             ≡ whole self.now.problem t (calls_of self.now.asked) }
     {
-        laws::draft_replays();
+        draft_laws::draft_replays();
         self.changes.as_slice()
     }
 
@@ -134,7 +134,7 @@ impl<'i, S: Sheet<'i>> Draft<'i, S> {
     fn keep(&mut self, call: Call, told: &Reply) -> Result<(), NoMemory>
         requires fits { CallFits self.old.problem call }
         requires told { told.now ≡ reply self.old.problem (present self.old) call }
-        requires still { cells_of self.old.problem (present self.old) call ≡ [] }
+        requires still { cells_of_call self.old.problem (present self.old) call ≡ [] }
         ensures ok { OnOk result (self.new ≡ asked_more self.old call told.now) }
         ensures err { OnErr result (self.new ≡ self.old) }
     {

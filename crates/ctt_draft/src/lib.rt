@@ -4,7 +4,7 @@
 mod asked;
 mod comparing;
 mod draft;
-pub mod laws;
+pub mod draft_laws;
 mod replaying;
 mod undo;
 mod work;

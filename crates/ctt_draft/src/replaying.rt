@@ -3,7 +3,7 @@
 ghost use Rattle.std.specs.Prelude.{◌≡◌};
 ghost use Rattle.ctt_draft.specs.Replays.{replayed, all_fit};
 
-use ctt_board::{Change, Timetable, laws};
+use ctt_board::{Change, Timetable, change_laws};
 
 /// Makes changes on a sheet, in order, stopping before the first that does not fit, and returns
 /// whether all were made. Allocates nothing.
@@ -13,7 +13,7 @@ pub fn replay<S: Timetable>(changes: &[Change], sheet: &mut S) -> bool
         ≡ replayed (S.problem sheet.old) changes.now (S.list sheet.old) }
     ensures all { result ≡ all_fit (S.problem sheet.old) changes.now (S.list sheet.old) }
 {
-    laws::fits_as_tested();
+    change_laws::fits_as_tested();
     for change in changes {
         if !sheet.accepts(change) {
             return false;

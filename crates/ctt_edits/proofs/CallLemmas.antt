@@ -10,8 +10,8 @@ use Rattle.ctt_problem.proofs.TimetableLemmas.{Each-map}
 use Rattle.ctt_rules.specs.Penalty.{penalty, row_cost}
 use Rattle.ctt_rules.proofs.ListLemmas.{filter_every}
 use Rattle.ctt_board.proofs.OrderLemmas.{in_order}
-use Rattle.ctt_edits.specs.Calls.{CallFits, reply, cells_if, cells_of, edit_courses, look_reads_course, look_reads_slot, reads_course, reads_slot}
-use Rattle.ctt_edits.specs.Laws.{CallFrame}
+use Rattle.ctt_edits.specs.Calls.{CallFits, reply, cells_if, cells_of_call, edit_courses, look_reads_course, look_reads_slot, reads_course, reads_slot}
+use Rattle.ctt_edits.specs.EditLaws.{CallFrame}
 use Rattle.ctt_edits.specs.Missing.{missing}
 use Rattle.ctt_edits.specs.Offers.{pattern_of}
 use Rattle.ctt_edits.specs.Looks.{LookFits, shown, told_or}
@@ -52,7 +52,7 @@ pub reply_same : (i : Problem) (call : Call) (t u : List Placed) → IsTimetable
 reply_same i (Looks look) t u h k f a = shown_same i look t u h k f (record { courses = a.courses; slots = a.slots })
 reply_same i (Edits e) t u h k f a = ap (λ x. told_or x Done) (fault_same i e t u (in_order t h.ascending) (in_order u k.ascending) (record { courses = a.courses; slots = a.slots }))
 
-pub cells_same : (i : Problem) (call : Call) (t u : List Placed) → IsTimetable i t → IsTimetable i u → AgreeOn (reads_course i call) (reads_slot call) t u → cells_of i t call ≡ cells_of i u call
+pub cells_same : (i : Problem) (call : Call) (t u : List Placed) → IsTimetable i t → IsTimetable i u → AgreeOn (reads_course i call) (reads_slot call) t u → cells_of_call i t call ≡ cells_of_call i u call
 cells_same i (Looks look) t u h k a = refl
 cells_same i (Edits e) t u h k a =
     let own : AgreeAt e t u = record { courses = a.courses; slots = a.slots } in

@@ -12,7 +12,7 @@ use Rattle.ctt_problem.proofs.TimetableLemmas.{Each-map, Each-append}
 use Rattle.ctt_board.proofs.PutLemmas.{put_is}
 use Rattle.ctt_edits.specs.Candidates.{from_to, first_choices, second_choices, edit_by, edits_with, edits_by, n_cheapest}
 use Rattle.ctt_edits.specs.Edits.{EditFits, edit_fault}
-use Rattle.ctt_edits.specs.Patterns.{FitsIfGiven, IsRoomIfGiven, PatternFits, choices, edits_of, with_price, feasible, is_cheaper, cheapest}
+use Rattle.ctt_edits.specs.Patterns.{FitsIfGiven, IsRoomIfGiven, PatternFits, given_or_all, edits_of, with_price, feasible, is_cheaper, cheapest}
 use Rattle.ctt_edits.proofs.PriceOrder.{inserted}
 use Rattle.ctt_edits.specs.declared.edit.Edit.{Edit}
 use Rattle.ctt_edits.specs.declared.edit.Edit.TheVariants.{Place, Move, Swap, Reroom}
@@ -97,7 +97,7 @@ pub edits_are : (i : Problem) (p : Pattern) → edits_by p (first_choices i p) (
 edits_are i (AnyPlace c s r) = refl
 edits_are i (AnyMove c s s2 r) = refl
 edits_are i (AnySwap c s) = refl
-edits_are i (AnyReroom c s r) = append-nil (map (λ y. Reroom c s y) (choices (room_count i) r))
+edits_are i (AnyReroom c s r) = append-nil (map (λ y. Reroom c s y) (given_or_all (room_count i) r))
 
 -- the cheapest of all edits of a pattern
 pub cheapest_is : (i : Problem) (t : List Placed) (n : ℕ) (p : Pattern) (list : List PricedEdit) (xs ys : List ℕ) → xs ≡ first_choices i p → ys ≡ second_choices i p → list ≡ n_cheapest n [] (feasible i t (edits_by p xs ys)) → list ≡ cheapest i t n p
@@ -119,11 +119,11 @@ range_within : (a m n : ℕ) → a + m ≤ n → Each (λ x. x < n) (range_with_
 range_within a zero n le = tt
 range_within a (suc m) n le = (omega (arith, le), range_within (a + 1) m n (omega (arith, le)))
 
-each_choice : (n : ℕ) (o : Option ℕ) → FitsIfGiven n o → Each (InChoices n o) (choices n o)
+each_choice : (n : ℕ) (o : Option ℕ) → FitsIfGiven n o → Each (InChoices n o) (given_or_all n o)
 each_choice n None h = range_within 0 n n (omega arith)
 each_choice n (Some y) h = ((h, refl), tt)
 
-each_room : (i : Problem) (o : Option ℕ) → IsRoomIfGiven i o → Each (InChoices (room_count i) o) (choices (room_count i) o)
+each_room : (i : Problem) (o : Option ℕ) → IsRoomIfGiven i o → Each (InChoices (room_count i) o) (given_or_all (room_count i) o)
 each_room i None h = each_choice (room_count i) None tt
 each_room i (Some r) h = each_choice (room_count i) (Some r) h.0
 
@@ -145,10 +145,10 @@ SecondOf i (AnyReroom c s r) y = InChoices (room_count i) r y
 
 -- what holds of each edit of a pattern
 pub each_edit : (i : Problem) (p : Pattern) (P : Edit → Type 0) → PatternFits i p → ((x y : ℕ) → FirstOf i p x → SecondOf i p y → P (edit_by p x y)) → Each P (edits_of i p)
-each_edit i (AnyPlace c s r) P f g = Each-pairs (InChoices (slot_count i) s) (InChoices (room_count i) r) P (Place c) (choices (slot_count i) s) (choices (room_count i) r) (each_choice (slot_count i) s f.1) (each_room i r f.2) g
-each_edit i (AnyMove c s s2 r) P f g = Each-pairs (InChoices (slot_count i) s2) (InChoices (room_count i) r) P (Move c s) (choices (slot_count i) s2) (choices (room_count i) r) (each_choice (slot_count i) s2 f.2) (each_room i r f.3) g
-each_edit i (AnySwap c s) P f g = Each-pairs (InChoices (course_count i) None) (InChoices (slot_count i) None) P (Swap c s) (choices (course_count i) None) (choices (slot_count i) None) (each_choice (course_count i) None tt) (each_choice (slot_count i) None tt) g
-each_edit i (AnyReroom c s r) P f g = Each-mapped P (Reroom c s) (choices (room_count i) r) (Each-map (InChoices (room_count i) r) (λ y. P (Reroom c s y)) (λ y k. g s y refl k) (choices (room_count i) r) (each_room i r f.2))
+each_edit i (AnyPlace c s r) P f g = Each-pairs (InChoices (slot_count i) s) (InChoices (room_count i) r) P (Place c) (given_or_all (slot_count i) s) (given_or_all (room_count i) r) (each_choice (slot_count i) s f.1) (each_room i r f.2) g
+each_edit i (AnyMove c s s2 r) P f g = Each-pairs (InChoices (slot_count i) s2) (InChoices (room_count i) r) P (Move c s) (given_or_all (slot_count i) s2) (given_or_all (room_count i) r) (each_choice (slot_count i) s2 f.2) (each_room i r f.3) g
+each_edit i (AnySwap c s) P f g = Each-pairs (InChoices (course_count i) None) (InChoices (slot_count i) None) P (Swap c s) (given_or_all (course_count i) None) (given_or_all (slot_count i) None) (each_choice (course_count i) None tt) (each_choice (slot_count i) None tt) g
+each_edit i (AnyReroom c s r) P f g = Each-mapped P (Reroom c s) (given_or_all (room_count i) r) (Each-map (InChoices (room_count i) r) (λ y. P (Reroom c s y)) (λ y k. g s y refl k) (given_or_all (room_count i) r) (each_room i r f.2))
 
 pub edit_fits : (i : Problem) (p : Pattern) (x y : ℕ) → PatternFits i p → FirstOf i p x → SecondOf i p y → EditFits i (edit_by p x y)
 edit_fits i (AnyPlace c s r) x y f a b = (f.0, choice_within (slot_count i) s x a, choice_within (room_count i) r y b)

@@ -9,7 +9,7 @@ use Rattle.ctt_board.specs.Changes.{room_at, cell, apply_at, CellFits, CellsFit}
 use Rattle.ctt_board.proofs.BetweenLemmas.{there_fits}
 use Rattle.ctt_board.proofs.RoomLemmas.{room_after}
 use Rattle.ctt_edits.specs.Edits.{or_else, fault_if, try_fault, try_room_of, edit_fault, change}
-use Rattle.ctt_edits.specs.Laws.{EditsKeepLawful, EditsFit}
+use Rattle.ctt_edits.specs.EditLaws.{EditsKeepLawful, EditsFit}
 use Rattle.ctt_edits.specs.declared.edit.Edit.{Edit}
 use Rattle.ctt_edits.specs.declared.edit.Edit.TheVariants.{Place, Move, Swap, Reroom, Drop}
 use Rattle.ctt_edits.specs.declared.fault.EditFault.{EditFault}

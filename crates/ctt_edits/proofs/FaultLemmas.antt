@@ -1,16 +1,15 @@
 -- What the absence of a fault implies.
-use Rattle.std.proofs.Common.{◌≡◌, ℕ, ℤ, Bool, true, false, leb, ◌==◌, List, length, Option, Some, None, is_some, Result, Ok, refl, ap}
-use Rattle.std.specs.List.{find}
-use Rattle.std.specs.Option.{option_map}
-use Rattle.std.proofs.lemmas.Bool.{leb-false}
-use Rattle.ctt_problem.specs.Problem.{Problem, course_of, clash, is_unavailable, is_barred, is_blocked}
-use Rattle.ctt_problem.specs.Timetable.{course_row, slot_row}
+use Rattle.std.proofs.Common.{◌≡◌, ℕ, ℤ, Bool, true, false, leb, List, length, Option, Some, None, is_none, is_some, Result, Ok, refl, ap}
+use Rattle.std.specs.Option.{option_map, option_or}
+use Rattle.ctt_problem.specs.Problem.{Problem, course_of, is_unavailable, is_barred, is_blocked}
+use Rattle.ctt_problem.specs.Timetable.{course_row}
 use Rattle.ctt_problem.specs.declared.placed.Placed.{Placed}
-use Rattle.ctt_board.specs.Changes.{room_of, room_at}
+use Rattle.ctt_board.specs.Changes.{room_at, clash_at, holder_at}
+use Rattle.ctt_board.specs.Fitting.{Obstacle, already_there, course_full, unavailable, barred, blocked, clash_with, taken_by, obstacle_if, obstacle}
 use Rattle.ctt_board.specs.declared.cell.Cell.{Cell}
-use Rattle.ctt_board.proofs.FitLemmas.{find_none}
+use Rattle.ctt_board.proofs.FitLemmas.{free_there}
 use Rattle.ctt_board.proofs.LawfulLemmas.{Free}
-use Rattle.ctt_edits.specs.Edits.{or_else, fault_if, fault_alone, first_course, try_fault, checked_by}
+use Rattle.ctt_edits.specs.Edits.{or_else, fault_if, as_fault, try_fault, checked_by}
 use Rattle.ctt_edits.specs.Looks.{priced_by}
 use Rattle.ctt_edits.specs.declared.fault.EditFault.{EditFault}
 use Rattle.ctt_edits.specs.declared.fault.EditFault.TheVariants.{AlreadyThere, CourseFull, Unavailable, Barred, Blocked, Clash, RoomTaken}
@@ -27,59 +26,30 @@ pub fault_if_none : (b : Bool) (f : EditFault) → fault_if b f ≡ None → b �
 fault_if_none true f h = cc
 fault_if_none false f h = refl
 
-named_none : (f : ℕ → EditFault) (o : Option Placed) → option_map f (option_map (λ (l : Placed). l.course) o) ≡ None → o ≡ None
-named_none f None h = refl
-named_none f (Some l) h = cc
+-- the faults of placing a lecture, in their order
+by_obstacles : (there full closed not_for not_then : Bool) (clashing taken : Option ℕ) →
+    option_map as_fault (option_or (obstacle_if there already_there) (option_or (obstacle_if full course_full) (option_or (option_or (obstacle_if closed unavailable) (option_or (obstacle_if not_for barred) (obstacle_if not_then blocked))) (option_or (option_map clash_with clashing) (option_map taken_by taken)))))
+    ≡ or_else (fault_if there AlreadyThere) (or_else (fault_if full CourseFull) (or_else (or_else (fault_if closed Unavailable) (or_else (fault_if not_for Barred) (fault_if not_then Blocked))) (or_else (option_map Clash clashing) (option_map RoomTaken taken))))
+by_obstacles true full closed not_for not_then clashing taken = refl
+by_obstacles false true closed not_for not_then clashing taken = refl
+by_obstacles false false true not_for not_then clashing taken = refl
+by_obstacles false false false true not_then clashing taken = refl
+by_obstacles false false false false true clashing taken = refl
+by_obstacles false false false false false (Some c) taken = refl
+by_obstacles false false false false false None (Some c) = refl
+by_obstacles false false false false false None None = refl
 
-no_room : (o : Option Placed) → is_some (room_of o) ≡ false → o ≡ None
-no_room None h = refl
-no_room (Some l) h = cc
+pub try_is : (i : Problem) (t : List Placed) (c s r : ℕ) →
+    try_fault i t c s r ≡ or_else (fault_if (is_some (room_at c s t)) AlreadyThere) (or_else (fault_if (leb (course_of i c).lectures (length (course_row c t))) CourseFull) (or_else (or_else (fault_if (is_unavailable i c s) Unavailable) (or_else (fault_if (is_barred i c r) Barred) (fault_if (is_blocked i r s) Blocked))) (or_else (option_map Clash (clash_at i c s t)) (option_map RoomTaken (holder_at s r t)))))
+try_is i t c s r = by_obstacles (is_some (room_at c s t)) (leb (course_of i c).lectures (length (course_row c t))) (is_unavailable i c s) (is_barred i c r) (is_blocked i r s) (clash_at i c s t) (holder_at s r t)
+
+none_first : (o : Option Obstacle) → option_map as_fault o ≡ None → is_none o ≡ true
+none_first None h = refl
+none_first (Some x) h = cc
 
 -- a lecture that can be placed
 pub free : (i : Problem) (t : List Placed) (c s r : ℕ) → try_fault i t c s r ≡ None → Free i t c s r
-free i t c s r e =
-    let e1 = or_else_none there rest1 e in
-    let e2 = or_else_none full rest2 e1.1 in
-    let e3 = or_else_none closed rest3 e2.1 in
-    let e4 = or_else_none clashes taken e3.1 in
-    let own = or_else_none (fault_if (is_unavailable i c s) Unavailable) unusable e3.0 in
-    let room = or_else_none (fault_if (is_barred i c r) Barred) (fault_if (is_blocked i r s) Blocked) own.1 in
-    let empty : is_some (room_at c s t) ≡ false = fault_if_none (is_some (room_at c s t)) AlreadyThere e1.0 in
-    record {
-      empty = empty;
-      absent = find_none (λ (l : Placed). l.slot == s) (course_row c t) (no_room (find (λ (l : Placed). l.slot == s) (course_row c t)) empty);
-      fewer = leb-false (course_of i c).lectures (length (course_row c t)) (fault_if_none (leb (course_of i c).lectures (length (course_row c t))) CourseFull e2.0);
-      allowed = (fault_if_none (is_unavailable i c s) Unavailable own.0, fault_if_none (is_barred i c r) Barred room.0, fault_if_none (is_blocked i r s) Blocked room.1);
-      no_clash = find_none (λ (l : Placed). clash i c l.course) (slot_row s t) (named_none Clash (find (λ (l : Placed). clash i c l.course) (slot_row s t)) e4.0);
-      room_free = find_none (λ (l : Placed). l.room == r) (slot_row s t) (named_none RoomTaken (find (λ (l : Placed). l.room == r) (slot_row s t)) e4.1);
-    }
-  where
-    there : Option EditFault
-    there = fault_if (is_some (room_at c s t)) AlreadyThere
-
-    full : Option EditFault
-    full = fault_if (leb (course_of i c).lectures (length (course_row c t))) CourseFull
-
-    unusable : Option EditFault
-    unusable = or_else (fault_if (is_barred i c r) Barred) (fault_if (is_blocked i r s) Blocked)
-
-    closed : Option EditFault
-    closed = fault_alone i c s r
-
-    clashes : Option EditFault
-    clashes = option_map Clash (first_course (λ l. clash i c l.course) (slot_row s t))
-
-    taken : Option EditFault
-    taken = option_map RoomTaken (first_course (λ l. l.room == r) (slot_row s t))
-
-    rest3 : Option EditFault
-    rest3 = or_else clashes taken
-
-    rest2 : Option EditFault
-    rest2 = or_else closed rest3
-
-    rest1 : Option EditFault
-    rest1 = or_else full rest2
+free i t c s r e = free_there i t c s r (none_first (obstacle i t c s r) e)
 
 -- the price of an edit whose change is known
 pub priced_is : (o : Option EditFault) (cells made : List Cell) (p : List Cell → ℤ) → ◌≡◌ {A = Result (List Cell) EditFault} (Ok made) (checked_by o cells) → ◌≡◌ {A = Result ℤ EditFault} (Ok (p made)) (priced_by o (p cells))

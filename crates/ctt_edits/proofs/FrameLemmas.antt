@@ -1,6 +1,7 @@
 -- The fault of an edit and its change depend on the rows that it reads.
 use Rattle.std.proofs.Common.{◌≡◌, ℕ, Bool, true, ◌||◌, ◌==◌, List, [], ◌∷◌, Option, Some, None, is_none, refl, ◌∙◌, ap, ap₂}
 use Rattle.std.specs.List.{filter, find}
+use Rattle.std.specs.Option.{option_map}
 use Rattle.std.proofs.lemmas.Bool.{eq-eqb, or_left, or_right}
 use Rattle.ctt_problem.specs.Lists.{has}
 use Rattle.ctt_problem.specs.Problem.{Problem}
@@ -9,7 +10,8 @@ use Rattle.ctt_problem.specs.declared.placed.Placed.{Placed}
 use Rattle.ctt_board.specs.Changes.{room_of, room_at, cell, apply_at}
 use Rattle.ctt_board.proofs.ApplyLemmas.{agree_at}
 use Rattle.ctt_board.proofs.OrderLemmas.{InOrder, InOrder-without}
-use Rattle.ctt_edits.specs.Edits.{or_else, fault_if, try_in, try_fault, try_room_of, change, edit_fault}
+use Rattle.ctt_board.specs.Fitting.{obstacle_in}
+use Rattle.ctt_edits.specs.Edits.{or_else, fault_if, as_fault, try_fault, try_room_of, change, edit_fault}
 use Rattle.ctt_edits.specs.declared.edit.Edit.{Edit}
 use Rattle.ctt_edits.specs.declared.edit.Edit.TheVariants.{Place, Move, Swap, Reroom, Drop}
 use Rattle.ctt_edits.specs.declared.fault.EditFault.TheVariants.{NotPlaced, SameSlot, SameCourse}
@@ -30,7 +32,7 @@ pub room_same : (c s : ℕ) (t u : List Placed) → course_row c t ≡ course_ro
 room_same c s t u e = ap (λ ls. room_of (find (λ l. l.slot == s) ls)) e
 
 try_same : (i : Problem) (c s r : ℕ) (t u : List Placed) → course_row c t ≡ course_row c u → slot_row s t ≡ slot_row s u → try_fault i t c s r ≡ try_fault i u c s r
-try_same i c s r t u e f = ap₂ (λ a b. try_in i c s r a b) e f
+try_same i c s r t u e f = ap₂ (λ a b. option_map as_fault (obstacle_in i c s r a b)) e f
 
 try_room_same : (i : Problem) (c s : ℕ) (r : Option ℕ) (t u : List Placed) → course_row c t ≡ course_row c u → slot_row s t ≡ slot_row s u → try_room_of i t c s r ≡ try_room_of i u c s r
 try_room_same i c s None t u e f = refl

@@ -98,7 +98,8 @@ part_none p t = none_below p 0 t (every t)
     every [] = tt
     every (l ∷ ls) = (omega arith, every ls)
 
--- the lectures of marked courses, by a test that says of each course of the instance whether it is marked
+-- the lectures of marked courses, by a test that says of each course of the instance whether it is
+-- marked
 pub part_marked : (count : ℕ) (p q : ℕ → Bool) (t : List Placed) → Each (λ (l : Placed). l.course < count) t → ((c : ℕ) → c < count → p c ≡ q c) → filter (λ (l : Placed). p l.course) t ≡ filter (λ (l : Placed). q l.course) t
 part_marked count p q [] fit same = refl
 part_marked count p q (x ∷ xs) fit same = elim (cases_Bool (q x.course)) [

@@ -12,10 +12,11 @@ use Rattle.ctt_problem.proofs.TimetableLemmas.{Each-map}
 use Rattle.ctt_rules.proofs.ListLemmas.{Pairwise-filter}
 use Rattle.ctt_board.specs.Changes.{room_at}
 use Rattle.ctt_edits.specs.Edits.{or_else, fault_if}
-use Rattle.ctt_edits.specs.Laws.{ClashIsLeast}
+use Rattle.ctt_edits.specs.EditLaws.{ClashIsLeast}
 use Rattle.ctt_edits.specs.declared.fault.EditFault.{EditFault}
 use Rattle.ctt_edits.specs.declared.fault.EditFault.TheVariants.{AlreadyThere, CourseFull, Unavailable, Barred, Blocked, Clash, RoomTaken}
 use Rattle.ctt_board.proofs.LawfulLemmas.{Each-from_filter}
+use Rattle.ctt_edits.proofs.FaultLemmas.{try_is}
 
 not_above : (a b : Placed) → before a b ≡ true → a.course ≤ b.course
 not_above a b lt = grind (arith, nat_tests)
@@ -56,7 +57,7 @@ least_first p (y ∷ ys) l h e = elim (cases_Bool (p y)) [
 
 pub clash_is_least : ClashIsLeast
 clash_is_least i t c s r d h e =
-    let e1 = later (is_some (room_at c s t)) AlreadyThere (Clash d) _ (λ z. cc) e in
+    let e1 = later (is_some (room_at c s t)) AlreadyThere (Clash d) _ (λ z. cc) (sym (try_is i t c s r) ∙ e) in
     let e2 = later (leb (course_of i c).lectures (length (course_row c t))) CourseFull (Clash d) _ (λ z. cc) e1 in
     let e3 = later_all (is_unavailable i c s) (is_barred i c r) (is_blocked i r s) Unavailable Barred Blocked (Clash d) _ (λ z. cc) (λ z. cc) (λ z. cc) e2 in
     let f = clashing (find (λ l. clash i c l.course) (slot_row s t)) (find (λ l. l.room == r) (slot_row s t)) d e3 in

@@ -1,5 +1,6 @@
--- What slots offer: prices that are accepted, faults that stand, and the least price is that of the cheapest edit.
-use Rattle.std.proofs.Common.{◌≡◌, ℕ, ℤ, zero, suc, ◌+◌, ◌<◌, ◌≤◌, Bool, true, false, not, cond, ◌==◌, nat_lt, List, [], ◌∷◌, ◌++◌, length, map, take, Option, Some, None, is_none, Ok, Err, refl, ◌∙◌, sym, ap, ap₂, subst, arith, inl, inr}
+-- What slots offer: prices that are accepted, faults that stand, and the least price is that of the
+-- cheapest edit.
+use Rattle.std.proofs.Common.{◌≡◌, ℕ, ℤ, zero, suc, ◌+◌, ◌<◌, ◌≤◌, Bool, true, false, not, cond, ◌==◌, List, [], ◌∷◌, length, map, take, Option, Some, None, is_none, Ok, refl, ◌∙◌, sym, ap, subst, arith, inl, inr}
 use Rattle.std.specs.Int.Signed.{lt_z}
 use Rattle.std.specs.List.{filter, find, fold, list_any, range_with_len, Contains, AllByRecursion as Each}
 use Rattle.std.specs.Option.{unwrap_or}
@@ -17,10 +18,10 @@ use Rattle.ctt_problem.proofs.ListLaws.{Each-mapped}
 use Rattle.ctt_problem.proofs.TimetableLemmas.{Each-map}
 use Rattle.ctt_rules.proofs.ListLemmas.{Each-every, Each-filter}
 use Rattle.ctt_edits.specs.Edits.{edit_fault}
-use Rattle.ctt_edits.specs.Laws.{SlotPriceStands, SlotPriceIsLeast, SlotFaultStands, SlotFaultIsLast, SlotsOffer, HasLeastOffer, CheapestIsLeastOffer}
+use Rattle.ctt_edits.specs.EditLaws.{SlotPriceStands, SlotPriceIsLeast, SlotFaultStands, SlotFaultIsLast, SlotsOffer, HasLeastOffer, CheapestIsLeastOffer}
 use Rattle.ctt_edits.specs.Looks.{price, priced, priced_by}
-use Rattle.ctt_edits.specs.Offers.{pattern_of, target, edits_to, rank, is_better, offer_by, offer, best, slot_offer, offers, other_choices, edit_to}
-use Rattle.ctt_edits.specs.Patterns.{PatternFits, choices, edits_of, with_price, feasible, is_cheaper, by_price, cheapest}
+use Rattle.ctt_edits.specs.Offers.{pattern_of, target, edits_to, fault_rank, is_better, offer_by, offer, best, slot_offer, offers, other_choices, edit_to}
+use Rattle.ctt_edits.specs.Patterns.{PatternFits, given_or_all, edits_of, with_price, feasible, is_cheaper, by_price}
 use Rattle.ctt_edits.specs.declared.edit.Edit.{Edit}
 use Rattle.ctt_edits.specs.declared.fault.EditFault.{EditFault}
 use Rattle.ctt_edits.specs.declared.offer.Offer.{Offer}
@@ -144,7 +145,7 @@ module _ (i : Problem) (t : List Placed) where
       let both = accepted (edit_fault i t e) (price i t e) cost k in
       subst (λ z. lt_z z p.price ≡ false) both.1 (subst (λ o. is_better (offer_by o (with_price i t e)) (Priced p) ≡ false) both.0 h)
 
-  comes_no_later : (o : Option EditFault) (x : PricedEdit) (f : EditFault) → is_better (offer_by o x) (Refused f) ≡ false → (g : EditFault) × (o ≡ Some g) × (rank g ≤ rank f)
+  comes_no_later : (o : Option EditFault) (x : PricedEdit) (f : EditFault) → is_better (offer_by o x) (Refused f) ≡ false → (g : EditFault) × (o ≡ Some g) × (fault_rank g ≤ fault_rank f)
   comes_no_later None x f h = cc
   comes_no_later (Some g) x f h = (g, refl, grind (arith, nat_tests, h))
 
@@ -163,7 +164,7 @@ slot_fault_stands i t p s f h =
 
 pub slot_fault_is_last : SlotFaultIsLast
 slot_fault_is_last i t p s f h =
-    Each-map (λ e. is_better (offer i t e) (Refused f) ≡ false) (λ e. (g : EditFault) × (edit_fault i t e ≡ Some g) × (rank g ≤ rank f))
+    Each-map (λ e. is_better (offer i t e) (Refused f) ≡ false) (λ e. (g : EditFault) × (edit_fault i t e ≡ Some g) × (fault_rank g ≤ fault_rank f))
     (λ e k. comes_no_later i t (edit_fault i t e) (with_price i t e) f k) (edits_to i p s) (best_fault i t (edits_to i p s) f h).least
 
 -- of some edits one is the best
@@ -186,7 +187,7 @@ some_of i t (e ∷ es) lt h =
     (Each-mapped (λ x. x ≡ Nothing → ⊥) (offer i t) es (Each-every (λ e. offer i t e ≡ Nothing → ⊥) (λ e. something (edit_fault i t e) (with_price i t e)) es))
     (best_from (offer i t e) (map (offer i t) es) ∙ h)
 
-some_choices : (n : ℕ) (o : Option ℕ) → 0 < n → 0 < length (choices n o)
+some_choices : (n : ℕ) (o : Option ℕ) → 0 < n → 0 < length (given_or_all n o)
 some_choices n None lt = rw (length-range_with_len 0 n) lt
 some_choices n (Some x) lt = omega arith
 

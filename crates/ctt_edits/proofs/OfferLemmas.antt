@@ -11,7 +11,7 @@ use Rattle.ctt_rules.proofs.ListLemmas.{Each-every, Each-filter, filter_none, fi
 use Rattle.ctt_edits.specs.Candidates.{from_to}
 use Rattle.ctt_edits.specs.Edits.{EditFits}
 use Rattle.ctt_edits.specs.Offers.{pattern_of, target, edits_to, is_better, offer, slot_offer, other_choices, edit_to}
-use Rattle.ctt_edits.specs.Patterns.{PatternFits, choices, edits_of}
+use Rattle.ctt_edits.specs.Patterns.{PatternFits, given_or_all, edits_of}
 use Rattle.ctt_edits.specs.declared.edit.Edit.{Edit}
 use Rattle.ctt_edits.specs.declared.edit.Edit.TheVariants.{Place, Move, Swap}
 use Rattle.ctt_edits.specs.declared.offer.Offer.{Offer}
@@ -66,11 +66,11 @@ one_leads g x n to lt = ap (filter (leads x)) (sym (singles g (range_with_len 0 
 
 -- the edits to a slot are those with each choice of the rest
 pub edits_to_are : (i : Problem) (p : SlotPattern) (x : ℕ) → x < slot_count i → edits_to i p x ≡ map (edit_to p x) (other_choices i p)
-edits_to_are i (SlotPlace c r) x lt = by_slot (Place c) (choices (room_count i) r) x (λ z y. refl) 0 (slot_count i) (omega arith) (omega (arith, lt))
-edits_to_are i (SlotMove c s r) x lt = by_slot (Move c s) (choices (room_count i) r) x (λ z y. refl) 0 (slot_count i) (omega arith) (omega (arith, lt))
+edits_to_are i (SlotPlace c r) x lt = by_slot (Place c) (given_or_all (room_count i) r) x (λ z y. refl) 0 (slot_count i) (omega arith) (omega (arith, lt))
+edits_to_are i (SlotMove c s r) x lt = by_slot (Move c s) (given_or_all (room_count i) r) x (λ z y. refl) 0 (slot_count i) (omega arith) (omega (arith, lt))
 edits_to_are i (SlotSwap c s) x lt =
-    let courses : List ℕ = choices (course_count i) None in
-    let slots : List ℕ = choices (slot_count i) None in
+    let courses : List ℕ = given_or_all (course_count i) None in
+    let slots : List ℕ = given_or_all (slot_count i) None in
     filter-flat_map (leads x) (λ d. map (Swap c s d) slots) courses
     ∙ flat_map_same (λ d. filter (leads x) (map (Swap c s d) slots)) (λ d. Swap c s d x ∷ []) courses (λ d. one_leads (Swap c s d) x (slot_count i) (λ z. refl) lt)
     ∙ singles (λ d. Swap c s d x) courses

@@ -1,12 +1,12 @@
 -- The order of offers, and the best of a list found one by one.
-use Rattle.std.proofs.Common.{◌≡◌, ℤ, ℕ, Bool, true, false, cond, not, ◌||◌, nat_lt, List, [], ◌∷◌, Option, Some, None, refl, ◌∙◌, sym, ap, arith, inl, inr}
+use Rattle.std.proofs.Common.{◌≡◌, ℤ, ℕ, Bool, true, false, cond, not, ◌||◌, nat_lt, List, [], ◌∷◌, Some, refl, ◌∙◌, sym, ap, arith, inl, inr}
 use Rattle.std.specs.Int.Signed.{lt_z}
 use Rattle.std.specs.List.{list_any, find, fold}
 use Rattle.std.specs.Option.{unwrap_or}
 use Rattle.std.proofs.lemmas.Bool.{cases_Bool}
 use Rattle.std.proofs.lemmas.Bool.Decides.{nat_tests}
 use Rattle.std.proofs.lemmas.Int.{ints}
-use Rattle.ctt_edits.specs.Offers.{rank, is_better, best}
+use Rattle.ctt_edits.specs.Offers.{fault_rank, is_better, best}
 use Rattle.ctt_edits.specs.declared.offer.Offer.{Offer}
 use Rattle.ctt_edits.specs.declared.offer.Offer.TheVariants.{Priced, Refused, Nothing}
 
@@ -38,7 +38,7 @@ after_than a b c h k = grind (arith, nat_tests)
 -- no offer is better than itself
 pub not_itself : (x : Offer) → is_better x x ≡ false
 not_itself (Priced a) = lower_not a.price
-not_itself (Refused f) = before_not (rank f)
+not_itself (Refused f) = before_not (fault_rank f)
 not_itself Nothing = refl
 
 -- what is better than a better one
@@ -50,7 +50,7 @@ still (Priced a) y (Refused g) h k = refl
 still (Priced a) y Nothing h k = refl
 still (Refused f) (Priced b) z h k = cc
 still (Refused f) (Refused g) (Priced d) h k = cc
-still (Refused f) (Refused g) (Refused e) h k = before_still (rank f) (rank g) (rank e) h k
+still (Refused f) (Refused g) (Refused e) h k = before_still (fault_rank f) (fault_rank g) (fault_rank e) h k
 still (Refused f) (Refused g) Nothing h k = refl
 still (Refused f) Nothing z h k = cc
 still Nothing y z h k = cc
@@ -64,7 +64,7 @@ better_than (Priced a) y (Refused g) h k = refl
 better_than (Priced a) y Nothing h k = refl
 better_than (Refused f) (Priced b) z h k = cc
 better_than (Refused f) (Refused g) (Priced d) h k = cc
-better_than (Refused f) (Refused g) (Refused e) h k = before_than (rank f) (rank g) (rank e) h k
+better_than (Refused f) (Refused g) (Refused e) h k = before_than (fault_rank f) (fault_rank g) (fault_rank e) h k
 better_than (Refused f) (Refused g) Nothing h k = refl
 better_than (Refused f) Nothing (Priced d) h k = cc
 better_than (Refused f) Nothing (Refused e) h k = cc
@@ -80,7 +80,7 @@ worse_than (Priced a) y (Refused g) h k = cc
 worse_than (Priced a) y Nothing h k = cc
 worse_than (Refused f) (Priced b) z h k = cc
 worse_than (Refused f) (Refused g) (Priced d) h k = refl
-worse_than (Refused f) (Refused g) (Refused e) h k = after_than (rank f) (rank g) (rank e) h k
+worse_than (Refused f) (Refused g) (Refused e) h k = after_than (fault_rank f) (fault_rank g) (fault_rank e) h k
 worse_than (Refused f) (Refused g) Nothing h k = cc
 worse_than (Refused f) Nothing (Priced d) h k = refl
 worse_than (Refused f) Nothing (Refused e) h k = refl

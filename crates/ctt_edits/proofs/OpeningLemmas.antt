@@ -13,7 +13,7 @@ use Rattle.ctt_board.proofs.CellLemmas.{row_same}
 use Rattle.ctt_board.proofs.RowLemmas.{course_row_is}
 use Rattle.ctt_edits.specs.Edits.{edit_fault, edited}
 use Rattle.ctt_edits.specs.Fitting.{FaultFits}
-use Rattle.ctt_edits.specs.Laws.{OpeningFaultsFit, OpeningIsLawful, RoomsDetermine}
+use Rattle.ctt_edits.specs.EditLaws.{OpeningFaultsFit, OpeningIsLawful, RoomsDetermine}
 use Rattle.ctt_edits.specs.Openings.{or_rest, placed_on}
 use Rattle.ctt_edits.specs.declared.edit.Edit.TheVariants.{Place}
 use Rattle.ctt_edits.specs.declared.fault.EditFault.{EditFault}

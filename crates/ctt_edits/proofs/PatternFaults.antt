@@ -8,7 +8,7 @@ use Rattle.ctt_problem.specs.declared.placed.Placed.{Placed}
 use Rattle.ctt_board.specs.Changes.{room_of, room_at}
 use Rattle.ctt_edits.specs.Candidates.{edit_by}
 use Rattle.ctt_edits.specs.Edits.{fault_if, edit_fault}
-use Rattle.ctt_edits.specs.Laws.{PatternFaultStands}
+use Rattle.ctt_edits.specs.EditLaws.{PatternFaultStands}
 use Rattle.ctt_edits.specs.Patterns.{pattern_fault}
 use Rattle.ctt_edits.specs.declared.fault.EditFault.{EditFault}
 use Rattle.ctt_edits.specs.declared.fault.EditFault.TheVariants.{NotPlaced, CourseFull}

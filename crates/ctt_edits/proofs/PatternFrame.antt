@@ -1,4 +1,5 @@
--- The fault of an edit pattern, the cheapest of its edits, and what slots offer to it, depend on the rows that the prices of its edits read.
+-- The fault of an edit pattern, the cheapest of its edits, and what slots offer to it, depend on
+-- the rows that the prices of its edits read.
 use Rattle.std.proofs.Common.{◌≡◌, ℕ, true, ◌==◌, List, [], ◌∷◌, Option, Some, None, is_none, length, map, nat_le, take, refl, ◌∙◌, sym, ap, ap₂, inl, inr}
 use Rattle.std.specs.List.{list_any, range_with_len, AllByRecursion as Each}
 use Rattle.std.proofs.lemmas.Bool.{cases_Bool, eq-eqb, or_left, or_right}

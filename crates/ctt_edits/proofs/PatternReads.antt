@@ -7,8 +7,8 @@ use Rattle.ctt_problem.specs.Lists.{has}
 use Rattle.ctt_problem.specs.Problem.{Problem, course_count, slot_count, room_count, mates}
 use Rattle.ctt_edits.specs.Calls.{edit_courses, edit_slots, with_mates, is_choice, pattern_reads_course, pattern_reads_slot}
 use Rattle.ctt_edits.specs.Candidates.{edit_by}
-use Rattle.ctt_edits.specs.Laws.{PatternReads}
-use Rattle.ctt_edits.specs.Patterns.{PatternFits, choices, edits_of}
+use Rattle.ctt_edits.specs.EditLaws.{PatternReads}
+use Rattle.ctt_edits.specs.Patterns.{PatternFits, given_or_all, edits_of}
 use Rattle.ctt_edits.specs.declared.edit.Edit.TheVariants.{Place, Move, Swap, Reroom}
 use Rattle.ctt_edits.specs.declared.pattern.Pattern.{Pattern}
 use Rattle.ctt_edits.specs.declared.pattern.Pattern.TheVariants.{Place as AnyPlace, Move as AnyMove, Swap as AnySwap, Reroom as AnyReroom}
@@ -62,11 +62,11 @@ has_range a (suc m) x le lt = elim (cases_eq a x) [
 alone : (y : ℕ) → has y (y ∷ []) ≡ true
 alone y = or_left (y == y) false (eq-eqb y y refl)
 
-in_choices : (n : ℕ) (o : Option ℕ) (z : ℕ) → z < n → is_choice o z ≡ true → has z (choices n o) ≡ true
+in_choices : (n : ℕ) (o : Option ℕ) (z : ℕ) → z < n → is_choice o z ≡ true → has z (given_or_all n o) ≡ true
 in_choices n None z lt e = has_range 0 n z (omega arith) (omega (arith, lt))
 in_choices n (Some y) z lt e = e
 
-a_choice : (n : ℕ) (o : Option ℕ) → 0 < n → (x : ℕ) × (has x (choices n o) ≡ true)
+a_choice : (n : ℕ) (o : Option ℕ) → 0 < n → (x : ℕ) × (has x (given_or_all n o) ≡ true)
 a_choice n None lt = (0, has_range 0 n 0 (omega arith) (omega (arith, lt)))
 a_choice n (Some y) lt = (y, alone y)
 
@@ -75,32 +75,32 @@ module _ (i : Problem) (rooms : 0 < room_count i) (slots : 0 < slot_count i) whe
   course_read (AnyPlace d s r) c lt e =
       let x = a_choice (slot_count i) s slots in
       let y = a_choice (room_count i) r rooms in
-      any_pair (λ f. with_mates i (edit_courses f) c) (Place d) (choices (slot_count i) s) (choices (room_count i) r) x.0 y.0 x.1 y.1 e
+      any_pair (λ f. with_mates i (edit_courses f) c) (Place d) (given_or_all (slot_count i) s) (given_or_all (room_count i) r) x.0 y.0 x.1 y.1 e
   course_read (AnyMove d s s2 r) c lt e =
       let x = a_choice (slot_count i) s2 slots in
       let y = a_choice (room_count i) r rooms in
-      any_pair (λ f. with_mates i (edit_courses f) c) (Move d s) (choices (slot_count i) s2) (choices (room_count i) r) x.0 y.0 x.1 y.1 e
+      any_pair (λ f. with_mates i (edit_courses f) c) (Move d s) (given_or_all (slot_count i) s2) (given_or_all (room_count i) r) x.0 y.0 x.1 y.1 e
   course_read (AnySwap d s) c lt e =
       let y = a_choice (slot_count i) None slots in
-      any_pair (λ f. with_mates i (edit_courses f) c) (Swap d s) (choices (course_count i) None) (choices (slot_count i) None) c y.0 (in_choices (course_count i) None c lt refl) y.1
+      any_pair (λ f. with_mates i (edit_courses f) c) (Swap d s) (given_or_all (course_count i) None) (given_or_all (slot_count i) None) c y.0 (in_choices (course_count i) None c lt refl) y.1
       (or_left (has c (d ∷ c ∷ [])) (list_any (λ b. mates i b c) (d ∷ c ∷ [])) (or_right (d == c) (has c (c ∷ [])) (alone c)))
   course_read (AnyReroom d s r) c lt e =
       let y = a_choice (room_count i) r rooms in
-      any_map (λ f. with_mates i (edit_courses f) c) (Reroom d s) (choices (room_count i) r) y.0 y.1 e
+      any_map (λ f. with_mates i (edit_courses f) c) (Reroom d s) (given_or_all (room_count i) r) y.0 y.1 e
 
   slot_read : (p : Pattern) (z : ℕ) → PatternFits i p → z < slot_count i → pattern_reads_slot p z ≡ true → list_any (λ e. has z (edit_slots e)) (edits_of i p) ≡ true
   slot_read (AnyPlace d s r) z f lt e =
       let y = a_choice (room_count i) r rooms in
-      any_pair (λ f. has z (edit_slots f)) (Place d) (choices (slot_count i) s) (choices (room_count i) r) z y.0 (in_choices (slot_count i) s z lt e) y.1 (alone z)
+      any_pair (λ f. has z (edit_slots f)) (Place d) (given_or_all (slot_count i) s) (given_or_all (room_count i) r) z y.0 (in_choices (slot_count i) s z lt e) y.1 (alone z)
   slot_read (AnyMove d s s2 r) z f lt e =
       let y = a_choice (room_count i) r rooms in
-      any_pair (λ f. has z (edit_slots f)) (Move d s) (choices (slot_count i) s2) (choices (room_count i) r) z y.0 (in_choices (slot_count i) s2 z lt e) y.1 (alone z)
+      any_pair (λ f. has z (edit_slots f)) (Move d s) (given_or_all (slot_count i) s2) (given_or_all (room_count i) r) z y.0 (in_choices (slot_count i) s2 z lt e) y.1 (alone z)
   slot_read (AnySwap d s) z f lt e =
-      any_pair (λ f. has z (edit_slots f)) (Swap d s) (choices (course_count i) None) (choices (slot_count i) None) d z (in_choices (course_count i) None d f.0 refl) (in_choices (slot_count i) None z lt refl)
+      any_pair (λ f. has z (edit_slots f)) (Swap d s) (given_or_all (course_count i) None) (given_or_all (slot_count i) None) d z (in_choices (course_count i) None d f.0 refl) (in_choices (slot_count i) None z lt refl)
       (or_right (s == z) (has z (z ∷ [])) (alone z))
   slot_read (AnyReroom d s r) z f lt e =
       let y = a_choice (room_count i) r rooms in
-      any_map (λ f. has z (edit_slots f)) (Reroom d s) (choices (room_count i) r) y.0 y.1 e
+      any_map (λ f. has z (edit_slots f)) (Reroom d s) (given_or_all (room_count i) r) y.0 y.1 e
 
 course_only : (i : Problem) (p : Pattern) (c x y : ℕ) → with_mates i (edit_courses (edit_by p x y)) c ≡ true → pattern_reads_course i p c ≡ true
 course_only i (AnyPlace d s r) c x y h = h

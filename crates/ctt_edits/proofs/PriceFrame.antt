@@ -1,4 +1,5 @@
--- The price of an edit depends on the rows that it reads: those of its courses, and those of their curriculum mates.
+-- The price of an edit depends on the rows that it reads: those of its courses, and those of their
+-- curriculum mates.
 use Rattle.std.proofs.Common.{◌≡◌, ℕ, ◌+◌, ◌<◌, Bool, true, false, cond, ◌&&◌, ◌||◌, ◌==◌, List, [], ◌∷◌, Option, Some, None, pos, ◌-ℤ◌, refl, ◌∙◌, ap, ap₂, arith, inl, inr}
 use Rattle.std.specs.List.{sum_by, list_any, AllByRecursion as Each}
 use Rattle.std.proofs.lemmas.Bool.{eq-eqb, eqb-true, or_cases, or_left, or_right}
@@ -38,7 +39,8 @@ sum_by_passing : {X : Type 0} (p : X → Bool) (f g : X → ℕ) (xs : List X) �
 sum_by_passing p f g [] e = refl
 sum_by_passing p f g (x ∷ xs) e = omega (arith, sum_by_passing p f g xs e.1, one_term (p x) (f x) (g x) e.0, sum_by-cons (λ y. cond (p y) (f y) 0) x xs, sum_by-cons (λ y. cond (p y) (g y) 0) x xs)
 
--- two timetables are the same in the rows of the courses and in the parts of the curricula that cells touch
+-- two timetables are the same in the rows of the courses and in the parts of the curricula that
+-- cells touch
 pub record AgreeTouched (i : Problem) (cells : List Cell) (t u : List Placed) : Type 0 where
   pub rows : (c : ℕ) → touches cells c ≡ true → course_row c t ≡ course_row c u
   pub parts : Each (λ q. touches_curriculum cells q ≡ true → lectures_of q t ≡ lectures_of q u) i.curricula
@@ -120,7 +122,8 @@ any_has p c (d ∷ ds) h y = elim (or_cases (d == c) (has c ds) h) [
   | inr more ↦ or_right (p d) (list_any p ds) (any_has p c ds more y)
 ]
 
--- with the rows of all mates of touched courses, the parts of the curricula that are touched are the same
+-- with the rows of all mates of touched courses, the parts of the curricula that are touched are
+-- the same
 mates_same : (cells : List Cell) (t u : List Placed) (qs : List (List ℕ)) → Ascending t → Ascending u → ((c d : ℕ) → touches cells c ≡ true → list_any (λ q. has c q && has d q) qs ≡ true → course_row d t ≡ course_row d u) → Each (λ q. touches_curriculum cells q ≡ true → lectures_of q t ≡ lectures_of q u) qs
 mates_same cells t u [] h k rows = tt
 mates_same cells t u (q ∷ qs) h k rows = (

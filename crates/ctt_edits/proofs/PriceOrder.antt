@@ -8,7 +8,7 @@ use Rattle.std.proofs.lemmas.Int.{ints}
 use Rattle.std.proofs.lemmas.List.{append-nil, append_assoc}
 use Rattle.ctt_problem.specs.Lists.{Pairwise, put}
 use Rattle.ctt_board.proofs.PutLemmas.{filter-put_no, filter-put_yes, Pairwise-put}
-use Rattle.ctt_edits.specs.Laws.{PricesAscend}
+use Rattle.ctt_edits.specs.EditLaws.{PricesAscend}
 use Rattle.ctt_edits.specs.Patterns.{is_cheaper}
 use Rattle.ctt_edits.specs.declared.priced_edit.PricedEdit.{PricedEdit}
 

@@ -1,4 +1,5 @@
--- The rows that a call reads: each once and in order, and what it says that two timetables agree there.
+-- The rows that a call reads: each once and in order, and what it says that two timetables agree
+-- there.
 use Rattle.std.proofs.Common.{◌≡◌, ℕ, zero, suc, ◌<◌, ◌≤◌, Bool, true, false, cond, ◌||◌, ◌==◌, eqb, List, [], ◌∷◌, ◌++◌, map, refl, ◌∙◌, sym, ap, subst, arith, inl, inr}
 use Rattle.std.specs.List.{filter, list_any, AllByRecursion as Each}
 use Rattle.std.specs.Cmp.{both_ways}
@@ -14,7 +15,7 @@ use Rattle.ctt_problem.proofs.TimetableLemmas.{Each-map}
 use Rattle.ctt_rules.proofs.ListLemmas.{filter_none, filter_within, Pairwise-filter}
 use Rattle.ctt_rules.proofs.TimetableLemmas.{courses_fit, slots_fit}
 use Rattle.ctt_edits.specs.Calls.{reads_course, reads_slot, rows_where, row, Agree, RowBefore}
-use Rattle.ctt_edits.specs.Laws.{ReadsAscend}
+use Rattle.ctt_edits.specs.EditLaws.{ReadsAscend}
 use Rattle.ctt_edits.specs.declared.row.Row.{Row}
 use Rattle.ctt_edits.specs.declared.row.Row.TheVariants.{Course as CourseRow, Slot as SlotRow}
 

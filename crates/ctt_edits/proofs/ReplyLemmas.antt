@@ -1,5 +1,5 @@
 -- The reply to a call on a lawful timetable fits and is short.
-use Rattle.std.proofs.Common.{◌≡◌, ℕ, zero, suc, pos, ◌-ℤ◌, ◌<◌, ◌≤◌, Bool, true, false, not, List, [], ◌∷◌, length, map, take, Option, Some, None, is_none, refl, arith, inl, inr}
+use Rattle.std.proofs.Common.{◌≡◌, ℕ, zero, suc, pos, ◌-ℤ◌, ◌<◌, ◌≤◌, Bool, true, false, not, List, [], ◌∷◌, length, map, take, Option, Some, None, is_none, refl, sym, subst, arith, inl, inr}
 use Rattle.std.proofs.lemmas.List.{append-nil, map-append, length-map, length-append, length-take}
 use Rattle.std.proofs.lemmas.List.FromFn.{length-range_with_len}
 use Rattle.std.proofs.lemmas.Int.{ints}
@@ -19,7 +19,7 @@ use Rattle.ctt_rules.specs.Penalty.{penalty, course_cost, total}
 use Rattle.ctt_rules.specs.declared.cost.Cost.{Cost}
 use Rattle.ctt_rules.proofs.ListLemmas.{Each-every, Each-filter, Each-take}
 use Rattle.ctt_rules.proofs.TimetableLemmas.{few_lectures, lectures_small}
-use Rattle.ctt_board.specs.Changes.{room_at, apply_at}
+use Rattle.ctt_board.specs.Changes.{room_at, course_named, apply_at}
 use Rattle.ctt_board.proofs.CostLemmas.{course_cost_small, penalty_small}
 use Rattle.ctt_edits.specs.declared.edit.Edit.{Edit}
 use Rattle.ctt_edits.specs.declared.edit.Edit.TheVariants.{Place, Move, Swap, Reroom, Drop}
@@ -31,12 +31,13 @@ use Rattle.ctt_edits.specs.declared.fault.EditFault.{EditFault}
 use Rattle.ctt_edits.specs.declared.fault.EditFault.TheVariants.{NotPlaced, SameSlot, SameCourse, AlreadyThere, CourseFull, Unavailable, Barred, Blocked, Clash, RoomTaken}
 use Rattle.ctt_edits.specs.declared.reply.Reply.{Reply}
 use Rattle.ctt_edits.specs.declared.reply.Reply.TheVariants.{Done, Price as Priced, Missing as AreMissing, Edits as AreCheapest, Slots as AreOffers}
-use Rattle.ctt_edits.specs.Edits.{EditFits, or_else, fault_if, first_course, try_fault, try_room_of, edit_fault, edited}
+use Rattle.ctt_edits.specs.Edits.{EditFits, or_else, fault_if, try_fault, try_room_of, edit_fault, edited}
 use Rattle.ctt_edits.specs.Looks.{LookFits, told_or, price, shown}
 use Rattle.ctt_edits.specs.Calls.{CallFits, reply}
 use Rattle.ctt_edits.proofs.EditLemmas.{room_fits, edits_keep_lawful}
+use Rattle.ctt_edits.proofs.FaultLemmas.{try_is}
 use Rattle.ctt_edits.specs.Fitting.{FaultFits, IsAmount, CostFits, AreFew, ShortfallFits, PricedFits, OfferFits, IsReply}
-use Rattle.ctt_edits.specs.Laws.{RepliesFit}
+use Rattle.ctt_edits.specs.EditLaws.{RepliesFit}
 use Rattle.ctt_edits.specs.Missing.{is_short, shortfall, missing}
 use Rattle.ctt_edits.specs.Offers.{pattern_of, edits_to, is_better, offer_by, offer, slot_offer, offers}
 use Rattle.ctt_edits.specs.Patterns.{PatternFits, pattern_fault, edits_of, with_price, feasible, is_cheaper, by_price, cheapest}
@@ -80,18 +81,19 @@ module _ (i : Problem) where
 
   -- the course of a lecture that was found
   module _ (fault : ℕ → EditFault) (fits : (c : ℕ) → c < course_count i → FaultFits i (fault c)) (p : Placed → Bool) where
-    named_fits : (ls : List Placed) → Each (Fits i) ls → MayFit i (option_map fault (first_course p ls))
+    named_fits : (ls : List Placed) → Each (Fits i) ls → MayFit i (option_map fault (course_named (find p ls)))
     named_fits [] h = record { fits = tt }
     named_fits (l ∷ ls) h = elim (cases_Bool (p l)) [ inl b ↦ rw b (record { fits = fits l.course h.0.0 }) | inr b ↦ rw b (named_fits ls h.1) ]
 
   try_fits : (t : List Placed) → Each (Fits i) t → (c s r : ℕ) → MayFit i (try_fault i t c s r)
   try_fits t h c s r =
       let slot : Each (Fits i) (slot_row s t) = Each-filter (Fits i) (λ l. l.slot == s) t h in
-      else_fits _ _ (if_fits _ AlreadyThere tt)
+      subst (MayFit i) (sym (try_is i t c s r))
+      (else_fits _ _ (if_fits _ AlreadyThere tt)
       (else_fits _ _ (if_fits _ CourseFull tt)
       (else_fits _ _ (else_fits _ _ (if_fits _ Unavailable tt) (else_fits _ _ (if_fits _ Barred tt) (if_fits _ Blocked tt)))
       (else_fits _ _ (named_fits Clash (λ d lt. lt) (λ l. clash i c l.course) (slot_row s t) slot)
-      (named_fits RoomTaken (λ d lt. lt) (λ l. l.room == r) (slot_row s t) slot))))
+      (named_fits RoomTaken (λ d lt. lt) (λ l. l.room == r) (slot_row s t) slot)))))
 
   try_room_fits : (t : List Placed) → Each (Fits i) t → (c s : ℕ) (o : Option ℕ) → MayFit i (try_room_of i t c s o)
   try_room_fits t h c s None = record { fits = tt }

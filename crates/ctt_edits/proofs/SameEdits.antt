@@ -1,6 +1,5 @@
 -- The tests of two edits, two priced edits and two offers hold of equal ones alone.
-use Rattle.std.proofs.Common.{rules, ◌≡◌, ◌∙◌, ◌&&◌, ◌==◌, true, false, refl, ap, ap₂, arith}
-use Rattle.std.proofs.lemmas.Bool.{eq-eqb, eqb-true}
+use Rattle.std.proofs.Common.{rules, ◌≡◌, true, refl, ap, arith}
 use Rattle.std.proofs.lemmas.Bool.Decides.{nat_tests}
 use Rattle.ctt_edits.specs.contracts.edit.EditPartialEq.TheImpl.{eq-value as edit_eq}
 use Rattle.ctt_edits.specs.contracts.fault.EditFaultPartialEq.TheImpl.{eq-value as fault_eq}

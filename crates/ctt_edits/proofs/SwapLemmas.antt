@@ -18,10 +18,11 @@ use Rattle.ctt_board.proofs.HolderLemmas.{holder_without, find_nowhere}
 use Rattle.ctt_board.proofs.LawfulLemmas.{Free, Each-from_filter, without_lawful, eqb_comm}
 use Rattle.ctt_board.proofs.PutLemmas.{filter_filter}
 use Rattle.ctt_board.proofs.RoomLemmas.{is_at, room_is, room_after, find-filter, find_put_no}
-use Rattle.ctt_edits.specs.Edits.{or_else, fault_if, fault_alone, try_fault, fault_in_place_of, edit_fault}
+use Rattle.ctt_edits.specs.Edits.{or_else, fault_if, try_fault, fault_in_place_of, edit_fault}
 use Rattle.ctt_edits.specs.declared.edit.Edit.TheVariants.{Swap}
 use Rattle.ctt_edits.specs.declared.fault.EditFault.{EditFault}
 use Rattle.ctt_edits.specs.declared.fault.EditFault.TheVariants.{AlreadyThere, CourseFull, Unavailable, Barred, Blocked, Clash, RoomTaken}
+use Rattle.ctt_edits.proofs.FaultLemmas.{try_is}
 
 -- the faults of a lecture in a free room that is not blocked
 abbrev in_place : Bool → Bool → Bool → Option ℕ → Option EditFault
@@ -44,10 +45,14 @@ by_parts : (there full : Bool) (closed : Option EditFault) (clashing taken : Opt
     ≡ or_else (fault_if there AlreadyThere) (or_else closed (option_map Clash clashing))
 by_parts there full closed clashing taken e h = rw (e, h) (ap (λ o. or_else (fault_if there AlreadyThere) (or_else closed o)) (or_none (option_map Clash clashing)))
 
+-- the first fault of a lecture by itself
+abbrev fault_alone : Problem → ℕ → ℕ → ℕ → Option EditFault
+fault_alone i c s r = or_else (fault_if (is_unavailable i c s) Unavailable) (or_else (fault_if (is_barred i c r) Barred) (fault_if (is_blocked i r s) Blocked))
+
 -- the first fault of placing a lecture in a free room, of a course with missing lectures
 in_free_room : (i : Problem) (t : List Placed) (c s r : ℕ) → length (course_row c t) < (course_of i c).lectures → holder_at s r t ≡ None →
     try_fault i t c s r ≡ or_else (fault_if (is_some (room_at c s t)) AlreadyThere) (or_else (fault_alone i c s r) (option_map Clash (clash_at i c s t)))
-in_free_room i t c s r fewer free = by_parts (is_some (room_at c s t)) (leb (course_of i c).lectures (length (course_row c t))) (fault_alone i c s r) (clash_at i c s t) (holder_at s r t) (lt-leb (course_of i c).lectures (length (course_row c t)) fewer) free
+in_free_room i t c s r fewer free = try_is i t c s r ∙ by_parts (is_some (room_at c s t)) (leb (course_of i c).lectures (length (course_row c t))) (fault_alone i c s r) (clash_at i c s t) (holder_at s r t) (lt-leb (course_of i c).lectures (length (course_row c t)) fewer) free
 
 -- the same if the room is not blocked in the slot
 in_unblocked_room : (i : Problem) (t : List Placed) (c s r : ℕ) → length (course_row c t) < (course_of i c).lectures → holder_at s r t ≡ None → is_blocked i r s ≡ false →

@@ -5,7 +5,7 @@ use Rattle.ctt_problem.specs.Timetable.{with, without}
 use Rattle.ctt_problem.specs.declared.placed.Placed.{Placed}
 use Rattle.ctt_board.specs.Changes.{room_at, apply_at}
 use Rattle.ctt_edits.specs.Edits.{or_else, fault_if, try_fault, try_room_of, edited}
-use Rattle.ctt_edits.specs.Laws.{EditIsTable}
+use Rattle.ctt_edits.specs.EditLaws.{EditIsTable}
 use Rattle.ctt_edits.specs.Table.{unless, then_try, exchange}
 use Rattle.ctt_edits.specs.declared.edit.Edit.TheVariants.{Place, Move, Swap, Reroom, Drop}
 use Rattle.ctt_edits.specs.declared.fault.EditFault.{EditFault}

@@ -39,9 +39,9 @@ cells_if None cells = cells
 cells_if (Some f) cells = []
 
 -- the cells that a call changes: those of an edit without a fault
-abbrev pub cells_of : Problem → List Placed → Call → List Cell
-cells_of i t (Looks look) = []
-cells_of i t (Edits e) = cells_if (edit_fault i t e) (change t e)
+abbrev pub cells_of_call : Problem → List Placed → Call → List Cell
+cells_of_call i t (Looks look) = []
+cells_of_call i t (Edits e) = cells_if (edit_fault i t e) (change t e)
 
 -- the courses whose rows an edit reads
 abbrev pub edit_courses : Edit → List ℕ

@@ -3,7 +3,7 @@ use Rattle.std.specs.Prelude.{ℕ, ◌-◌, List, map, take, Some, None}
 use Rattle.std.specs.List.{flat_map, fold, range_with_len}
 use Rattle.ctt_problem.specs.Lists.{put}
 use Rattle.ctt_problem.specs.Problem.{Problem, course_count, slot_count, room_count}
-use Rattle.ctt_edits.specs.Patterns.{choices, is_cheaper}
+use Rattle.ctt_edits.specs.Patterns.{given_or_all, is_cheaper}
 use Rattle.ctt_edits.specs.declared.edit.Edit.{Edit}
 use Rattle.ctt_edits.specs.declared.edit.Edit.TheVariants.{Place, Move, Swap, Reroom}
 use Rattle.ctt_edits.specs.declared.pattern.Pattern.{Pattern}
@@ -16,17 +16,17 @@ from_to a b = range_with_len a (b - a)
 
 -- the first choices, of a slot or another course
 abbrev pub first_choices : Problem → Pattern → List ℕ
-first_choices i (AnyPlace c s r) = choices (slot_count i) s
-first_choices i (AnyMove c s s2 r) = choices (slot_count i) s2
-first_choices i (AnySwap c s) = choices (course_count i) None
-first_choices i (AnyReroom c s r) = choices (slot_count i) (Some s)
+first_choices i (AnyPlace c s r) = given_or_all (slot_count i) s
+first_choices i (AnyMove c s s2 r) = given_or_all (slot_count i) s2
+first_choices i (AnySwap c s) = given_or_all (course_count i) None
+first_choices i (AnyReroom c s r) = given_or_all (slot_count i) (Some s)
 
 -- the second choices, of a room or the other slot
 abbrev pub second_choices : Problem → Pattern → List ℕ
-second_choices i (AnyPlace c s r) = choices (room_count i) r
-second_choices i (AnyMove c s s2 r) = choices (room_count i) r
-second_choices i (AnySwap c s) = choices (slot_count i) None
-second_choices i (AnyReroom c s r) = choices (room_count i) r
+second_choices i (AnyPlace c s r) = given_or_all (room_count i) r
+second_choices i (AnyMove c s s2 r) = given_or_all (room_count i) r
+second_choices i (AnySwap c s) = given_or_all (slot_count i) None
+second_choices i (AnyReroom c s r) = given_or_all (room_count i) r
 
 -- the edit with two choices
 abbrev pub edit_by : Pattern → ℕ → ℕ → Edit

@@ -1,11 +1,11 @@
 -- Edits: the first fault that holds, or else the change.
-use Rattle.std.specs.Prelude.{ℕ, ◌<◌, Bool, cond, ◌||◌, List, [], ◌∷◌, length, ◌==◌, nat_le, Option, Some, None, is_none, is_some, Result, Ok, Err}
-use Rattle.std.specs.List.{find}
+use Rattle.std.specs.Prelude.{ℕ, ◌<◌, Bool, cond, ◌||◌, List, [], ◌∷◌, ◌==◌, Option, Some, None, is_none, is_some, Result, Ok, Err}
 use Rattle.std.specs.Option.{option_map}
-use Rattle.ctt_problem.specs.Problem.{Problem, course_of, course_count, slot_count, room_count, clash, is_unavailable, is_barred, is_blocked}
-use Rattle.ctt_problem.specs.Timetable.{course_row, slot_row, without}
+use Rattle.ctt_problem.specs.Problem.{Problem, course_count, slot_count, room_count, is_unavailable, is_barred}
+use Rattle.ctt_problem.specs.Timetable.{without}
 use Rattle.ctt_problem.specs.declared.placed.Placed.{Placed}
-use Rattle.ctt_board.specs.Changes.{room_of, room_at, clash_at, cell, apply, apply_at}
+use Rattle.ctt_board.specs.Changes.{room_at, clash_at, cell, apply, apply_at}
+use Rattle.ctt_board.specs.Fitting.{Obstacle, already_there, course_full, unavailable, barred, blocked, clash_with, taken_by, obstacle}
 use Rattle.ctt_board.specs.declared.cell.Cell.{Cell}
 use Rattle.ctt_edits.specs.declared.edit.Edit.{Edit}
 use Rattle.ctt_edits.specs.declared.edit.Edit.TheVariants.{Place, Move, Swap, Reroom, Drop}
@@ -29,26 +29,19 @@ or_else (Some f) g = Some f
 abbrev pub fault_if : Bool → EditFault → Option EditFault
 fault_if b f = cond b (Some f) None
 
--- the course of the first lecture that passes
-abbrev pub first_course : (Placed → Bool) → List Placed → Option ℕ
-first_course p ls = option_map (λ (l : Placed). l.course) (find p ls)
-
--- the first fault of a lecture by itself, which depends on no row
-abbrev pub fault_alone : Problem → ℕ → ℕ → ℕ → Option EditFault
-fault_alone i c s r = or_else (fault_if (is_unavailable i c s) Unavailable) (or_else (fault_if (is_barred i c r) Barred) (fault_if (is_blocked i r s) Blocked))
-
--- the first fault of placing a lecture, given the row of its course and the row of its slot
-abbrev pub try_in : Problem → ℕ → ℕ → ℕ → List Placed → List Placed → Option EditFault
-try_in i c s r course slot =
-    or_else (fault_if (is_some (room_of (find (λ l. l.slot == s) course))) AlreadyThere)
-    (or_else (fault_if (nat_le (course_of i c).lectures (length course)) CourseFull)
-    (or_else (fault_alone i c s r)
-    (or_else (option_map Clash (first_course (λ l. clash i c l.course) slot))
-    (option_map RoomTaken (first_course (λ l. l.room == r) slot)))))
+-- what keeps a lecture from its place, as a fault
+abbrev pub as_fault : Obstacle → EditFault
+as_fault already_there = AlreadyThere
+as_fault course_full = CourseFull
+as_fault unavailable = Unavailable
+as_fault barred = Barred
+as_fault blocked = Blocked
+as_fault (clash_with c) = Clash c
+as_fault (taken_by c) = RoomTaken c
 
 -- the first fault of placing a lecture of course c in slot s and room r
 abbrev pub try_fault : Problem → List Placed → ℕ → ℕ → ℕ → Option EditFault
-try_fault i t c s r = try_in i c s r (course_row c t) (slot_row s t)
+try_fault i t c s r = option_map as_fault (obstacle i t c s r)
 
 -- the first fault of placing a lecture in a room, if a room is given
 abbrev pub try_room_of : Problem → List Placed → ℕ → ℕ → Option ℕ → Option EditFault

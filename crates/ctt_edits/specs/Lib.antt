@@ -9,4 +9,4 @@ pub mod RowSets
 pub mod Fitting
 pub mod Table
 pub mod Openings
-pub mod Laws
+pub mod EditLaws

@@ -6,7 +6,7 @@ use Rattle.std.specs.Option.{unwrap_or}
 use Rattle.ctt_problem.specs.Problem.{Problem, course_count, slot_count, room_count}
 use Rattle.ctt_problem.specs.declared.placed.Placed.{Placed}
 use Rattle.ctt_edits.specs.Edits.{edit_fault}
-use Rattle.ctt_edits.specs.Patterns.{choices, edits_of, with_price, is_cheaper}
+use Rattle.ctt_edits.specs.Patterns.{given_or_all, edits_of, with_price, is_cheaper}
 use Rattle.ctt_edits.specs.declared.edit.Edit.{Edit}
 use Rattle.ctt_edits.specs.declared.edit.Edit.TheVariants.{Place, Move, Swap, Reroom, Drop}
 use Rattle.ctt_edits.specs.declared.fault.EditFault.{EditFault}
@@ -37,26 +37,27 @@ target (Drop c s) = s
 abbrev pub edits_to : Problem → SlotPattern → ℕ → List Edit
 edits_to i p x = filter (λ e. target e == x) (edits_of i (pattern_of p))
 
--- what an edit offers: itself with its price, or why it is refused
+-- an edit with its price, or the fault for which it is refused
 abbrev pub offer_by : Option EditFault → PricedEdit → Offer
 offer_by None e = Priced e
 offer_by (Some f) e = Refused f
 
+-- what an edit offers on t: itself with its price, or why it is refused
 abbrev pub offer : Problem → List Placed → Edit → Offer
 offer i t e = offer_by (edit_fault i t e) (with_price i t e)
 
 -- the place of a fault in the order in which faults are looked for
-abbrev pub rank : EditFault → ℕ
-rank NotPlaced = 0
-rank SameSlot = 1
-rank SameCourse = 2
-rank AlreadyThere = 3
-rank CourseFull = 4
-rank Unavailable = 5
-rank Barred = 6
-rank Blocked = 7
-rank (Clash c) = 8
-rank (RoomTaken c) = 9
+abbrev pub fault_rank : EditFault → ℕ
+fault_rank NotPlaced = 0
+fault_rank SameSlot = 1
+fault_rank SameCourse = 2
+fault_rank AlreadyThere = 3
+fault_rank CourseFull = 4
+fault_rank Unavailable = 5
+fault_rank Barred = 6
+fault_rank Blocked = 7
+fault_rank (Clash c) = 8
+fault_rank (RoomTaken c) = 9
 
 -- a price is better than a fault, the lower of two prices, the later of two faults, and anything
 -- than nothing
@@ -65,7 +66,7 @@ is_better (Priced x) (Priced y) = is_cheaper x y
 is_better (Priced x) (Refused g) = true
 is_better (Priced x) Nothing = true
 is_better (Refused f) (Priced y) = false
-is_better (Refused f) (Refused g) = nat_lt (rank g) (rank f)
+is_better (Refused f) (Refused g) = nat_lt (fault_rank g) (fault_rank f)
 is_better (Refused f) Nothing = true
 is_better Nothing other = false
 
@@ -83,9 +84,9 @@ offers i t p = map (slot_offer i t p) (range_with_len 0 (slot_count i))
 
 -- the numbers that fill in the rest of a pattern, of a room or another course
 abbrev pub other_choices : Problem → SlotPattern → List ℕ
-other_choices i (SlotPlace c r) = choices (room_count i) r
-other_choices i (SlotMove c s r) = choices (room_count i) r
-other_choices i (SlotSwap c s) = choices (course_count i) None
+other_choices i (SlotPlace c r) = given_or_all (room_count i) r
+other_choices i (SlotMove c s r) = given_or_all (room_count i) r
+other_choices i (SlotSwap c s) = given_or_all (course_count i) None
 
 -- the edit to slot x with room or other course y
 abbrev pub edit_to : SlotPattern → ℕ → ℕ → Edit

@@ -1,4 +1,5 @@
--- Edit patterns: edits in which a part is left open. The edits that a pattern stands for, and the cheapest of them.
+-- Edit patterns: edits in which a part is left open. The edits that a pattern stands for, and the
+-- cheapest of them.
 use Rattle.std.specs.Prelude.{ℕ, ◌<◌, ◌≡◌, Bool, false, List, [], ◌∷◌, length, map, take, filter, nat_le, slice_index_or, codes, Option, Some, None, is_none}
 use Rattle.std.specs.Str.{bytes_eq}
 use Rattle.std.specs.Int.Signed.{lt_z}
@@ -36,16 +37,17 @@ PatternFits i (AnySwap c s) = (c < course_count i) × (s < slot_count i)
 PatternFits i (AnyReroom c s r) = (c < course_count i) × (s < slot_count i) × IsRoomIfGiven i r
 
 -- the given number, or all numbers below n, ascending, if none is given
-abbrev pub choices : ℕ → Option ℕ → List ℕ
-choices n None = range_with_len 0 n
-choices n (Some x) = x ∷ []
+abbrev pub given_or_all : ℕ → Option ℕ → List ℕ
+given_or_all n None = range_with_len 0 n
+given_or_all n (Some x) = x ∷ []
 
--- the edits that a pattern stands for, by slot and then by room; those of a swap by the other course and then by its slot
+-- the edits that a pattern stands for, by slot and then by room; those of a swap by the other
+-- course and then by its slot
 abbrev pub edits_of : Problem → Pattern → List Edit
-edits_of i (AnyPlace c s r) = flat_map (λ x. map (λ y. Place c x y) (choices (room_count i) r)) (choices (slot_count i) s)
-edits_of i (AnyMove c s s2 r) = flat_map (λ x. map (λ y. Move c s x y) (choices (room_count i) r)) (choices (slot_count i) s2)
-edits_of i (AnySwap c s) = flat_map (λ x. map (λ y. Swap c s x y) (choices (slot_count i) None)) (choices (course_count i) None)
-edits_of i (AnyReroom c s r) = map (λ y. Reroom c s y) (choices (room_count i) r)
+edits_of i (AnyPlace c s r) = flat_map (λ x. map (λ y. Place c x y) (given_or_all (room_count i) r)) (given_or_all (slot_count i) s)
+edits_of i (AnyMove c s s2 r) = flat_map (λ x. map (λ y. Move c s x y) (given_or_all (room_count i) r)) (given_or_all (slot_count i) s2)
+edits_of i (AnySwap c s) = flat_map (λ x. map (λ y. Swap c s x y) (given_or_all (slot_count i) None)) (given_or_all (course_count i) None)
+edits_of i (AnyReroom c s r) = map (λ y. Reroom c s y) (given_or_all (room_count i) r)
 
 -- why each edit of a pattern is refused, if one reason holds for all: the lecture that it names is
 -- not placed, or all lectures of its course are

@@ -9,8 +9,8 @@ ghost use Rattle.ctt_edits.specs.declared.edit.Edit.TheVariants.{Move, Swap, Rer
 ghost use Rattle.ctt_edits.specs.declared.fault.EditFault.TheVariants.{Barred};
 
 use crate::edit::Edit;
+use crate::edit_laws;
 use crate::fault::EditFault;
-use crate::laws;
 use ctt_board::{After, Cell, Change, Rooms, Sheet, first_clash, first_clash_without};
 use ctt_problem::{CourseNo, Instance, Placed, RoomNo, SlotNo};
 
@@ -308,7 +308,7 @@ pub fn check<'i, S: Sheet<'i>>(sheet: &S, edit: &Edit) -> Result<Change, EditFau
         ChangeFits (S.problem sheet.now) change (S.list sheet.now)) }
 {
     sheet.lawful();
-    laws::edits_fit();
+    edit_laws::edits_fit();
     match fault_of(sheet, edit) {
         None => Ok(change_of(sheet, edit)),
         Some(fault) => Err(fault),

@@ -3,7 +3,7 @@
 ghost use Rattle.std.specs.Prelude.{◌≡◌, ◌<◌, IfOk};
 ghost use Rattle.ctt_problem.specs.Problem.{slot_count};
 ghost use Rattle.ctt_edits.specs.Edits.{EditFits};
-ghost use Rattle.ctt_edits.specs.Offers.{pattern_of, rank, is_better, offer, slot_offer, offers};
+ghost use Rattle.ctt_edits.specs.Offers.{pattern_of, fault_rank, is_better, offer, slot_offer, offers};
 ghost use Rattle.ctt_edits.specs.Patterns.{PatternFits};
 
 use crate::edit::Edit;
@@ -18,7 +18,7 @@ use std::alloc::Global;
 
 /// Returns the place of a fault in the order in which faults are looked for.
 fn rank(fault: &EditFault) -> u8
-    ensures { result ≡ rank fault.now }
+    ensures { result ≡ fault_rank fault.now }
 {
     match fault {
         EditFault::NotPlaced => 0,

@@ -1,8 +1,8 @@
 //! Patterns: edits in which a part is left open.
 
-ghost use Rattle.std.specs.Prelude.{◌≡◌, ◌↔◌, ◌-◌, IsTrue};
+ghost use Rattle.std.specs.Prelude.{◌≡◌, ◌↔◌, IsTrue};
 ghost use Rattle.ctt_problem.specs.Problem.{slot_count, room_count};
-ghost use Rattle.ctt_edits.specs.Patterns.{FitsIfGiven, IsRoomIfGiven, PatternFits, choices};
+ghost use Rattle.ctt_edits.specs.Patterns.{FitsIfGiven, IsRoomIfGiven, PatternFits, given_or_all};
 ghost use Rattle.ctt_edits.specs.Candidates.{from_to, edit_by, first_choices, second_choices};
 
 use crate::edit::Edit;
@@ -50,7 +50,7 @@ fn room_fits(instance: &Instance, room: &Option<RoomNo>) -> bool
 /// Returns the number of the given slot, or those of all slots if none is given.
 fn slot_choices(instance: &Instance, slot: Option<SlotNo>) -> Range<u16>
     requires { FitsIfGiven (slot_count instance.now) slot }
-    ensures { from_to result.start result.end ≡ choices (slot_count instance.now) slot }
+    ensures { from_to result.start result.end ≡ given_or_all (slot_count instance.now) slot }
 {
     let end = instance.slots();
     match slot {
@@ -62,7 +62,7 @@ fn slot_choices(instance: &Instance, slot: Option<SlotNo>) -> Range<u16>
 /// Returns the number of the given room, or those of all rooms if none is given.
 fn room_choices(instance: &Instance, room: Option<RoomNo>) -> Range<u16>
     requires { IsRoomIfGiven instance.now room }
-    ensures { from_to result.start result.end ≡ choices (room_count instance.now) room }
+    ensures { from_to result.start result.end ≡ given_or_all (room_count instance.now) room }
 {
     let end = instance.rooms();
     match room {

@@ -6,7 +6,8 @@ use Rattle.std.proofs.lemmas.List.{append-nil, length-append}
 use Rattle.ctt_files.specs.Refusals.{IsOfFile, IsOfFiles}
 use Rattle.ctt_files.specs.Texts.{Held, Holds, HoldInTurn}
 use Rattle.ctt_files.specs.declared.fault.Fault.{Fault}
-use Rattle.ctt_files.specs.declared.fault.Fault.TheVariants.{NoMemory}
+use Rattle.ctt_files.specs.declared.fault.Fault.TheVariants.{Machine}
+use Rattle.ctt_files.specs.declared.fault.MachineFault.TheVariants.{NoMemory}
 
 -- these texts are those of the files already read
 pub record IsRead {X : Type 0} (bytes_of : X → List ℕ) (held : Held) (names left : List (String Global)) (texts : List X) : Type 0 where
@@ -41,7 +42,7 @@ pub next_is_among : {X : Type 0} (bytes_of : X → List ℕ) (held : Held) (name
 next_is_among bytes_of held names left later name texts fault same read is = read.among fault (subst (λ (files : List (String Global)). IsOfFiles files held fault) (sym same) (inl is))
 
 -- memory may run out for any files
-pub memory_of_files : (names : List (String Global)) (held : Held) → IsOfFiles names held NoMemory
+pub memory_of_files : (names : List (String Global)) (held : Held) → IsOfFiles names held (Machine NoMemory)
 memory_of_files [] held = refl
 memory_of_files (name ∷ names) held = inr (memory_of_files names held)
 

@@ -2,8 +2,8 @@ pub mod Device
 pub mod Output
 pub mod Faults
 pub mod Files
+pub mod Leaving
 pub mod Outcomes
 pub mod Storing
-pub mod Answers
 pub mod Texts
 pub mod Refusals

@@ -10,15 +10,16 @@ use Rattle.ctt_problem.specs.Problem.{Problem}
 use Rattle.ctt_text.specs.SolutionLaws.{IsSolutionCauseOf}
 use Rattle.ctt_files.specs.declared.input.InputFault.{InputFault}
 use Rattle.ctt_files.specs.declared.input.InputFault.TheVariants as input
-use Rattle.ctt_files.specs.Faults.{fault_of_barred, fault_of_blocked, fault_of_input, fault_of_instance, fault_of_solution, status_of}
+use Rattle.ctt_files.specs.Faults.{IsBarredFault, IsBlockedFault, IsInstanceFault, IsSolutionFault, fault_of_input, status_of}
 use Rattle.ctt_files.specs.Texts.{Held, Holds, IsBarredBy, IsInstanceIn, IsInstanceText, IsNoBarred, IsNoBlocked, IsNoInstance, IsNoSolution}
 use Rattle.ctt_files.specs.declared.fault.Fault.{Fault}
-use Rattle.ctt_files.specs.declared.fault.Fault.TheVariants.{NoMemory, TooLong}
+use Rattle.ctt_files.specs.declared.fault.Fault.TheVariants.{Machine}
+use Rattle.ctt_files.specs.declared.fault.MachineFault.TheVariants.{NoMemory, TooLong}
 use Rattle.ctt_files.specs.declared.sides.Sides.{Sides}
 
 -- the fault is that this file is too long, and it has more than 64 MiB
 abbrev pub IsTooLong : Held → String Global → Fault → Type 0
-IsTooLong held name fault = (fault ≡ TooLong name) × Holds held name (λ text. 67108864 < length text)
+IsTooLong held name fault = (fault ≡ Machine (TooLong name)) × Holds held name (λ text. 67108864 < length text)
 
 -- if the input is too long, it has more than 64 MiB
 abbrev pub IsInputCause : Option (List ℕ) → InputFault → Type 0
@@ -36,10 +37,11 @@ pub record IsOfInput (bytes : Option (List ℕ)) (name : String Global) (fault :
 abbrev pub IsOfFile : Held → String Global → Fault → Type 0
 IsOfFile held name = IsOfInput (held (string_bytes name)) name
 
--- parsing the text meets the fault, and if the status is 1, the text is not valid
-pub record IsNoText {E : Type 0} (told : E → Fault) (Meets : List ℕ → E → Type 0) (IsNone : List ℕ → Type 0) (text : List ℕ) (fault : Fault) : Type 0 where
+-- parsing the text meets a fault, which the fault tells, with its place in the text; if the status
+-- is 1, the text is not valid
+pub record IsNoText {E : Type 0} (Tells : List ℕ → E → Fault → Type 0) (Meets : List ℕ → E → Type 0) (IsNone : List ℕ → Type 0) (text : List ℕ) (fault : Fault) : Type 0 where
   pub met : E
-  pub is : fault ≡ told met
+  pub tells : Tells text met fault
   pub meets : Meets text met
   pub is_none : status_of fault ≡ 1 → IsNone text
 
@@ -50,17 +52,17 @@ IsOfText IsNo held name fault = IsOfFile held name fault
 
 -- the fault comes from the file of the instance
 abbrev pub IsOfInstance : Held → String Global → Fault → Type 0
-IsOfInstance held name fault = IsOfText (IsNoText fault_of_instance IsCauseOf IsNoInstance) held name fault
+IsOfInstance held name fault = IsOfText (IsNoText (IsInstanceFault (string_bytes name)) IsCauseOf IsNoInstance) held name fault
 
 -- the fault comes from the file of the barred rooms of the parsed instance, if one is given
 abbrev pub IsOfBarred : Held → Problem → Option (String Global) → Fault → Type 0
 IsOfBarred held read None fault = ⊥
-IsOfBarred held read (Some name) fault = IsOfText (IsNoText fault_of_barred (IsBarredCauseOf read) (IsNoBarred read)) held name fault
+IsOfBarred held read (Some name) fault = IsOfText (IsNoText (IsBarredFault (string_bytes name)) (IsBarredCauseOf read) (IsNoBarred read)) held name fault
 
 -- the fault comes from the file of what is blocked in the parsed instance, if one is given
 abbrev pub IsOfBlocked : Held → Problem → Option (String Global) → Fault → Type 0
 IsOfBlocked held read None fault = ⊥
-IsOfBlocked held read (Some name) fault = IsOfText (IsNoText fault_of_blocked (IsBlockedCauseOf read) (IsNoBlocked read)) held name fault
+IsOfBlocked held read (Some name) fault = IsOfText (IsNoText (IsBlockedFault (string_bytes name)) (IsBlockedCauseOf read) (IsNoBlocked read)) held name fault
 
 -- the fault comes from the file of the barred rooms of the parsed instance or, after that is parsed,
 -- from that of what is blocked
@@ -80,7 +82,7 @@ IsOfInstanceOr IsOther held instance sides fault = IsOfInstanceIn held instance 
 
 -- the fault comes from the file of a solution
 abbrev pub IsOfSolution : String Global → Held → Problem → Fault → Type 0
-IsOfSolution name held problem fault = IsOfText (IsNoText fault_of_solution (IsSolutionCauseOf problem) (IsNoSolution problem)) held name fault
+IsOfSolution name held problem fault = IsOfText (IsNoText (IsSolutionFault (string_bytes name)) (IsSolutionCauseOf problem) (IsNoSolution problem)) held name fault
 
 -- the fault comes from the file of the start, if one is given
 abbrev pub IsOfStart : Option (String Global) → Held → Problem → Fault → Type 0
@@ -89,5 +91,5 @@ IsOfStart (Some name) held problem fault = IsOfSolution name held problem fault
 
 -- the fault comes from one of these files, or memory ran out
 abbrev pub IsOfFiles : List (String Global) → Held → Fault → Type 0
-IsOfFiles [] held fault = fault ≡ NoMemory
+IsOfFiles [] held fault = fault ≡ Machine NoMemory
 IsOfFiles (name ∷ names) held fault = IsOfFile held name fault ⊎ IsOfFiles names held fault

@@ -4,7 +4,6 @@ use Rattle.std.specs.Global.{Global}
 use Rattle.std.specs.String.{string_bytes}
 use Rattle.std.specs.declared.string.String.{String}
 use Rattle.ctt_files.specs.Texts.{Held, Holds}
-use Rattle.ctt_files.specs.declared.printed.Stored.{Stored}
 
 -- a file is given
 abbrev pub IsGiven : Option (String Global) → Type 0
@@ -24,13 +23,3 @@ KeepOthers stored before after = (other : List ℕ) → IsOther stored other →
 abbrev pub Stores : Option (String Global) → Held → Held → (List ℕ → Type 0) → Type 0
 Stores None before after P = after ≡ before
 Stores (Some name) before after P = Holds after name P × KeepOthers (Some name) before after
-
--- the name of a file to store, if there is one
-abbrev pub name_of : Option Stored → Option (String Global)
-name_of None = None
-name_of (Some stored) = Some stored.name
-
--- the file is stored with its bytes, and all others are unchanged
-abbrev pub StoresFile : Option Stored → Held → Held → Type 0
-StoresFile None before after = after ≡ before
-StoresFile (Some stored) before after = Stores (Some stored.name) before after (λ bytes. bytes ≡ stored.bytes.items)

@@ -1,129 +1,89 @@
 //! The faults of the program.
 
-ghost use Rattle.std.specs.Prelude.{◌≡◌, ◌++◌, ◌∷◌, [], IfOk, codes};
-ghost use Rattle.std.specs.Fmt.{decimal};
-ghost use Rattle.std.specs.String.{string_bytes};
-ghost use Rattle.ctt_line.specs.Lines.{line};
-ghost use Rattle.ctt_files.specs.Faults.{IsLineOf, fault_of_barred, fault_of_blocked, fault_of_instance, fault_of_solution, status_of};
-ghost use Rattle.ctt_files.specs.declared.fault.Fault.TheVariants.{NoMemory};
+ghost use Rattle.std.specs.Prelude.{◌≡◌};
+ghost use Rattle.ctt_files.specs.Faults.{contents_point, point_of, status_of};
+ghost use Rattle.ctt_files.specs.declared.fault.Fault.TheVariants.{Contents, Machine, Usage};
+ghost use Rattle.ctt_files.specs.declared.fault.MachineFault.TheVariants.{NoMemory};
 
-use ctt_line::{Word, push_line};
 use ctt_text::{BarredFault, BlockedFault, ReadFault, SolutionFault};
-use std::alloc::{AllocError, AllocFailed, Global};
-use thiserror::Error;
+use std::alloc::{AllocError, AllocFailed};
 
-/// Why the program did not do its job. It displays as the line on standard error, without the line
-/// feed; the texts of `Words` and `Opening` are complete.
-#[derive(Debug, Drop, Error)]
+/// Why the program did not do its job, by its exit status.
+#[derive(Debug, Drop)]
 pub enum Fault {
-    /// The words of the command line ask for no job. The text says why.
-    #[error("{0}")]
-    Words(String),
-    /// A word of the command line is not a text.
-    #[error("timedesk: words that are not text")]
-    WordsNotText,
-    /// The instance is invalid.
-    #[error("timedesk: {0}")]
-    Instance(ReadFault),
+    /// The contents of a file are refused, or lack what is asked for: status 1.
+    Contents(ContentsFault),
+    /// The words of the command line are refused: status 2.
+    Usage(UsageFault),
+    /// The machine failed, or may not do what is asked for: status 3.
+    Machine(MachineFault),
+}
+
+/// Why the contents of a file are refused, or what they lack.
+#[derive(Debug, Drop)]
+pub enum ContentsFault {
+    /// The instance is invalid. As in those below, the point is the line that says where and why.
+    Instance { met: ReadFault, point: String },
     /// The solution is invalid.
-    #[error("timedesk: {0}")]
-    Solution(SolutionFault),
+    Solution { met: SolutionFault, point: String },
     /// The text of barred rooms is invalid.
-    #[error("timedesk: {0}")]
-    Barred(BarredFault),
+    Barred { met: BarredFault, point: String },
     /// The text of what is blocked is invalid.
-    #[error("timedesk: {0}")]
-    Blocked(BlockedFault),
+    Blocked { met: BlockedFault, point: String },
     /// The journal is invalid, at this byte or word.
-    #[error("timedesk: journal J{number} {at}")]
-    Journal { number: u8, at: u64 },
-    /// A lecture of the opening cannot be placed. The text says which one, and why.
-    #[error("{0}")]
+    Journal { number: u8, at: u64, point: String },
+    /// The list of pairs is invalid, in this line.
+    Pairs { number: u8, line: u64 },
+    /// A lecture of the opening cannot be placed. The text is the line that says which one, and
+    /// why.
     Opening(String),
-    /// The file of this name could not be opened or read.
-    #[error("timedesk: cannot read {0}")]
-    CannotRead(String),
-    /// The file of this name is longer than the limit.
-    #[error("timedesk: too long {0}")]
-    TooLong(String),
-    /// A write to standard output, or to a file to be stored, failed.
-    #[error("timedesk: cannot write")]
-    CannotWrite,
-    /// Memory ran out.
-    #[error("timedesk: no memory")]
-    NoMemory,
-    /// A crew has too many scripts.
-    #[error("timedesk: too many scripts")]
-    TooManyScripts,
-    /// A planner was refused a place at the desk.
-    #[error("timedesk: no place")]
-    NoPlace,
-    /// The thread of a planner could not be started.
-    #[error("timedesk: no thread")]
-    NoThread,
-    /// A desk has too many seats, or the same seat twice.
-    #[error("timedesk: at most 64 seats, each once")]
-    BadSeats,
-    /// The file of this name, in which the minutes should be stored, is not empty.
-    #[error("timedesk: minutes exist {0}")]
-    MinutesExist(String),
     /// The instance has no curriculum of this name.
-    #[error("timedesk: no curriculum {0}")]
     NoCurriculum(String),
     /// The instance has no teacher of this name.
-    #[error("timedesk: no teacher {0}")]
     NoTeacher(String),
     /// The instance has no course of this name.
-    #[error("timedesk: no course {0}")]
     NoCourse(String),
     /// The instance has no room of this name.
-    #[error("timedesk: no room {0}")]
     NoRoom(String),
-    /// The file has no word of this number.
-    #[error("timedesk: no word {word} in {file}")]
+    /// The file has no word of this number, as it is no number from 1.
     NoWord { word: String, file: String },
+    /// The file has no byte of this number, as it is no number.
+    NoByte { byte: String, file: String },
+    /// The file ends before the word or the byte that is asked for. The text is the line that says
+    /// where.
+    Ends(String),
 }
 
-/// The line of `NoMemory`. It is a constant, since it has to be reported without allocating.
-pub const NO_MEMORY: &str = "timedesk: no memory\n";
-
-/// Returns the text with a line feed appended.
-fn end_line(mut text: String) -> Result<String, AllocError>
-    ensures { IfOk result (λ line. string_bytes line ≡ string_bytes text ++ codes "\n") }
-{
-    text.push_str("\n")?;
-    Ok(text)
+/// Why the words of the command line are refused.
+#[derive(Debug, Drop)]
+pub enum UsageFault {
+    /// They ask for no job. The text says why, in whole lines.
+    Words(String),
+    /// One of them is not a text.
+    WordsNotText,
+    /// A crew has too many scripts.
+    TooManyScripts,
+    /// A desk has too many seats, or the same seat twice.
+    BadSeats,
 }
 
-/// Returns a line of what is refused, the code of the fault, and the word or byte.
-fn place_line(alloc: Global, what: &str, code: &str, at: u64) -> Result<String, AllocError>
-    ensures { IfOk result (λ text.
-        string_bytes text ≡ line (what.now ∷ code.now ∷ decimal at ∷ [])) }
-{
-    let mut text = String::new(alloc);
-    push_line(
-        &mut text,
-        &[Word::text(what), Word::text(code), Word::number(at)],
-    )?;
-    Ok(text)
-}
-
-/// Returns the line for a word that a file does not have.
-fn word_line(alloc: Global, word: &str, file: &str) -> Result<String, AllocError>
-    ensures { IfOk result (λ text. string_bytes text
-        ≡ line (codes "timedesk: no word" ∷ word.now ∷ codes "in" ∷ file.now ∷ [])) }
-{
-    let mut text = String::new(alloc);
-    push_line(
-        &mut text,
-        &[
-            Word::text("timedesk: no word"),
-            Word::text(word),
-            Word::text("in"),
-            Word::text(file),
-        ],
-    )?;
-    Ok(text)
+/// What the machine could not or may not do.
+#[derive(Debug, Drop)]
+pub enum MachineFault {
+    /// The file of this name could not be opened or read.
+    CannotRead(String),
+    /// The file of this name is longer than the limit.
+    TooLong(String),
+    /// A write to standard output, or to a file to be stored, failed.
+    CannotWrite,
+    /// Memory ran out.
+    NoMemory,
+    /// The thread of a planner could not be started.
+    NoThread,
+    /// A planner was refused a place at the desk.
+    NoPlace,
+    /// The file of this name, in which the minutes should be stored, is not empty.
+    MinutesExist(String),
 }
 
 impl Fault {
@@ -132,117 +92,84 @@ impl Fault {
         ensures { result ≡ status_of self.now }
     {
         match self {
-            Fault::Instance(_)
-            | Fault::Solution(_)
-            | Fault::Barred(_)
-            | Fault::Blocked(_)
-            | Fault::Journal { .. }
-            | Fault::Opening(_)
-            | Fault::NoCurriculum(_)
-            | Fault::NoTeacher(_)
-            | Fault::NoCourse(_)
-            | Fault::NoRoom(_)
-            | Fault::NoWord { .. } => 1,
-            Fault::Words(_) | Fault::WordsNotText | Fault::TooManyScripts | Fault::BadSeats => 2,
-            Fault::CannotRead(_)
-            | Fault::TooLong(_)
-            | Fault::CannotWrite
-            | Fault::NoMemory
-            | Fault::NoPlace
-            | Fault::NoThread
-            | Fault::MinutesExist(_) => 3,
+            Fault::Contents(_) => 1,
+            Fault::Usage(_) => 2,
+            Fault::Machine(_) => 3,
         }
     }
 
-    /// Returns what is reported on standard error, including the line feed.
-    pub fn line(&self, alloc: Global) -> Result<String, AllocError>
-        ensures { IfOk result (λ line. IsLineOf self.now (string_bytes line)) }
+    /// Returns the line that says where and why a text is refused, as
+    /// `FILE:LINE:COLUMN: CODE: SENTENCE` and a line feed. It is empty for any other fault.
+    pub fn point(&self) -> &str
+        ensures { result.now ≡ point_of self.now }
     {
         match self {
-            Fault::Words(text) | Fault::Opening(text) => text.clone(),
-            Fault::NoMemory => String::from_str(alloc, NO_MEMORY),
-            Fault::Instance(fault) => {
-                place_line(alloc, "timedesk: instance", fault.code(), fault.at())
-            }
-            Fault::Solution(fault) => {
-                place_line(alloc, "timedesk: solution", fault.code(), fault.at())
-            }
-            Fault::Barred(fault) => {
-                place_line(alloc, "timedesk: barred", fault.code(), fault.at())
-            }
-            Fault::Blocked(fault) => {
-                place_line(alloc, "timedesk: blocked", fault.code(), fault.at())
-            }
-            Fault::NoWord { word, file } => word_line(alloc, word, file),
-            _ => end_line(self.to_string(alloc)?),
+            Fault::Contents(met) => met.point(),
+            Fault::Usage(_) | Fault::Machine(_) => "",
         }
     }
 }
 
-impl From<ctt_text::NoMemory> for Fault {
-    ghost from_gives = { λ _ fault. fault ≡ NoMemory };
+impl ContentsFault {
+    /// Returns the line that says where and why a text is refused, or an empty text.
+    fn point(&self) -> &str
+        ensures { result.now ≡ contents_point self.now }
+    {
+        match self {
+            ContentsFault::Instance { point, .. }
+            | ContentsFault::Solution { point, .. }
+            | ContentsFault::Barred { point, .. }
+            | ContentsFault::Blocked { point, .. }
+            | ContentsFault::Journal { point, .. } => point,
+            _ => "",
+        }
+    }
+}
 
-    fn from(_fault: ctt_text::NoMemory) -> Fault {
-        Fault::NoMemory
+impl From<ContentsFault> for Fault {
+    ghost from_gives = { λ met fault. fault ≡ Contents met };
+
+    fn from(met: ContentsFault) -> Fault {
+        Fault::Contents(met)
+    }
+}
+
+impl From<UsageFault> for Fault {
+    ghost from_gives = { λ met fault. fault ≡ Usage met };
+
+    fn from(met: UsageFault) -> Fault {
+        Fault::Usage(met)
+    }
+}
+
+impl From<MachineFault> for Fault {
+    ghost from_gives = { λ met fault. fault ≡ Machine met };
+
+    fn from(met: MachineFault) -> Fault {
+        Fault::Machine(met)
+    }
+}
+
+impl From<ctt_problem::NoMemory> for Fault {
+    ghost from_gives = { λ _ fault. fault ≡ Machine NoMemory };
+
+    fn from(_fault: ctt_problem::NoMemory) -> Fault {
+        Fault::Machine(MachineFault::NoMemory)
     }
 }
 
 impl From<AllocError> for Fault {
-    ghost from_gives = { λ _ fault. fault ≡ NoMemory };
+    ghost from_gives = { λ _ fault. fault ≡ Machine NoMemory };
 
     fn from(_error: AllocError) -> Fault {
-        Fault::NoMemory
-    }
-}
-
-impl From<ReadFault> for Fault {
-    ghost from_gives = { λ read fault. fault ≡ fault_of_instance read };
-
-    fn from(fault: ReadFault) -> Fault {
-        match fault {
-            ReadFault::NoMemory => Fault::NoMemory,
-            _ => Fault::Instance(fault),
-        }
-    }
-}
-
-impl From<SolutionFault> for Fault {
-    ghost from_gives = { λ read fault. fault ≡ fault_of_solution read };
-
-    fn from(fault: SolutionFault) -> Fault {
-        match fault {
-            SolutionFault::NoMemory => Fault::NoMemory,
-            _ => Fault::Solution(fault),
-        }
-    }
-}
-
-impl From<BarredFault> for Fault {
-    ghost from_gives = { λ read fault. fault ≡ fault_of_barred read };
-
-    fn from(fault: BarredFault) -> Fault {
-        match fault {
-            BarredFault::NoMemory => Fault::NoMemory,
-            _ => Fault::Barred(fault),
-        }
-    }
-}
-
-impl From<BlockedFault> for Fault {
-    ghost from_gives = { λ read fault. fault ≡ fault_of_blocked read };
-
-    fn from(fault: BlockedFault) -> Fault {
-        match fault {
-            BlockedFault::NoMemory => Fault::NoMemory,
-            _ => Fault::Blocked(fault),
-        }
+        Fault::Machine(MachineFault::NoMemory)
     }
 }
 
 impl<T: Drop> From<AllocFailed<T>> for Fault {
-    ghost from_gives = { λ _ fault. fault ≡ NoMemory };
+    ghost from_gives = { λ _ fault. fault ≡ Machine NoMemory };
 
     fn from(_error: AllocFailed<T>) -> Fault {
-        Fault::NoMemory
+        Fault::Machine(MachineFault::NoMemory)
     }
 }

@@ -5,10 +5,11 @@ ghost use Rattle.std.specs.String.{string_bytes};
 ghost use Rattle.ctt_files.specs.Faults.{fault_of_input};
 ghost use Rattle.ctt_files.specs.Refusals.{IsOfFile, IsOfFiles, IsOfInput};
 ghost use Rattle.ctt_files.specs.Texts.{HoldInTurn};
-ghost use Rattle.ctt_files.specs.declared.fault.Fault.TheVariants.{CannotRead};
+ghost use Rattle.ctt_files.specs.declared.fault.Fault.TheVariants.{Machine};
+ghost use Rattle.ctt_files.specs.declared.fault.MachineFault.TheVariants.{CannotRead};
 
 use crate::device::Device;
-use crate::fault::Fault;
+use crate::fault::{Fault, MachineFault};
 use crate::input::{INPUT_LIMIT, InputFault, read_all};
 use crate::sink::put_whole;
 use crate::source::{Failed, Source};
@@ -108,9 +109,9 @@ fn fault_of(name: String, met: InputFault) -> Fault
     ensures { result ≡ fault_of_input name met }
 {
     match met {
-        InputFault::Read => Fault::CannotRead(name),
-        InputFault::TooLong => Fault::TooLong(name),
-        InputFault::NoMemory => Fault::NoMemory,
+        InputFault::Read => Fault::Machine(MachineFault::CannotRead(name)),
+        InputFault::TooLong => Fault::Machine(MachineFault::TooLong(name)),
+        InputFault::NoMemory => Fault::Machine(MachineFault::NoMemory),
     }
 }
 
@@ -120,7 +121,7 @@ fn read_input<R: Source>(alloc: Global, input: &mut R, name: String) -> Result<V
 
     ensures all { IfOk result (λ bytes. IfSome (R.left input.old) (λ left. bytes.items ≡ left)) }
     ensures short { IfOk result (λ bytes. vec_len bytes ≤ 67108864) }
-    ensures unread { (result ≡ Err (CannotRead name)) ↔ (R.has_failed input.new ≡ true) }
+    ensures unread { (result ≡ Err (Machine (CannotRead name))) ↔ (R.has_failed input.new ≡ true) }
     ensures cause { IfErr result (IsOfInput (R.left input.old) name) }
 {
     match read_all(alloc, input, INPUT_LIMIT) {

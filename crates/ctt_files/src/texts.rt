@@ -9,8 +9,10 @@ ghost use Rattle.ctt_files.specs.Texts.{HasSides, IsBarredBy, IsBlockedBy, IsIns
 
 use crate::fault::Fault;
 use crate::files::{Files, read_file};
+use crate::refused::{refuse_barred, refuse_blocked, refuse_instance, refuse_solution};
 use crate::sides::Sides;
-use ctt_text::{Instance, Placed, let_go, read_barred, read_blocked, read_instance, read_solution};
+use ctt_problem::{Instance, Placed, drop_whole};
+use ctt_text::{read_barred, read_blocked, read_instance, read_solution};
 use std::alloc::Global;
 
 /// Loads an instance from a file. Nothing is barred or blocked in it.
@@ -20,8 +22,12 @@ fn fetch_alone<F: Files>(alloc: Global, files: &mut F, name: String) -> Result<I
     ensures kept { F.held files.new ≡ F.held files.old }
     ensures cause { IfErr result (IsOfInstance (F.held files.old) name) }
 {
+    let file = name.clone()?;
     let text = read_file(alloc, files, name)?;
-    Ok(read_instance(alloc, &text)?)
+    match read_instance(alloc, &text) {
+        Ok(instance) => Ok(instance),
+        Err(met) => Err(refuse_instance(alloc, &file, &text, met)),
+    }
 }
 
 /// Bars the rooms that a file lists in an instance, if a file is given.
@@ -39,8 +45,12 @@ fn bar_rooms<F: Files>(
     let Some(name) = barred else {
         return Ok(());
     };
+    let file = name.clone()?;
     let text = read_file(alloc, files, name)?;
-    Ok(read_barred(alloc, instance, &text)?)
+    match read_barred(alloc, instance, &text) {
+        Ok(()) => Ok(()),
+        Err(met) => Err(refuse_barred(alloc, &file, &text, met)),
+    }
 }
 
 /// Blocks the slots that a file lists in an instance, if a file is given.
@@ -58,8 +68,12 @@ fn block_slots<F: Files>(
     let Some(name) = blocked else {
         return Ok(());
     };
+    let file = name.clone()?;
     let text = read_file(alloc, files, name)?;
-    Ok(read_blocked(alloc, instance, &text)?)
+    match read_blocked(alloc, instance, &text) {
+        Ok(()) => Ok(()),
+        Err(met) => Err(refuse_blocked(alloc, &file, &text, met)),
+    }
 }
 
 /// Reads the side files of an instance, that of the barred rooms first.
@@ -94,7 +108,7 @@ pub fn fetch_instance<F: Files>(
     match read_sides(alloc, files, &mut instance, sides) {
         Ok(()) => Ok(instance),
         Err(fault) => {
-            let_go(instance);
+            drop_whole(instance);
             Err(fault)
         }
     }
@@ -114,8 +128,12 @@ pub fn fetch_solution<F: Files>(
     ensures kept { F.held files.new ≡ F.held files.old }
     ensures cause { IfErr result (IsOfSolution name (F.held files.old) instance.now) }
 {
+    let file = name.clone()?;
     let text = read_file(alloc, files, name)?;
-    Ok(read_solution(alloc, instance, &text)?)
+    match read_solution(alloc, instance, &text) {
+        Ok(timetable) => Ok(timetable),
+        Err(met) => Err(refuse_solution(alloc, &file, &text, met)),
+    }
 }
 
 /// Loads the lectures that a desk opens with: those of the solution in a file, or none if no file

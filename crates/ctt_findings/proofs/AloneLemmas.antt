@@ -11,7 +11,7 @@ use Rattle.ctt_rules.proofs.NeighbourLemmas.{neighbour_is}
 use Rattle.ctt_rules.proofs.SlotLemmas.{periods_above}
 use Rattle.ctt_rules.proofs.TimetableLemmas.{row_fits}
 use Rattle.ctt_findings.specs.Findings.{alone_of, compactness_finding}
-use Rattle.ctt_findings.proofs.HearLemmas.{filter_map_same}
+use Rattle.ctt_findings.proofs.GrowLemmas.{filter_map_same}
 
 pub alone_is : (i : Problem) (t : List Placed) → IsTimetable i t → (q c : ℕ) (marks : ℕ → Bool) → ((s : ℕ) → marks s ≡ busy (lectures_of (members i q) t) s) → filter_map (λ (l : Placed). compactness_finding q (not (is_beside i marks l.slot)) l) (course_row c t) ≡ alone_of i t q c
 alone_is i t h q c marks are =

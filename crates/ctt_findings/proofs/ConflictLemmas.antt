@@ -15,7 +15,7 @@ use Rattle.ctt_rules.specs.Neighbours.{busy}
 use Rattle.ctt_rules.proofs.ListLemmas.{Each-every, Each-filter_passes}
 use Rattle.ctt_findings.specs.Findings.{conflict_finding, conflicts_between, for_each, where_passes, found, cause}
 use Rattle.ctt_findings.specs.declared.finding.Finding.TheVariants.{Conflict}
-use Rattle.ctt_findings.proofs.HearLemmas.{filter_map_same, for_each_skip}
+use Rattle.ctt_findings.proofs.GrowLemmas.{filter_map_same, for_each_skip}
 
 module _ (i : Problem) (c : ℕ) where
   abbrev pub behind : ℕ → Bool
@@ -64,14 +64,6 @@ pub mates_of : (i : Problem) (c d : ℕ) → mates i c d ≡ list_any (λ q. has
 mates_of i c d =
     ap (list_any (λ q. has c q && has d q)) (sym (take_all (curriculum_count i) i.curricula (omega arith)))
     ∙ any_of (λ q. has c q) (λ q. has d q) [] i.curricula (curriculum_count i) (omega arith)
-
--- if some element passes, one is found
-pub none_found : {X : Type 0} (p : X → Bool) (xs : List X) → find p xs ≡ None → list_any p xs ≡ true → ⊥
-none_found p [] e any = absurd (search arith)
-none_found p (x ∷ xs) e any = elim (cases_Bool (p x)) [
-  | inl yes' ↦ (let got : find p (x ∷ xs) ≡ Some x = rw yes' refl in absurd (search arith))
-  | inr no' ↦ none_found p xs (rw no' at e) (rw no' at any)
-]
 
 -- the first element that passes, if those before it do not
 module _ (p : ℕ → Bool) (xs : List ℕ) (k : ℕ) (so_far : find p (drop k xs) ≡ find p xs) where

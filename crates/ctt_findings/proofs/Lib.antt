@@ -1,10 +1,10 @@
-pub mod HearLemmas
+pub mod GrowLemmas
+pub mod FitLemmas
 pub mod PointLemmas
 pub mod PairLemmas
 pub mod TakenLemmas
 pub mod ConflictLemmas
 pub mod AloneLemmas
-pub mod FrontLemmas
 pub mod ObjectLemmas
 pub mod ReportLemmas
 pub mod RowLemmas

@@ -1,19 +1,15 @@
 -- The rooms that are already taken, lecture by lecture.
-use Rattle.std.proofs.Common.{◌≡◌, ℕ, ◌+◌, ◌<◌, Bool, ◌&&◌, ◌||◌, ◌==◌, List, [], ◌∷◌, ◌++◌, take, drop, length, get_or, Option, Result, IfErr, ◌∙◌, sym, ap, subst, arith, append-nil}
+use Rattle.std.proofs.Common.{◌≡◌, ℕ, ◌+◌, ◌<◌, Bool, ◌&&◌, ◌||◌, ◌==◌, List, [], ◌∷◌, ◌++◌, take, length, get_or, Option, ◌∙◌, sym, ap, arith, append-nil}
 use Rattle.std.specs.List.{list_any}
 use Rattle.std.specs.Option.{option_to_list}
-use Rattle.std.proofs.lemmas.List.{append_assoc, drop_more, take_more, take-append-drop}
+use Rattle.std.proofs.lemmas.List.{append_assoc, take_more}
 use Rattle.std.proofs.lemmas.List.Folds.{list_any_more}
 use Rattle.ctt_problem.specs.declared.placed.Placed.{Placed}
 use Rattle.ctt_rules.specs.Hard.{share_room}
 use Rattle.ctt_rules.specs.Earlier.{in_row}
 use Rattle.ctt_rules.proofs.NeighbourLemmas.{any_same}
 use Rattle.ctt_findings.specs.Findings.{occupancy_finding, occupancy_from}
-use Rattle.ctt_findings.specs.Hearing.{Hears, HearsFront}
 use Rattle.ctt_findings.specs.declared.finding.Finding.{Finding}
-use Rattle.ctt_findings.proofs.HearLemmas.{hears_append}
-use Rattle.ctt_findings.proofs.FrontLemmas.{err_in}
-use Rattle.ctt_findings.specs.declared.untold.Untold.{Untold}
 
 -- the findings on two lists, one after the other
 occupancy_append : (front xs ys : List Placed) → occupancy_from front (xs ++ ys) ≡ occupancy_from front xs ++ occupancy_from (front ++ xs) ys
@@ -47,20 +43,8 @@ module _ (t : List Placed) (k : ℕ) (x : Placed) (within : k < length t) (at : 
         turn : (m n p q : ℕ) → (m == n && p == q) ≡ (n == m && q == p)
         turn m n p q = grind arith
 
-    next : occupancy_from [] (take (k + 1) t) ≡ occupancy_from [] (take k t) ++ option_to_list this
-    next =
+    -- the findings with one more lecture
+    pub taken_next : occupancy_from [] (take (k + 1) t) ≡ occupancy_from [] (take k t) ++ option_to_list this
+    taken_next =
         ap (occupancy_from []) (take_more t k x within ∙ ap (λ y. take k t ++ y ∷ []) (sym at)) ∙ occupancy_append [] (take k t) (x ∷ [])
         ∙ ap (λ fs. occupancy_from [] (take k t) ++ fs) (append-nil _ ∙ sym this_is)
-
-    whole : occupancy_from [] t ≡ occupancy_from [] (take k t) ++ (option_to_list this ++ occupancy_from (take k t ++ x ∷ []) (drop (k + 1) t))
-    whole =
-        ap (occupancy_from []) (sym (take-append-drop k t) ∙ ap (λ ys. take k t ++ ys) (drop_more t k x within ∙ ap (λ y. y ∷ drop (k + 1) t) (sym at)))
-        ∙ occupancy_append [] (take k t) (x ∷ drop (k + 1) t)
-        ∙ ap (λ fs. occupancy_from [] (take k t) ++ (fs ++ occupancy_from (take k t ++ x ∷ []) (drop (k + 1) t))) (sym this_is)
-
-    -- the findings that are heard with one more lecture
-    pub hears_taken : {L : Type 0} (R : L → Finding → L → Type 0) (a b c : L) → Hears R a (occupancy_from [] (take k t)) b → Hears R b (option_to_list this) c → Hears R a (occupancy_from [] (take (k + 1) t)) c
-    hears_taken R a b c before now = subst (λ fs. Hears R a fs c) (sym next) (hears_append R a (occupancy_from [] (take k t)) b (option_to_list this) c before now)
-
-    pub err_taken : {L T : Type 0} (R : L → Finding → L → Type 0) (F : Untold → L → L → Type 0) (r : Result T Untold) (a b c : L) → Hears R a (occupancy_from [] (take k t)) b → IfErr r (HearsFront R F b (option_to_list this) c) → IfErr r (HearsFront R F a (occupancy_from [] t) c)
-    err_taken R F r a b c h e = err_in R F r a (occupancy_from [] (take k t)) b (option_to_list this) (occupancy_from (take k t ++ x ∷ []) (drop (k + 1) t)) (occupancy_from [] t) c whole h e

@@ -1,13 +1,11 @@
 -- What holds of findings.
-use Rattle.std.specs.Prelude.{◌≡◌, ℕ, ◌+◌, ◌-◌, ◌++◌, false, List, codes, filter_map, sum_by, []}
+use Rattle.std.specs.Prelude.{◌≡◌, ℕ, ◌+◌, ◌-◌, List, filter_map, sum_by, []}
 use Rattle.ctt_problem.specs.Problem.{Problem}
 use Rattle.ctt_problem.specs.Timetable.{IsTimetable}
 use Rattle.ctt_problem.specs.declared.placed.Placed.{Placed}
 use Rattle.ctt_rules.specs.Hard.{hard_counts}
 use Rattle.ctt_rules.specs.Penalty.{penalty}
-use Rattle.serde_json.specs.Written.{compact_text}
-use Rattle.ctt_findings.specs.Objects.{all_objects, item_texts}
-use Rattle.ctt_findings.specs.Findings.{findings, by_course, lectures_finding, conflict_findings, availability_finding, occupancy_from, barred_finding, blocked_finding, capacity_finding, days_finding, compactness_findings, stability_finding}
+use Rattle.ctt_findings.specs.Findings.{by_course, lectures_finding, conflict_findings, availability_finding, occupancy_from, barred_finding, blocked_finding, capacity_finding, days_finding, compactness_findings, stability_finding}
 use Rattle.ctt_findings.specs.declared.finding.Finding.{Finding}
 use Rattle.ctt_findings.specs.declared.finding.Finding.TheVariants.{Lectures, Capacity, Days, Compactness, Stability}
 
@@ -35,7 +33,3 @@ pub record AreCounted (i : Problem) (t : List Placed) : Type 0 where
 
 abbrev pub FindingsAreCounted : Type 0
 FindingsAreCounted = (i : Problem) (t : List Placed) → IsTimetable i t → AreCounted i t
-
--- the texts of the objects of all findings, in brackets, are the text of an array of them
-abbrev pub ItemsAreAnArray : Type 0
-ItemsAreAnArray = (i : Problem) (t : List Placed) → compact_text (all_objects i t) ≡ codes "[" ++ (item_texts i false (findings i t) ++ codes "]")

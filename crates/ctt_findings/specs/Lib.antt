@@ -1,9 +1,10 @@
+pub mod Csv
 pub mod FactValues
 pub mod Findings
 pub mod Fitting
-pub mod Hearing
 pub mod Lines
 pub mod Laws
 pub mod Objects
 pub mod ReportText
 pub mod Rows
+pub mod Tables

@@ -11,16 +11,16 @@ use Rattle.ctt_findings.specs.declared.finding.Finding.{Finding}
 use Rattle.ctt_findings.specs.declared.finding.Finding.TheVariants.{Lectures, Conflict, Availability, Occupancy, Barred, Blocked, Capacity, Days, Compactness, Stability}
 
 -- the value of a fact: a word or a number
-pub data Told : Type 0 where
-  word : List ℕ → Told
-  number : ℕ → Told
+pub data FactContent : Type 0 where
+  word : List ℕ → FactContent
+  number : ℕ → FactContent
 
 -- a value, and the key that names it
 pub record Fact : Type 0 where
   pub key : List ℕ
-  pub value : Told
+  pub value : FactContent
 
-abbrev pub fact : List ℕ → Told → Fact
+abbrev pub fact : List ℕ → FactContent → Fact
 fact k v = record { key = k; value = v }
 
 -- the facts of which findings consist
@@ -67,7 +67,7 @@ facts i (Compactness q l n) = kind (codes "compactness") ∷ curriculum i q ∷ 
 facts i (Stability c rooms n) = kind (codes "stability") ∷ course i c ∷ fact (codes "rooms") (number rooms) ∷ points n ∷ []
 
 -- the text of a value
-abbrev pub text_of : Told → List ℕ
+abbrev pub text_of : FactContent → List ℕ
 text_of (word w) = w
 text_of (number n) = decimal n
 

@@ -1,15 +1,14 @@
 -- Findings as JSON objects.
-use Rattle.std.specs.Prelude.{ℕ, Bool, true, List, [], ◌∷◌, ◌++◌}
+use Rattle.std.specs.Prelude.{List, [], ◌∷◌}
 use Rattle.serde_json.specs.Data.{Data, Items, Members, array, item, no_items, no_members, number as amount, object, put, string, unsigned}
-use Rattle.serde_json.specs.Written.{comma_if, compact_text}
 use Rattle.ctt_problem.specs.Problem.{Problem}
 use Rattle.ctt_problem.specs.declared.placed.Placed.{Placed}
 use Rattle.ctt_findings.specs.Findings.{findings}
-use Rattle.ctt_findings.specs.Lines.{Fact, Told, facts, number, word}
+use Rattle.ctt_findings.specs.Lines.{Fact, FactContent, facts, number, word}
 use Rattle.ctt_findings.specs.declared.finding.Finding.{Finding}
 
 -- a value as JSON
-abbrev pub value_of : Told → Data
+abbrev pub value_of : FactContent → Data
 value_of (word w) = string w
 value_of (number n) = amount (unsigned n)
 
@@ -29,12 +28,3 @@ objects_of i (f ∷ fs) = item (object_of i f) (objects_of i fs)
 
 abbrev pub all_objects : Problem → List Placed → Data
 all_objects i t = array (objects_of i (findings i t))
-
--- the text of an object among others, with a comma before it, unless it is the first
-abbrev pub item_text : Problem → Bool → Finding → List ℕ
-item_text i later f = comma_if later ++ compact_text (object_of i f)
-
--- the texts of objects, one after another; `later` says whether another object precedes them
-abbrev pub item_texts : Problem → Bool → List Finding → List ℕ
-item_texts i later [] = []
-item_texts i later (f ∷ fs) = item_text i later f ++ item_texts i true fs

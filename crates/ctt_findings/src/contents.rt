@@ -6,6 +6,7 @@ ghost use Rattle.ctt_problem.specs.Problem.{course_count, curriculum_count, room
 ghost use Rattle.ctt_problem.specs.Timetable.{Fits};
 ghost use Rattle.ctt_findings.specs.Fitting.{CauseFits, FindingFits};
 ghost use Rattle.ctt_findings.specs.Lines.{cause_facts, course, day, fact, facts, kind, period, points, room, word};
+ghost use Rattle.ctt_findings.specs.Tables.{row_facts, shared_fact};
 ghost use Rattle.ctt_findings.specs.declared.finding.Finding.TheVariants.{Lectures, Conflict, Availability, Occupancy, Barred, Blocked, Capacity, Days, Compactness, Stability};
 
 use crate::fact::Fact;
@@ -257,7 +258,7 @@ fn stability<'i>(
 }
 
 /// Returns the facts of a finding, at most eight, in the order of its line.
-pub fn facts<'i>(instance: &'i Instance, finding: &Finding) -> ArrayVec<Fact<'i>, 8>
+pub(crate) fn facts<'i>(instance: &'i Instance, finding: &Finding) -> ArrayVec<Fact<'i>, 8>
     requires { FindingFits instance.now finding.now }
     ensures { result.items ≡ facts instance.now finding.now }
 {
@@ -280,5 +281,55 @@ pub fn facts<'i>(instance: &'i Instance, finding: &Finding) -> ArrayVec<Fact<'i>
             compactness(instance, *curriculum, lecture, *points)
         }
         Finding::Stability(course, rooms, points) => stability(instance, *course, *rooms, *points),
+    }
+}
+
+/// Returns the teacher or the curriculum that two courses have in common.
+fn shared<'i>(instance: &'i Instance, cause: &Cause) -> Fact<'i>
+    requires { CauseFits instance.now cause.now }
+    ensures { result ≡ shared_fact instance.now cause.now }
+{
+    match cause {
+        Cause::Teacher(teacher) => Fact::text("teacher", instance.teacher_name(*teacher)),
+        Cause::Curriculum(curriculum) => {
+            Fact::text("curriculum", instance.curriculum_name(*curriculum))
+        }
+    }
+}
+
+/// Returns the facts of two lectures in one slot whose courses clash, as they stand in a row.
+fn conflict_row<'i>(
+    instance: &'i Instance,
+    number: CourseNo,
+    other: CourseNo,
+    slot: SlotNo,
+    cause: &Cause,
+) -> ArrayVec<Fact<'i>, 8>
+    requires course { number < course_count instance.now }
+    requires other { other < course_count instance.now }
+    requires slot { slot < slot_count instance.now }
+    requires cause { CauseFits instance.now cause.now }
+    ensures { result.items ≡ row_facts instance.now (Conflict number other slot cause.now) }
+{
+    let mut facts = ArrayVec::new();
+    facts.push(kind("conflict"));
+    facts.push(course(instance, number));
+    facts.push(Fact::text("other", instance.course_name(other)));
+    facts.push(day(instance, slot));
+    facts.push(period(instance, slot));
+    facts.push(shared(instance, cause));
+    facts
+}
+
+/// Returns the facts of a finding as they stand in its row, each under a key of its own.
+pub(crate) fn row_facts<'i>(instance: &'i Instance, finding: &Finding) -> ArrayVec<Fact<'i>, 8>
+    requires { FindingFits instance.now finding.now }
+    ensures { result.items ≡ row_facts instance.now finding.now }
+{
+    match finding {
+        Finding::Conflict(course, other, slot, cause) => {
+            conflict_row(instance, *course, *other, *slot, cause)
+        }
+        _ => facts(instance, finding),
     }
 }

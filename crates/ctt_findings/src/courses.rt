@@ -1,23 +1,20 @@
 //! Rules that are checked course by course.
 
-ghost use Rattle.std.specs.Prelude.{IfErr, OnOk};
+ghost use Rattle.std.specs.Prelude.{◌≡◌, ◌++◌, OnOk};
 ghost use Rattle.ctt_problem.specs.Timetable.{IsTimetable};
 ghost use Rattle.ctt_findings.specs.Findings.{by_course};
-ghost use Rattle.ctt_findings.specs.Hearing.{Hears, HearsFront};
 
+use crate::adding::push_some;
 use crate::finding::Finding;
-use crate::listener::{Listener, tell};
-use crate::untold::Untold;
-use ctt_problem::{CourseNo, Instance, Placed};
+use ctt_problem::{CourseNo, Instance, NoMemory, Placed};
 use ctt_rules::{course_cost, course_row};
 
 /// A rule that is checked for each course by its lectures.
 pub(crate) trait OfCourse {
-    ghost use Rattle.std.specs.Prelude.{◌≡◌, ◌<◌, ℕ, List, Option, IfSome};
+    ghost use Rattle.std.specs.Prelude.{◌≡◌, ◌<◌, ℕ, List, Option};
     ghost use Rattle.ctt_problem.specs.Problem.{Problem, course_count};
     ghost use Rattle.ctt_problem.specs.Timetable.{IsTimetable, course_row};
     ghost use Rattle.ctt_problem.specs.declared.placed.Placed.{Placed as Lecture};
-    ghost use Rattle.ctt_findings.specs.Fitting.{FindingFits};
     ghost use Rattle.ctt_findings.specs.declared.finding.Finding.{Finding as Found};
 
     /// The finding for a course with these lectures, if there is one.
@@ -27,8 +24,7 @@ pub(crate) trait OfCourse {
     fn find(instance: &Instance, timetable: &[Placed], course: CourseNo) -> Option<Finding>
         requires timetable { IsTimetable instance.now timetable.now }
         requires course { course < course_count instance.now }
-        ensures finding { result ≡ finding instance.now course (course_row course timetable.now) }
-        ensures fits { IfSome result (FindingFits instance.now) };
+        ensures { result ≡ finding instance.now course (course_row course timetable.now) };
 }
 
 /// Missing or surplus lectures.
@@ -85,21 +81,18 @@ impl OfCourse for RoomCount {
     }
 }
 
-/// Reports the findings on the courses, one course after another.
-pub(crate) fn tell_of_courses<K: OfCourse, L: Listener>(
-    listener: &mut L,
+/// Adds the findings on the courses, one course after another.
+pub(crate) fn push_of_courses<K: OfCourse>(
+    found: &mut Vec<Finding>,
     instance: &Instance,
     timetable: &[Placed],
-) -> Result<(), Untold>
+) -> Result<(), NoMemory>
     requires { IsTimetable instance.now timetable.now }
-    ensures heard { OnOk result (Hears (L.hears instance.now) listener.old
-        (by_course instance.now timetable.now (K.finding instance.now)) listener.new) }
-    ensures front { IfErr result (HearsFront (L.hears instance.now) L.fails listener.old
-        (by_course instance.now timetable.now (K.finding instance.now)) listener.new) }
+    ensures { OnOk result (found.new.items
+        ≡ found.old.items ++ by_course instance.now timetable.now (K.finding instance.now)) }
 {
     for number in 0..instance.courses() {
-        let finding = K::find(instance, timetable, CourseNo::new(number));
-        tell(listener, instance, finding)?;
+        push_some(found, K::find(instance, timetable, CourseNo::new(number)))?;
     }
     Ok(())
 }

@@ -5,7 +5,7 @@ use std::marker::Model;
 
 /// A word or a number.
 #[derive(Clone, Copy, Drop)]
-pub enum FactValue<'i> {
+pub(crate) enum FactValue<'i> {
     /// A name of the instance, or a word of the program's own.
     Text(&'i str),
     /// A number.
@@ -14,7 +14,7 @@ pub enum FactValue<'i> {
 
 /// A value, with the key of its member in a JSON object.
 #[derive(Drop)]
-pub struct Fact<'i> {
+pub(crate) struct Fact<'i> {
     key: &'static str,
     value: FactValue<'i>,
 }
@@ -34,7 +34,7 @@ impl<'i> Fact<'i> {
     ghost use Rattle.ctt_findings.specs.FactValues.{content_of};
 
     /// Creates a fact whose value is a text.
-    pub fn text(key: &'static str, text: &'i str) -> Self
+    pub(crate) fn text(key: &'static str, text: &'i str) -> Self
         ensures { result ≡ fact key.now (word text.now) }
     {
         Fact {
@@ -44,7 +44,7 @@ impl<'i> Fact<'i> {
     }
 
     /// Creates a fact whose value is a number.
-    pub fn number(key: &'static str, count: u64) -> Self
+    pub(crate) fn number(key: &'static str, count: u64) -> Self
         ensures { result ≡ fact key.now (number count) }
     {
         Fact {
@@ -54,21 +54,21 @@ impl<'i> Fact<'i> {
     }
 
     /// Returns the key.
-    pub fn key(&self) -> &'static str
+    pub(crate) fn key(&self) -> &'static str
         ensures { result.now ≡ self.now.key }
     {
         self.key
     }
 
     /// Returns the value.
-    pub fn value(&self) -> FactValue<'i>
+    pub(crate) fn value(&self) -> FactValue<'i>
         ensures { content_of result ≡ self.now.value }
     {
         self.value
     }
 
     /// Returns the value as a word of a line.
-    pub fn word(&self) -> Word<'i>
+    pub(crate) fn word(&self) -> Word<'i>
         ensures { result ≡ text_of self.now.value }
     {
         match self.value {

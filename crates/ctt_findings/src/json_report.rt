@@ -1,21 +1,36 @@
-//! The report on a timetable as JSON, without its findings or around them.
+//! The report on a timetable as JSON, without its findings or with them.
 
-ghost use Rattle.std.specs.Prelude.{◌≡◌, ◌++◌, ◌^◌, ◌<◌, false, length, IfOk, OnOk, codes, position};
-ghost use Rattle.serde_json.specs.Data.{array, boolean, no_items, object, put as with_member};
+ghost use Rattle.std.specs.Prelude.{◌≡◌, ◌++◌, ◌^◌, ◌<◌, false, IfOk, OnOk, codes, option_map};
+ghost use Rattle.serde_json.specs.Data.{boolean, object, put as with_member};
 ghost use Rattle.serde_json.specs.View.{members_view};
 ghost use Rattle.serde_json.specs.Written.{compact_text, has_float};
 ghost use Rattle.ctt_problem.specs.Problem.{has_barred, has_blocked};
 ghost use Rattle.ctt_problem.specs.Timetable.{IsTimetable};
 ghost use Rattle.ctt_rules.specs.Penalty.{total};
-ghost use Rattle.ctt_findings.specs.Findings.{findings};
-ghost use Rattle.ctt_findings.specs.Objects.{item_texts};
-ghost use Rattle.ctt_findings.specs.ReportText.{IsExplainedJson, IsJsonReport, explained_json_of, is_bracket, members_of, with_barred, with_blocked, with_cost, with_hard};
+ghost use Rattle.ctt_findings.specs.ReportText.{IsExplainedJson, IsJsonReport, members_of, with_barred, with_blocked, with_cost, with_file, with_hard};
 
-use crate::members::{put_count, put_text};
+use crate::find::find_all;
+use crate::json_members::{put_count, put_text};
+use crate::objects::objects;
 use ctt_problem::{Instance, NoMemory, Placed};
 use ctt_rules::{Assessment, Cost, Hard, assess};
 use serde_json::{Map, Value};
 use std::alloc::{AllocError, Global};
+
+/// Adds the name of the solution's file, if it is asked for.
+fn put_file(
+    alloc: Global,
+    report: &mut Map<String, Value>,
+    file: Option<&str>,
+) -> Result<(), AllocError>
+    ensures { OnOk result (members_view report.new.entries
+        ≡ with_file (option_map (λ name. name.now) file.entry) (members_view report.old.entries)) }
+{
+    match file {
+        Some(name) => put_text(alloc, report, "file", name),
+        None => Ok(()),
+    }
+}
 
 /// Adds the count of lectures in barred rooms, if any room is barred.
 fn put_barred(
@@ -99,15 +114,17 @@ fn put_cost(alloc: Global, report: &mut Map<String, Value>, cost: &Cost) -> Resu
 /// Builds the members of the report, without its findings.
 fn members(
     alloc: Global,
+    file: Option<&str>,
     instance: &Instance,
     assessment: &Assessment,
 ) -> Result<Map<String, Value>, AllocError>
     requires { total assessment.now.cost < 2 ^ 64 }
     ensures { IfOk result (λ report. members_view report.entries
-        ≡ members_of instance.now assessment.now.hard assessment.now.cost
-        assessment.now.lawful assessment.now.complete) }
+        ≡ members_of (option_map (λ name. name.now) file.entry) instance.now assessment.now.hard
+        assessment.now.cost assessment.now.lawful assessment.now.complete) }
 {
     let mut report = Map::new(alloc);
+    put_file(alloc, &mut report, file)?;
     put_text(alloc, &mut report, "instance", instance.name())?;
     put_hard(alloc, &mut report, instance, &assessment.hard)?;
     put_cost(alloc, &mut report, &assessment.cost)?;
@@ -126,62 +143,39 @@ fn line(alloc: Global, members: Map<String, Value>) -> Result<Vec<u8>, AllocErro
     Ok(text.into_bytes())
 }
 
-/// Returns the report on a timetable as one line of JSON.
+/// Returns the report on a timetable as one line of JSON, with the name of the solution's file if it
+/// is given.
 pub fn report_json(
     alloc: Global,
+    file: Option<&str>,
     instance: &Instance,
     timetable: &[Placed],
 ) -> Result<Vec<u8>, NoMemory>
     requires { IsTimetable instance.now timetable.now }
-    ensures { IfOk result (λ bytes. IsJsonReport instance.now timetable.now bytes.items) }
+    ensures { IfOk result (λ bytes. IsJsonReport (option_map (λ name. name.now) file.entry)
+        instance.now timetable.now bytes.items) }
 {
     let assessment = assess(instance, timetable);
-    let report = members(alloc, instance, &assessment)?;
+    let report = members(alloc, file, instance, &assessment)?;
     Ok(line(alloc, report)?)
 }
 
-/// Returns the report as one line of JSON, with an empty array of findings.
-fn without_findings(
+/// Returns the report on a timetable with all findings as one line of JSON, with the name of the
+/// solution's file if it is given.
+pub fn explained_json(
     alloc: Global,
-    instance: &Instance,
-    assessment: &Assessment,
-) -> Result<Vec<u8>, AllocError>
-    requires { total assessment.now.cost < 2 ^ 64 }
-    ensures { IfOk result (λ text. text.items
-        ≡ explained_json_of (array no_items) instance.now assessment.now.hard
-        assessment.now.cost assessment.now.lawful assessment.now.complete) }
-{
-    let mut report = members(alloc, instance, assessment)?;
-    let none = Value::Array(Vec::new(alloc));
-    serde_json::put(&mut report, alloc, "findings", none)?;
-    line(alloc, report)
-}
-
-/// Returns the position of the first `[` in a text.
-fn first_list(text: &[u8]) -> Option<usize>
-    ensures { result ≡ position is_bracket text.now }
-{
-    text.iter().position(|byte| *byte == b'[')
-}
-
-/// Returns the report on a timetable as one line of JSON, split within its array of findings: the
-/// text before the findings, and the text after them. The caller writes the findings in between.
-pub fn report_around(
-    alloc: Global,
+    file: Option<&str>,
     instance: &Instance,
     timetable: &[Placed],
-) -> Result<(Vec<u8>, Vec<u8>), NoMemory>
+) -> Result<Vec<u8>, NoMemory>
     requires { IsTimetable instance.now timetable.now }
-    ensures parts { IfOk result (λ parts. IsExplainedJson instance.now timetable.now
-        (parts.0.items
-        ++ (item_texts instance.now false (findings instance.now timetable.now)
-        ++ parts.1.items))) }
-    ensures front { IfOk result (λ parts. 0 < length parts.0.items) }
+    ensures { IfOk result (λ bytes. IsExplainedJson (option_map (λ name. name.now) file.entry)
+        instance.now timetable.now bytes.items) }
 {
+    let found = find_all(alloc, instance, timetable)?;
     let assessment = assess(instance, timetable);
-    let mut front = without_findings(alloc, instance, &assessment)?;
-    // Only numbers and Booleans precede the array of findings, so its bracket is the first.
-    let place = first_list(&front).unwrap();
-    let rest = front.split_off(place + 1)?;
-    Ok((front, rest))
+    let mut report = members(alloc, file, instance, &assessment)?;
+    let array = objects(alloc, instance, &found)?;
+    serde_json::put(&mut report, alloc, "findings", array)?;
+    Ok(line(alloc, report)?)
 }

@@ -1,22 +1,19 @@
 //! Rules that are checked lecture by lecture.
 
-ghost use Rattle.std.specs.Prelude.{IfErr, OnOk, filter_map};
+ghost use Rattle.std.specs.Prelude.{◌≡◌, ◌++◌, OnOk, filter_map};
 ghost use Rattle.std.specs.List.{AllByRecursion as Each};
 ghost use Rattle.ctt_problem.specs.Timetable.{Fits};
-ghost use Rattle.ctt_findings.specs.Hearing.{Hears, HearsFront};
 
+use crate::adding::push_some;
 use crate::finding::Finding;
-use crate::listener::{Listener, tell};
-use crate::untold::Untold;
-use ctt_problem::{Instance, Placed};
+use ctt_problem::{Instance, NoMemory, Placed};
 
 /// A rule that is checked for each lecture by itself.
 pub(crate) trait OfLecture {
-    ghost use Rattle.std.specs.Prelude.{◌≡◌, Option, IfSome};
+    ghost use Rattle.std.specs.Prelude.{◌≡◌, Option};
     ghost use Rattle.ctt_problem.specs.Problem.{Problem};
     ghost use Rattle.ctt_problem.specs.Timetable.{Fits};
     ghost use Rattle.ctt_problem.specs.declared.placed.Placed.{Placed as Lecture};
-    ghost use Rattle.ctt_findings.specs.Fitting.{FindingFits};
     ghost use Rattle.ctt_findings.specs.declared.finding.Finding.{Finding as Found};
 
     /// The finding for a lecture, if there is one.
@@ -25,8 +22,7 @@ pub(crate) trait OfLecture {
     /// Returns the finding for a lecture, if there is one.
     fn find(instance: &Instance, lecture: &Placed) -> Option<Finding>
         requires { Fits instance.now lecture.now }
-        ensures finding { result ≡ finding instance.now lecture.now }
-        ensures fits { IfSome result (FindingFits instance.now) };
+        ensures { result ≡ finding instance.now lecture.now };
 }
 
 /// A slot in which the course is unavailable.
@@ -95,20 +91,18 @@ impl OfLecture for Overfull {
     }
 }
 
-/// Reports the findings on the lectures, one lecture after another.
-pub(crate) fn tell_of_lectures<K: OfLecture, L: Listener>(
-    listener: &mut L,
+/// Adds the findings on the lectures, one lecture after another.
+pub(crate) fn push_of_lectures<K: OfLecture>(
+    found: &mut Vec<Finding>,
     instance: &Instance,
     timetable: &[Placed],
-) -> Result<(), Untold>
+) -> Result<(), NoMemory>
     requires { Each (Fits instance.now) timetable.now }
-    ensures heard { OnOk result (Hears (L.hears instance.now) listener.old
-        (filter_map (K.finding instance.now) timetable.now) listener.new) }
-    ensures front { IfErr result (HearsFront (L.hears instance.now) L.fails listener.old
-        (filter_map (K.finding instance.now) timetable.now) listener.new) }
+    ensures { OnOk result (found.new.items
+        ≡ found.old.items ++ filter_map (K.finding instance.now) timetable.now) }
 {
     for lecture in timetable {
-        tell(listener, instance, K::find(instance, lecture))?;
+        push_some(found, K::find(instance, lecture))?;
     }
     Ok(())
 }

@@ -1,32 +1,30 @@
 //! What a timetable breaks and costs: the report, and each finding by name.
 #![tactic(auto)]
 
+mod adding;
 mod compactness;
 mod conflicts;
 mod contents;
 mod courses;
+mod csv_fields;
 mod fact;
+mod find;
 mod finding;
-mod items;
+pub mod finding_laws;
+mod json_members;
 mod json_report;
-pub mod laws;
 mod lectures;
 mod lines;
-mod listener;
-mod members;
+mod objects;
 mod occupancy;
 mod report;
+mod report_facts;
 mod rows;
-mod telling;
-mod untold;
+mod tables;
 
-pub use contents::facts;
-pub use fact::{Fact, FactValue};
+pub use csv_fields::{push_field, push_next_field};
+pub use find::find_all;
 pub use finding::{Cause, Finding};
-pub use items::push_item;
-pub use json_report::{report_around, report_json};
-pub use lines::push_line;
-pub use listener::Listener;
-pub use report::report_text;
-pub use telling::tell_findings;
-pub use untold::Untold;
+pub use json_report::{explained_json, report_json};
+pub use report::{explained_text, report_text};
+pub use tables::{findings_csv, report_csv};

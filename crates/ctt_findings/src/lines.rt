@@ -1,6 +1,7 @@
 //! Findings as lines of text.
 
-ghost use Rattle.std.specs.Prelude.{◌≡◌, ◌++◌, OnOk, map, string_bytes};
+ghost use Rattle.std.specs.Prelude.{◌≡◌, ◌++◌, OnOk, flat_map, map, string_bytes};
+ghost use Rattle.std.specs.List.{AllByRecursion as Each};
 ghost use Rattle.ctt_findings.specs.Fitting.{FindingFits};
 ghost use Rattle.ctt_findings.specs.Lines.{line, text_of_fact};
 
@@ -24,7 +25,7 @@ fn words<'i>(facts: &ArrayVec<Fact<'i>, 8>) -> ArrayVec<Word<'i>, 8>
 }
 
 /// Adds the line of a finding: its kind, and its facts with names in place of numbers.
-pub fn push_line(
+pub(crate) fn push_line(
     text: &mut String,
     instance: &Instance,
     finding: &Finding,
@@ -35,4 +36,20 @@ pub fn push_line(
 {
     let facts = facts(instance, finding);
     ctt_line::push_line(text, words(&facts).as_slice())
+}
+
+/// Adds the lines of findings.
+pub(crate) fn push_lines(
+    text: &mut String,
+    instance: &Instance,
+    found: &[Finding],
+) -> Result<(), AllocError>
+    requires { Each (FindingFits instance.now) found.now }
+    ensures { OnOk result (string_bytes text.new
+        ≡ string_bytes text.old ++ flat_map (line instance.now) found.now) }
+{
+    for finding in found {
+        push_line(text, instance, finding)?;
+    }
+    Ok(())
 }

@@ -1,14 +1,12 @@
 //! The lectures in rooms that are already taken.
 
-ghost use Rattle.std.specs.Prelude.{◌≡◌, ◌<◌, ◌==◌, ◌&&◌, ◌||◌, [], ℕ, false, length, IfOk, IfErr, OnOk};
+ghost use Rattle.std.specs.Prelude.{◌≡◌, ◌<◌, ◌==◌, ◌&&◌, ◌||◌, ◌++◌, [], ℕ, false, length, IfOk, OnOk};
 ghost use Rattle.ctt_problem.specs.Timetable.{IsTimetable};
 ghost use Rattle.ctt_rules.specs.Earlier.{in_row};
 ghost use Rattle.ctt_findings.specs.Findings.{occupancy_finding, occupancy_from};
-ghost use Rattle.ctt_findings.specs.Hearing.{Hears, HearsFront};
 
+use crate::adding::push_some;
 use crate::finding::Finding;
-use crate::listener::{Listener, tell};
-use crate::untold::Untold;
 use ctt_problem::{Instance, Marks, NoMemory, Placed};
 use std::alloc::Global;
 use std::marker::Model;
@@ -60,24 +58,20 @@ fn occupancy(taken: bool, lecture: &Placed) -> Option<Finding>
     Some(Finding::Occupancy(*lecture))
 }
 
-/// Reports the lectures in rooms that an earlier lecture takes in the same slot.
-pub(crate) fn tell_occupancy<L: Listener>(
+/// Adds the lectures in rooms that an earlier lecture takes in the same slot.
+pub(crate) fn push_occupancy(
     alloc: Global,
-    listener: &mut L,
+    found: &mut Vec<Finding>,
     instance: &Instance,
     timetable: &[Placed],
-) -> Result<(), Untold>
+) -> Result<(), NoMemory>
     requires { IsTimetable instance.now timetable.now }
-    ensures heard { OnOk result (Hears (L.hears instance.now) listener.old
-        (occupancy_from [] timetable.now) listener.new) }
-    ensures front { IfErr result (HearsFront (L.hears instance.now) L.fails listener.old
-        (occupancy_from [] timetable.now) listener.new) }
+    ensures { OnOk result (found.new.items ≡ found.old.items ++ occupancy_from [] timetable.now) }
 {
     instance.limits_hold();
     let mut taken = TakenRooms::new(alloc, instance.slots())?;
     for lecture in timetable {
-        let finding = occupancy(taken.take(lecture), lecture);
-        tell(listener, instance, finding)?;
+        push_some(found, occupancy(taken.take(lecture), lecture))?;
     }
     Ok(())
 }

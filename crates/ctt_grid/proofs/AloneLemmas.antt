@@ -14,7 +14,7 @@ use Rattle.ctt_rules.proofs.ListLemmas.{Each-filter}
 use Rattle.ctt_rules.proofs.NeighbourLemmas.{by_period, alone_is}
 use Rattle.ctt_rules.proofs.SlotLemmas.{day_fits, periods_above}
 use Rattle.ctt_rules.proofs.SumLemmas.{sum_below_same, sum_below_add, sum_below_one, sum_below_zero, count_by-cons}
-use Rattle.ctt_grid.specs.Joining.{by_slot, alone_at, alone_beside, stands_alone}
+use Rattle.ctt_grid.specs.CostDelta.{count_in_slot, alone_at, alone_beside, stands_alone}
 use Rattle.ctt_grid.proofs.CountedLemmas.{any_counted, count_filter}
 
 pub sum_below_balance : (a b c d : ℕ → ℕ) (n : ℕ) → ((k : ℕ) → a k + b k ≡ c k + d k) → sum_below a n + sum_below b n ≡ sum_below c n + sum_below d n
@@ -173,12 +173,12 @@ by_slots b n (x ∷ xs) h =
         there false m = omega arith
 
 -- what a curriculum costs, by its counts
-pub alone_counted : (i : Problem) (q : List ℕ) (t : List Placed) → Each (λ (l : Placed). l.slot < slot_count i) t → alone_cost i (lectures_of q t) ≡ 2 * sum_below (alone_at i (by_slot q t)) (slot_count i)
+pub alone_counted : (i : Problem) (q : List ℕ) (t : List Placed) → Each (λ (l : Placed). l.slot < slot_count i) t → alone_cost i (lectures_of q t) ≡ 2 * sum_below (alone_at i (count_in_slot q t)) (slot_count i)
 alone_counted i q t h =
     let part : List Placed = lectures_of q t in
     let fits = Each-filter (λ (l : Placed). l.slot < slot_count i) (λ l. has l.course q) t h in
-    let marks : ℕ → Bool = λ s. ltb 0 (by_slot q t s) in
-    let counts : (s : ℕ) → count_by (λ (l : Placed). l.slot == s) part ≡ by_slot q t s = λ s. count_filter (λ (l : Placed). l.slot == s) (λ l. has l.course q) t in
+    let marks : ℕ → Bool = λ s. ltb 0 (count_in_slot q t s) in
+    let counts : (s : ℕ) → count_by (λ (l : Placed). l.slot == s) part ≡ count_in_slot q t s = λ s. count_filter (λ (l : Placed). l.slot == s) (λ l. has l.course q) t in
     let same : (s : ℕ) → marks s ≡ busy part s = λ s. sym (any_counted (λ (l : Placed). l.slot == s) part ∙ ap (ltb 0) (counts s)) in
     ap (λ n. 2 * n) (alone_is i part marks fits same ∙ by_slots (is_beside i marks) (slot_count i) part fits
-    ∙ sum_below_same (λ s. cond (is_beside i marks s) 0 (count_by (λ (l : Placed). l.slot == s) part)) (alone_at i (by_slot q t)) (slot_count i) (λ s. ap (λ n. cond (is_beside i marks s) 0 n) (counts s)))
+    ∙ sum_below_same (λ s. cond (is_beside i marks s) 0 (count_by (λ (l : Placed). l.slot == s) part)) (alone_at i (count_in_slot q t)) (slot_count i) (λ s. ap (λ n. cond (is_beside i marks s) 0 n) (counts s)))

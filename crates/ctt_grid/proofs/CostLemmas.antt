@@ -7,7 +7,7 @@ use Rattle.ctt_rules.specs.Penalty.{penalty, total}
 use Rattle.ctt_rules.proofs.TimetableLemmas.{courses_fit}
 use Rattle.ctt_board.specs.Changes.{apply}
 use Rattle.ctt_board.specs.Costs.{courses_cost, curricula_cost}
-use Rattle.ctt_grid.specs.Laws.{PenaltyFits}
+use Rattle.ctt_grid.specs.BoundLaws.{PenaltyFits}
 use Rattle.ctt_board.specs.declared.cell.Cell.{Cell}
 use Rattle.ctt_board.proofs.CostLemmas.{difference_of, penalty_small}
 

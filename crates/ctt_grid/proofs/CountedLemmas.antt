@@ -8,7 +8,7 @@ use Rattle.ctt_problem.specs.Timetable.{course_row}
 use Rattle.ctt_problem.specs.declared.placed.Placed.{Placed}
 use Rattle.ctt_rules.specs.Penalty.{days_of, rooms_of}
 use Rattle.ctt_rules.proofs.SumLemmas.{sum_below_same, sum_below_add, sum_below_one, count_by-cons}
-use Rattle.ctt_grid.specs.Joining.{on_day, in_room}
+use Rattle.ctt_grid.specs.CostDelta.{on_day, in_room}
 
 -- whether some element passes, by counting
 pub any_counted : {X : Type 0} (p : X → Bool) (xs : List X) → list_any p xs ≡ ltb 0 (count_by p xs)

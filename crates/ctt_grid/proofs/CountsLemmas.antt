@@ -13,8 +13,8 @@ use Rattle.ctt_problem.specs.declared.placed.Placed.{Placed}
 use Rattle.ctt_rules.specs.Hard.{Lawful}
 use Rattle.ctt_rules.proofs.SlotLemmas.{day_fits}
 use Rattle.ctt_board.proofs.MoreLemmas.{IsMore, counted_more}
-use Rattle.ctt_grid.specs.Joining.{on_day, in_room, in_slot, by_slot}
-use Rattle.ctt_grid.specs.Tables.{Grid, at, Adds, one_at}
+use Rattle.ctt_grid.specs.CostDelta.{on_day, in_room, in_slot, count_in_slot}
+use Rattle.ctt_grid.specs.Tables.{Grid, at, AddsAtEach, one_at}
 use Rattle.ctt_grid.specs.Counts.{HaveSizes, Counted, AreBusy, AreCounts, AddsLecture, TakesMarks, HaveLecture, in_one_slot}
 use Rattle.ctt_grid.specs.declared.counts.Counts.{Counts}
 use Rattle.ctt_grid.proofs.CountedLemmas.{any_counted}
@@ -48,13 +48,13 @@ named_once p r (suc n) =
     there false m e = omega arith
 
 -- a table with w added
-counted_up : (a b : Grid ℕ) (w f g : ℕ → ℕ → ℕ) (rows width : ℕ) → Adds a b w → ((r k : ℕ) → r < rows → k < width → g r k ≡ w r k + f r k) → Counted a rows width f → Counted b rows width g
+counted_up : (a b : Grid ℕ) (w f g : ℕ → ℕ → ℕ) (rows width : ℕ) → AddsAtEach a b w → ((r k : ℕ) → r < rows → k < width → g r k ≡ w r k + f r k) → Counted a rows width f → Counted b rows width g
 counted_up a b w f g rows width adds e h = record {
   size = (adds.rows ∙ h.size.0, adds.width ∙ h.size.1);
   counts = λ r k lr lk. omega (arith, adds.sums r k (omega (arith, lk, h.size.1)), e r k lr lk, h.counts r k lr lk);
 }
 
-counted_down : (a b : Grid ℕ) (w f g : ℕ → ℕ → ℕ) (rows width : ℕ) → Adds a b w → ((r k : ℕ) → r < rows → k < width → g r k ≡ w r k + f r k) → Counted b rows width g → Counted a rows width f
+counted_down : (a b : Grid ℕ) (w f g : ℕ → ℕ → ℕ) (rows width : ℕ) → AddsAtEach a b w → ((r k : ℕ) → r < rows → k < width → g r k ≡ w r k + f r k) → Counted b rows width g → Counted a rows width f
 counted_down a b w f g rows width adds e h = record {
   size = (sym adds.rows ∙ h.size.0, sym adds.width ∙ h.size.1);
   counts = λ r k lr lk. omega (arith, adds.sums r k (omega (arith, lk, h.size.1, adds.width)), e r k lr lk, h.counts r k lr lk);
@@ -95,7 +95,7 @@ module _ (i : Problem) (l : Placed) (t u : List Placed) (more : IsMore l t u) (f
   busy_more a b adds h = record {
     size = (adds.size.0 ∙ h.size.0, adds.size.1 ∙ h.size.1);
     slots = λ q s lq. adds.marks q s ∙ ap₂ (λ x y. x || y) (h.slots q s lq ∙ any_counted (in_slot (members i q) s) t) (its_slots q s lq)
-        ∙ by (in_slot (members i q) s l) (by_slot (members i q) t s) (by_slot (members i q) u s) (counted_more l t u more (in_slot (members i q) s)) ∙ sym (any_counted (in_slot (members i q) s) u);
+        ∙ by (in_slot (members i q) s l) (count_in_slot (members i q) t s) (count_in_slot (members i q) u s) (counted_more l t u more (in_slot (members i q) s)) ∙ sym (any_counted (in_slot (members i q) s) u);
   }
     where
       by : (b : Bool) (n m : ℕ) → m ≡ cond b 1 0 + n → (ltb 0 n || b) ≡ ltb 0 m
@@ -106,7 +106,7 @@ module _ (i : Problem) (l : Placed) (t u : List Placed) (more : IsMore l t u) (f
   busy_less a b lawful takes h = record {
     size = (takes.size.0 ∙ h.size.0, takes.size.1 ∙ h.size.1);
     slots = λ q s lq. takes.marks q s ∙ ap₂ (λ x y. x && not y) (h.slots q s lq ∙ any_counted (in_slot (members i q) s) u) (its_slots q s lq)
-        ∙ by (in_slot (members i q) s l) (by_slot (members i q) t s) (by_slot (members i q) u s) (counted_more l t u more (in_slot (members i q) s)) (one_there i u q s lawful lq) ∙ sym (any_counted (in_slot (members i q) s) t);
+        ∙ by (in_slot (members i q) s l) (count_in_slot (members i q) t s) (count_in_slot (members i q) u s) (counted_more l t u more (in_slot (members i q) s)) (one_there i u q s lawful lq) ∙ sym (any_counted (in_slot (members i q) s) t);
   }
     where
       by : (b : Bool) (n m : ℕ) → m ≡ cond b 1 0 + n → m ≤ 1 → (ltb 0 m && not b) ≡ ltb 0 n

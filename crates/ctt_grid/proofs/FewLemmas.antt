@@ -10,7 +10,7 @@ use Rattle.ctt_problem.specs.declared.placed.Placed.{Placed}
 use Rattle.ctt_board.specs.Cells.{lecture_at, row_below}
 use Rattle.ctt_board.specs.Changes.{room_at}
 use Rattle.ctt_grid.specs.Counts.{AreCounts, HaveRoom}
-use Rattle.ctt_grid.specs.Joining.{on_day, in_room}
+use Rattle.ctt_grid.specs.CostDelta.{on_day, in_room}
 use Rattle.ctt_grid.specs.declared.counts.Counts.{Counts}
 use Rattle.ctt_rules.proofs.SumLemmas.{count_by-cons}
 use Rattle.ctt_board.proofs.RowLemmas.{course_row_is}

@@ -8,7 +8,7 @@ use Rattle.ctt_rules.specs.Hard.{Lawful}
 use Rattle.ctt_board.specs.Changes.{room_at, holder_at}
 use Rattle.ctt_grid.specs.Grids.{AreHolders}
 use Rattle.ctt_grid.specs.Tables.{Grid, at}
-use Rattle.ctt_grid.specs.Counts.{HasSize}
+use Rattle.ctt_grid.specs.Counts.{HasShape}
 use Rattle.ctt_board.proofs.HolderLemmas.{holder_with, holder_without}
 
 -- the table of the courses
@@ -30,5 +30,5 @@ holders_without i l t old new h rows width wrote lawful there = record {
   courses = λ s r ls lr. wrote s r lr ∙ ap (cond (s == l.slot && r == l.room) None) (h.courses s r ls lr) ∙ ap (λ b. cond b None (holder_at s r t)) (flipped s l.slot r l.room) ∙ sym (holder_without i l t s r lawful there);
 }
 
-pub no_holders : (i : Problem) (g : Grid (Option ℕ)) → HasSize g (slot_count i) (room_count i) → ((s r : ℕ) → s < slot_count i → r < room_count i → at g s r None ≡ None) → AreHolders i [] g
+pub no_holders : (i : Problem) (g : Grid (Option ℕ)) → HasShape g (slot_count i) (room_count i) → ((s r : ℕ) → s < slot_count i → r < room_count i → at g s r None ≡ None) → AreHolders i [] g
 no_holders i g size none = record { size = size; courses = none }

@@ -10,7 +10,7 @@ use Rattle.ctt_problem.specs.declared.placed.Placed.{Placed}
 use Rattle.ctt_problem.proofs.TimetableLemmas.{Each-at, Each-map}
 use Rattle.ctt_rules.specs.Hard.{Lawful, conflicts}
 use Rattle.ctt_rules.proofs.SumLemmas.{count_by-cons}
-use Rattle.ctt_grid.specs.Joining.{in_slot, by_slot}
+use Rattle.ctt_grid.specs.CostDelta.{in_slot, count_in_slot}
 use Rattle.ctt_grid.proofs.CountedLemmas.{any_counted}
 
 -- of elements of which no two pass there is at most one that passes
@@ -65,12 +65,12 @@ apart i q s a b known none order here = elim (cases_Bool (in_slot (members i q) 
       absurd (let z : true ≡ false = sym (ap₂ (λ x y. x && y) first.0 second.0) ∙ not_both in cc))
 ]
 
-pub one_there : (i : Problem) (t : List Placed) (q s : ℕ) → Lawful i t → q < curriculum_count i → by_slot (members i q) t s ≤ 1
+pub one_there : (i : Problem) (t : List Placed) (q s : ℕ) → Lawful i t → q < curriculum_count i → count_in_slot (members i q) t s ≤ 1
 one_there i t q s h known = one_most (in_slot (members i q) s) t (Pairwise-both (λ a b. conflicts i a b ≡ false) (λ a b. before a b ≡ true) (λ a b. in_slot (members i q) s a ≡ true → in_slot (members i q) s b ≡ false) (λ a b c o. apart i q s a b known c o) t h.conflict_free h.timetable.ascending)
 
 -- so whether there is one is their number
-pub number_there : (i : Problem) (t : List Placed) (q s : ℕ) (busy : Bool) → Lawful i t → q < curriculum_count i → busy ≡ list_any (in_slot (members i q) s) t → cond busy 1 0 ≡ by_slot (members i q) t s
-number_there i t q s busy h known is = ap (λ b. cond {A = ℕ} b 1 0) (is ∙ any_counted (in_slot (members i q) s) t) ∙ by (by_slot (members i q) t s) (one_there i t q s h known)
+pub number_there : (i : Problem) (t : List Placed) (q s : ℕ) (busy : Bool) → Lawful i t → q < curriculum_count i → busy ≡ list_any (in_slot (members i q) s) t → cond busy 1 0 ≡ count_in_slot (members i q) t s
+number_there i t q s busy h known is = ap (λ b. cond {A = ℕ} b 1 0) (is ∙ any_counted (in_slot (members i q) s) t) ∙ by (count_in_slot (members i q) t s) (one_there i t q s h known)
   where
     by : (n : ℕ) → n ≤ 1 → cond (ltb 0 n) 1 0 ≡ n
     by n few = grind (arith, nat_tests, few)

@@ -14,5 +14,5 @@ with_is l t = sym (put_is before l t)
 pub found_at : (l : Placed) (t : List Placed) (i : ℕ) (d : Placed) → i < length t → ((k : ℕ) (e : Placed) → k < i → before l (get_or t k e) ≡ false) → before l (get_or t i d) ≡ true → i ≡ position_or_len (before l) t
 found_at l t i d lt h e = sym (position_or_len_is (before l) t i d (omega arith) (λ k less. h k d less) (λ less. e))
 
-pub found_nowhere : (l : Placed) (t : List Placed) (i : ℕ) → i ≡ length t → ((k : ℕ) (e : Placed) → k < i → before l (get_or t k e) ≡ false) → i ≡ position_or_len (before l) t
-found_nowhere l t i same h = sym (position_or_len_is (before l) t i l (omega arith) (λ k less. h k l less) (λ less. absurd (omega arith)))
+pub found_end : (l : Placed) (t : List Placed) (i : ℕ) → i ≡ length t → ((k : ℕ) (e : Placed) → k < i → before l (get_or t k e) ≡ false) → i ≡ position_or_len (before l) t
+found_end l t i same h = sym (position_or_len_is (before l) t i l (omega arith) (λ k less. h k l less) (λ less. absurd (omega arith)))

@@ -13,11 +13,11 @@ use Rattle.ctt_rules.specs.Penalty.{days_of}
 use Rattle.ctt_rules.proofs.SlotLemmas.{day_fits}
 use Rattle.ctt_rules.proofs.TimetableLemmas.{slots_fit}
 use Rattle.ctt_board.proofs.MoreLemmas.{IsMore}
-use Rattle.ctt_grid.specs.Joining.{on_day, in_room, in_slot, by_slot, alone_at, alone_beside, stands_alone, joining}
+use Rattle.ctt_grid.specs.CostDelta.{on_day, in_room, in_slot, count_in_slot, alone_at, alone_beside, stands_alone, cost_delta}
 use Rattle.ctt_grid.specs.Tables.{at}
 use Rattle.ctt_grid.specs.Counts.{AreCounts}
-use Rattle.ctt_grid.specs.Seen.{Sees, seen, seen_day, seen_room, seen_lectures, seen_curriculum, seen_days, seen_joining}
-use Rattle.ctt_grid.specs.declared.later.Later.{Later}
+use Rattle.ctt_grid.specs.Seen.{Sees, seen, seen_day, seen_room, seen_lectures, seen_curriculum, seen_days, seen_delta}
+use Rattle.ctt_grid.specs.declared.counts_after.CountsAfter.{CountsAfter}
 use Rattle.ctt_problem.proofs.BelongingLemmas.{curricula_fit}
 use Rattle.ctt_problem.proofs.MarkLemmas.{count_below_same}
 use Rattle.ctt_grid.proofs.CountedLemmas.{days_counted}
@@ -47,46 +47,46 @@ Each-each : {X : Type 0} (P Q : X → Type 0) → ((x : X) → P x → Q x) → 
 Each-each P Q f [] h = tt
 Each-each P Q f (x ∷ xs) h = (f x h.0, Each-each P Q f xs h.1)
 
-pub none_there : (i : Problem) (q : List ℕ) (s : ℕ) (t : List Placed) → slot_count i ≤ s → Each (λ (l : Placed). l.slot < slot_count i) t → by_slot q t s ≡ 0
+pub none_there : (i : Problem) (q : List ℕ) (s : ℕ) (t : List Placed) → slot_count i ≤ s → Each (λ (l : Placed). l.slot < slot_count i) t → count_in_slot q t s ≡ 0
 none_there i q s [] le h = refl
 none_there i q s (x ∷ xs) le h =
     let lt : x.slot < slot_count i = h.0 in
     let no' : in_slot q s x ≡ false = ap (λ b. has x.course q && b) (ne_eqb x.slot s (λ e. omega (arith, e, lt, le))) ∙ turned_and (has x.course q) false in
     omega (arith, sum_by-cons (λ l. cond (in_slot q s l) 1 0) x xs, none_there i q s xs le h.1, ap (λ b. cond {A = ℕ} b 1 0) no')
 
-module _ (i : Problem) (v : Later) (t : List Placed) (h : Sees i v t) where
+module _ (i : Problem) (v : CountsAfter) (t : List Placed) (h : Sees i v t) where
   seen_is : (p : Placed → Bool) (n : ℕ) → n ≡ count_by p h.base → seen v p n ≡ count_by p t
   seen_is p n e = omega (arith, e, h.balance (λ l. cond (p l) 1 0))
 
   pub day_is : (c d : ℕ) → c < course_count i → d < i.days → seen_day i v c d ≡ count_by (on_day i c d) t
-  day_is c d lc ld = seen_is (on_day i c d) (at v.counts.now.days c d 0) (h.counts.days.counts c d lc ld)
+  day_is c d lc ld = seen_is (on_day i c d) (at v.base.now.days c d 0) (h.counts.days.counts c d lc ld)
 
   room_is : (c r : ℕ) → c < course_count i → r < room_count i → seen_room v c r ≡ count_by (in_room c r) t
-  room_is c r lc lr = seen_is (in_room c r) (at v.counts.now.rooms c r 0) (h.counts.rooms.counts c r lc lr)
+  room_is c r lc lr = seen_is (in_room c r) (at v.base.now.rooms c r 0) (h.counts.rooms.counts c r lc lr)
 
   lectures_is : (c : ℕ) → c < course_count i → seen_lectures v c ≡ length (course_row c t)
-  lectures_is c lc = seen_is (λ l. l.course == c) (at v.counts.now.lectures 0 c 0) (h.counts.lectures.counts 0 c (omega arith) lc ∙ length-filter (λ l. l.course == c) h.base) ∙ sym (length-filter (λ l. l.course == c) t)
+  lectures_is c lc = seen_is (λ l. l.course == c) (at v.base.now.lectures 0 c 0) (h.counts.lectures.counts 0 c (omega arith) lc ∙ length-filter (λ l. l.course == c) h.base) ∙ sym (length-filter (λ l. l.course == c) t)
 
   days_is : (c : ℕ) → c < course_count i → seen_days i v c ≡ days_of i (course_row c t)
   days_is c lc = count_below_same (λ d. ltb 0 (seen_day i v c d)) (λ d. ltb 0 (count_by (on_day i c d) t)) i.days (λ d ld. ap (ltb 0) (day_is c d lc ld)) ∙ sym (days_counted i c t)
 
-  pub curriculum_is : Each (Fits i) t → (q : ℕ) → q < curriculum_count i → (s : ℕ) → seen_curriculum i v q s ≡ by_slot (members i q) t s
+  pub curriculum_is : Each (Fits i) t → (q : ℕ) → q < curriculum_count i → (s : ℕ) → seen_curriculum i v q s ≡ count_in_slot (members i q) t s
   curriculum_is fit q lq s = elim (cases_lt s (slot_count i)) [
-    | inl lt ↦ rw (lt-ltb s (slot_count i) lt) (seen_is (in_slot (members i q) s) (cond (is_marked_in v.counts.now.curricula q s) 1 0) (number_there i h.base q s (is_marked_in v.counts.now.curricula q s) h.lawful lq (h.counts.curricula.slots q s lq)))
+    | inl lt ↦ rw (lt-ltb s (slot_count i) lt) (seen_is (in_slot (members i q) s) (cond (is_marked_in v.base.now.curricula q s) 1 0) (number_there i h.base q s (is_marked_in v.base.now.curricula q s) h.lawful lq (h.counts.curricula.slots q s lq)))
     | inr le ↦ rw (le-ltb s (slot_count i) le) (sym (none_there i (members i q) s t le (slots_fit i t fit)))
   ]
 
-  pub joining_is : (l : Placed) → Fits i l → Each (Fits i) t → seen_joining i v l ≡ joining i t l
-  joining_is l fits fit =
+  pub delta_is : (l : Placed) → Fits i l → Each (Fits i) t → seen_delta i v l ≡ cost_delta i t l
+  delta_is l fits fit =
       let qs : List ℕ = curricula_of i l.course in
       let known : Each (λ q. q < curriculum_count i) qs = curricula_fit i l.course qs refl in
-      let alone = sum_by_each (λ q. stands_alone i (seen_curriculum i v q) l.slot) (λ q. stands_alone i (by_slot (members i q) t) l.slot) qs (Each-each (λ q. q < curriculum_count i) (λ q. stands_alone i (seen_curriculum i v q) l.slot ≡ stands_alone i (by_slot (members i q) t) l.slot) (λ q lt. stands_same i (seen_curriculum i v q) (by_slot (members i q) t) (curriculum_is fit q lt) l.slot) qs known) in
-      let company = sum_by_each (λ q. alone_beside i (seen_curriculum i v q) l.slot) (λ q. alone_beside i (by_slot (members i q) t) l.slot) qs (Each-each (λ q. q < curriculum_count i) (λ q. alone_beside i (seen_curriculum i v q) l.slot ≡ alone_beside i (by_slot (members i q) t) l.slot) (λ q lt. beside_same i (seen_curriculum i v q) (by_slot (members i q) t) (curriculum_is fit q lt) l.slot) qs known) in
-      rw (day_is l.course (day_of i l.slot) fits.0 (day_fits i l.slot fits.1), days_is l.course fits.0, lectures_is l.course fits.0, room_is l.course l.room fits.0 fits.2, alone, company) refl
+      let alone = sum_by_each (λ q. stands_alone i (seen_curriculum i v q) l.slot) (λ q. stands_alone i (count_in_slot (members i q) t) l.slot) qs (Each-each (λ q. q < curriculum_count i) (λ q. stands_alone i (seen_curriculum i v q) l.slot ≡ stands_alone i (count_in_slot (members i q) t) l.slot) (λ q lt. stands_same i (seen_curriculum i v q) (count_in_slot (members i q) t) (curriculum_is fit q lt) l.slot) qs known) in
+      let lone_neighbours = sum_by_each (λ q. alone_beside i (seen_curriculum i v q) l.slot) (λ q. alone_beside i (count_in_slot (members i q) t) l.slot) qs (Each-each (λ q. q < curriculum_count i) (λ q. alone_beside i (seen_curriculum i v q) l.slot ≡ alone_beside i (count_in_slot (members i q) t) l.slot) (λ q lt. beside_same i (seen_curriculum i v q) (count_in_slot (members i q) t) (curriculum_is fit q lt) l.slot) qs known) in
+      rw (day_is l.course (day_of i l.slot) fits.0 (day_fits i l.slot fits.1), days_is l.course fits.0, lectures_is l.course fits.0, room_is l.course l.room fits.0 fits.2, alone, lone_neighbours) refl
 
 -- a lecture is added
-pub sees_come : (i : Problem) (l : Placed) (t u : List Placed) (v w : Later) → IsMore l t u → Sees i v t → w.counts.now ≡ v.counts.now → w.removed.items ≡ v.removed.items → w.added.items ≡ v.added.items ++ l ∷ [] → Sees i w u
-sees_come i l t u v w more h counts removed added = record {
+pub sees_added : (i : Problem) (l : Placed) (t u : List Placed) (v w : CountsAfter) → IsMore l t u → Sees i v t → w.base.now ≡ v.base.now → w.removed.items ≡ v.removed.items → w.added.items ≡ v.added.items ++ l ∷ [] → Sees i w u
+sees_added i l t u v w more h counts removed added = record {
   base = h.base;
   lawful = h.lawful;
   counts = subst (λ x. AreCounts i h.base x) (sym counts) h.counts;
@@ -94,8 +94,8 @@ sees_come i l t u v w more h counts removed added = record {
 }
 
 -- a lecture is removed
-pub sees_leave : (i : Problem) (l : Placed) (t u : List Placed) (v w : Later) → IsMore l u t → Sees i v t → w.counts.now ≡ v.counts.now → w.added.items ≡ v.added.items → w.removed.items ≡ v.removed.items ++ l ∷ [] → Sees i w u
-sees_leave i l t u v w more h counts added removed = record {
+pub sees_removed : (i : Problem) (l : Placed) (t u : List Placed) (v w : CountsAfter) → IsMore l u t → Sees i v t → w.base.now ≡ v.base.now → w.added.items ≡ v.added.items → w.removed.items ≡ v.removed.items ++ l ∷ [] → Sees i w u
+sees_removed i l t u v w more h counts added removed = record {
   base = h.base;
   lawful = h.lawful;
   counts = subst (λ x. AreCounts i h.base x) (sym counts) h.counts;

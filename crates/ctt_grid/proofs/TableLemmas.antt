@@ -1,7 +1,7 @@
 -- Writes to a table.
 use Rattle.std.proofs.Common.{◌≡◌, ◌≢◌, ℕ, suc, ◌+◌, ◌*◌, ◌<◌, ◌≤◌, Bool, true, false, cond, ◌&&◌, ◌==◌, List, length, get_or, set, refl, ◌∙◌, sym, ap, ap₂, arith, inl, inr}
 use Rattle.std.proofs.lemmas.Bool.{cases_Bool, cases_eq, cases_order, eq-eqb, ne_eqb, eqb-true, and_parts}
-use Rattle.ctt_grid.specs.Tables.{Grid, at, Adds, one_at}
+use Rattle.ctt_grid.specs.Tables.{Grid, at, AddsAtEach, one_at}
 use Rattle.std.proofs.lemmas.List.{get_or-set_same, get_or-set_other}
 use Rattle.std.proofs.Math.Nat.{mul-le-mul_right}
 
@@ -34,7 +34,7 @@ pub in_table : (w rows r c : ℕ) → r < rows → c < w → r * w + c < rows * 
 in_table w rows r c less lt = (let all : suc r * w ≤ rows * w = mul-le-mul_right w less in omega (arith, all))
 
 -- one more at a place
-pub set_more : (old new : Grid ℕ) (row column n : ℕ) → new.rows ≡ old.rows → new.width ≡ old.width → n ≡ at old row column 0 + 1 → ((r k d : ℕ) → k < old.width → at new r k d ≡ cond (r == row && k == column) n (at old r k d)) → Adds old new (one_at row column)
+pub set_more : (old new : Grid ℕ) (row column n : ℕ) → new.rows ≡ old.rows → new.width ≡ old.width → n ≡ at old row column 0 + 1 → ((r k d : ℕ) → k < old.width → at new r k d ≡ cond (r == row && k == column) n (at old r k d)) → AddsAtEach old new (one_at row column)
 set_more old new row column n rows width is wrote = record { rows = rows; width = width; sums = λ r k lt. wrote r k 0 lt ∙ each r k }
   where
     each : (r k : ℕ) → cond (r == row && k == column) n (at old r k 0) ≡ cond (r == row && k == column) 1 0 + at old r k 0

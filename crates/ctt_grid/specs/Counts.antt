@@ -6,13 +6,13 @@ use Rattle.ctt_problem.specs.BitRows.{BitTable, is_marked_in}
 use Rattle.ctt_problem.specs.Problem.{Problem, course_count, room_count, curriculum_count, slot_count, members, day_of}
 use Rattle.ctt_problem.specs.Timetable.{course_row}
 use Rattle.ctt_problem.specs.declared.placed.Placed.{Placed}
-use Rattle.ctt_grid.specs.Joining.{on_day, in_room, in_slot}
-use Rattle.ctt_grid.specs.Tables.{Grid, at, Adds, AreFew, one_at}
+use Rattle.ctt_grid.specs.CostDelta.{on_day, in_room, in_slot}
+use Rattle.ctt_grid.specs.Tables.{Grid, at, AddsAtEach, CountsAreFew, one_at}
 use Rattle.ctt_grid.specs.declared.counts.Counts.{Counts}
 
 -- the table has this size
-abbrev pub HasSize : {T : Type 0} → Grid T → ℕ → ℕ → Type 0
-HasSize g rows width = (g.rows ≡ rows) × (g.width ≡ width)
+abbrev pub HasShape : {T : Type 0} → Grid T → ℕ → ℕ → Type 0
+HasShape g rows width = (g.rows ≡ rows) × (g.width ≡ width)
 
 -- the table has a row for each curriculum and a bit for each slot
 abbrev pub HaveSlots : BitTable → Problem → Type 0
@@ -20,14 +20,14 @@ HaveSlots g i = (g.rows ≡ curriculum_count i) × (g.width ≡ slot_count i)
 
 -- the tables have the sizes of the instance
 pub record HaveSizes (i : Problem) (c : Counts) : Type 0 where
-  pub lectures : HasSize c.lectures 1 (course_count i)
-  pub days : HasSize c.days (course_count i) i.days
-  pub rooms : HasSize c.rooms (course_count i) (room_count i)
+  pub lectures : HasShape c.lectures 1 (course_count i)
+  pub days : HasShape c.days (course_count i) i.days
+  pub rooms : HasShape c.rooms (course_count i) (room_count i)
   pub curricula : HaveSlots c.curricula i
 
 -- a table of this size with `count r k` in row r and column k
 pub record Counted (g : Grid ℕ) (rows width : ℕ) (count : ℕ → ℕ → ℕ) : Type 0 where
-  pub size : HasSize g rows width
+  pub size : HasShape g rows width
   pub counts : (r k : ℕ) → r < rows → k < width → at g r k 0 ≡ count r k
 
 -- the table marks the slots in which each curriculum has a lecture
@@ -45,9 +45,9 @@ pub record AreCounts (i : Problem) (t : List Placed) (c : Counts) : Type 0 where
 
 -- each table of counts of `new` is that of `old` with lecture l added
 pub record AddsLecture (i : Problem) (l : Placed) (old new : Counts) : Type 0 where
-  pub lectures : Adds old.lectures new.lectures (one_at 0 l.course)
-  pub days : Adds old.days new.days (one_at l.course (day_of i l.slot))
-  pub rooms : Adds old.rooms new.rooms (one_at l.course l.room)
+  pub lectures : AddsAtEach old.lectures new.lectures (one_at 0 l.course)
+  pub days : AddsAtEach old.days new.days (one_at l.course (day_of i l.slot))
+  pub rooms : AddsAtEach old.rooms new.rooms (one_at l.course l.room)
 
 -- one of these curricula, in this slot
 abbrev pub in_one_slot : List ℕ → ℕ → ℕ → ℕ → Bool
@@ -60,9 +60,9 @@ pub record TakesMarks (old new : BitTable) (test : ℕ → ℕ → Bool) : Type 
 
 -- the counts by course are small, so that adding one does not overflow
 pub record HaveRoom (c : Counts) : Type 0 where
-  pub lectures : AreFew c.lectures
-  pub days : AreFew c.days
-  pub rooms : AreFew c.rooms
+  pub lectures : CountsAreFew c.lectures
+  pub days : CountsAreFew c.days
+  pub rooms : CountsAreFew c.rooms
 
 -- lecture l is counted, so that it can be subtracted
 pub record HaveLecture (i : Problem) (l : Placed) (c : Counts) : Type 0 where

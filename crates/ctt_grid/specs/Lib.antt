@@ -1,7 +1,7 @@
 pub mod Tables
-pub mod Joining
+pub mod CostDelta
 pub mod Counts
 pub mod Seen
 pub mod Grids
 pub mod ListSheets
-pub mod Laws
+pub mod BoundLaws

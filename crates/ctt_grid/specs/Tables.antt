@@ -19,7 +19,7 @@ module _ {T : Type 0} where
   at g row column d = get_or g.cells (row * g.width + column) d
 
 -- the table `new` is `old` with w added at each place
-pub record Adds (old new : Grid ℕ) (w : ℕ → ℕ → ℕ) : Type 0 where
+pub record AddsAtEach (old new : Grid ℕ) (w : ℕ → ℕ → ℕ) : Type 0 where
   pub rows : new.rows ≡ old.rows
   pub width : new.width ≡ old.width
   pub sums : (r k : ℕ) → k < old.width → at new r k 0 ≡ w r k + at old r k 0
@@ -29,5 +29,5 @@ abbrev pub one_at : ℕ → ℕ → ℕ → ℕ → ℕ
 one_at row column r k = cond (r == row && k == column) 1 0
 
 -- each count is at most 2,000
-abbrev pub AreFew : Grid ℕ → Type 0
-AreFew g = (r k : ℕ) → r < g.rows → k < g.width → at g r k 0 ≤ 2000
+abbrev pub CountsAreFew : Grid ℕ → Type 0
+CountsAreFew g = (r k : ℕ) → r < g.rows → k < g.width → at g r k 0 ≤ 2000

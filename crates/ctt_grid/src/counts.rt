@@ -1,6 +1,6 @@
 //! Counts of the lectures of a timetable.
 
-ghost use Rattle.std.specs.Prelude.{◌≡◌, true, IfOk, []};
+ghost use Rattle.std.specs.Prelude.{◌≡◌, IfOk, []};
 ghost use Rattle.ctt_problem.specs.Belonging.{curricula_of};
 ghost use Rattle.ctt_problem.specs.BitRows.{AddsMarks};
 ghost use Rattle.ctt_problem.specs.Timetable.{Fits};
@@ -8,7 +8,7 @@ ghost use Rattle.ctt_grid.specs.Counts.{AreCounts, HaveSizes, HaveRoom, HaveLect
 
 use crate::table::Table;
 use crate::tally::{add_one, mark_slot, take_one, unmark_slot};
-use ctt_problem::{BitRows, CourseNo, Instance, Placed, SlotNo};
+use ctt_problem::{BitRows, Instance, Placed};
 use std::alloc::{AllocError, Global};
 
 /// The counts from which the costs of a timetable are computed.

@@ -1,6 +1,7 @@
 //! A sheet that stores its lectures in tables of fixed size, and its costs.
 
-ghost use Rattle.std.specs.Prelude.{◌≡◌, ◌<◌, ◌+◌, pos, ◌-ℤ◌, ◌++◌, ℕ, [], false, Some, is_some, length, OnOk};
+ghost use Rattle.std.specs.Prelude.{◌≡◌, ◌<◌, ◌≤◌, ◌+◌, pos, ◌-ℤ◌, ◌++◌, [], false, Some, is_some, length, OnOk};
+ghost use Rattle.std.specs.Vec.{vec_len, vec_capacity};
 ghost use Rattle.ctt_problem.specs.Problem.{course_count, slot_count};
 ghost use Rattle.ctt_problem.specs.Timetable.{course_row, slot_row, with, without, Fits};
 ghost use Rattle.ctt_rules.specs.Hard.{Lawful};
@@ -10,10 +11,10 @@ ghost use Rattle.ctt_grid.specs.Seen.{Sees, HasPlaces};
 ghost use Rattle.ctt_board.specs.Cells.{lecture_at};
 ghost use Rattle.ctt_board.specs.Ways.{Ready};
 
+use crate::bound_laws;
+use crate::cost_delta::{cost_delta, with_lecture, without_lecture};
+use crate::counts_after::CountsAfter;
 use crate::fitting::fits;
-use crate::joining::{joining_of, with_lecture, without_lecture};
-use crate::later::Later;
-use crate::laws;
 use crate::tables::Tables;
 use ctt_board::{Cell, Change, Rooms, Sheet, Timetable, last_room};
 use ctt_problem::{CourseNo, Instance, Marks, NoMemory, Placed, RoomNo, SlotNo};
@@ -44,13 +45,13 @@ impl<'i> Drop for GridSheet<'i> {
 
 impl<'i> Model for GridSheet<'i> {
     ghost use Rattle.ctt_board.specs.Boards.{Board};
-    ghost use Rattle.ctt_grid.specs.Grids.{listed, IsGridSheet};
+    ghost use Rattle.ctt_grid.specs.Grids.{timetable_in, IsGridSheet};
 
     ghost Value = { Board };
 
     ghost view = { λ s. record {
       problem = s.instance.now;
-      list = listed s.instance.now s.tables.rooms;
+      list = timetable_in s.instance.now s.tables.rooms;
     } };
 
     ghost invariant = { λ s. IsGridSheet s.instance.now s.tables s.cost };
@@ -66,8 +67,12 @@ impl<'i> GridSheet<'i> {
         ensures list { self.new.list ≡ with lecture.now self.old.list }
     {
         self.instance.limits_hold();
-        let joining = joining_of(&Later::now(&self.tables.counts), self.instance, lecture);
-        self.cost = with_lecture(self.cost, &joining);
+        let delta = cost_delta(
+            &CountsAfter::now(&self.tables.counts),
+            self.instance,
+            lecture,
+        );
+        self.cost = with_lecture(self.cost, &delta);
         self.tables.add(self.instance, lecture);
     }
 
@@ -80,8 +85,12 @@ impl<'i> GridSheet<'i> {
     {
         self.instance.limits_hold();
         self.tables.remove(self.instance, lecture);
-        let joining = joining_of(&Later::now(&self.tables.counts), self.instance, lecture);
-        self.cost = without_lecture(self.cost, &joining);
+        let delta = cost_delta(
+            &CountsAfter::now(&self.tables.counts),
+            self.instance,
+            lecture,
+        );
+        self.cost = without_lecture(self.cost, &delta);
     }
 
     fn make(&mut self, cell: &Cell)
@@ -125,16 +134,22 @@ impl<'i> GridSheet<'i> {
         Ok(())
     }
 
-    /// Appends the lectures of a course, by slot.
-    fn append_course(&self, list: &mut Vec<Placed>, course: CourseNo) -> Result<(), AllocError>
-        requires { course < course_count self.now.problem }
-        ensures { OnOk result (list.new.items ≡ list.old.items ++ course_row course self.now.list) }
+    /// Appends the lectures of a course, by slot, to a list with capacity for them.
+    fn append_course(&self, list: &mut Vec<Placed>, course: CourseNo)
+        requires course { course < course_count self.now.problem }
+        requires room { vec_len list.old + length (course_row course self.now.list)
+            ≤ vec_capacity list.old }
+        ensures { list.new.items ≡ list.old.items ++ course_row course self.now.list }
     {
         self.lawful();
-        for slot in 0..self.instance.slots() {
-            self.append_lecture(list, course, SlotNo::new(slot))?;
+        self.instance.limits_hold();
+        let row = self.tables.rooms.row(course.get() as usize);
+        for (number, here) in row.iter().enumerate() {
+            if let Some(room) = here.room() {
+                let slot = SlotNo::new(number as u16);
+                list.push(Placed { course, slot, room }).unwrap();
+            }
         }
-        Ok(())
     }
 }
 
@@ -160,7 +175,7 @@ impl<'i> Rooms for GridSheet<'i> {
     }
 
     fn standing(&self, slot: SlotNo) -> Marks {
-        self.tables.standing.row(slot.get() as usize)
+        self.tables.courses_in_slot.row(slot.get() as usize)
     }
 
     fn count(&self, course: CourseNo) -> u32 {
@@ -173,7 +188,7 @@ impl<'i> Rooms for GridSheet<'i> {
 fn step(
     instance: &Instance,
     sheet: &GridSheet,
-    later: &mut Later,
+    counts: &mut CountsAfter,
     done: &[Cell],
     cell: &Cell,
 ) -> i64
@@ -182,12 +197,12 @@ fn step(
     requires lawful { Lawful instance.now (apply done.now sheet.now.list) }
     requires ready { Ready instance.now cell.now.course cell.now.slot cell.now.room
         (apply done.now sheet.now.list) }
-    requires sees { Sees instance.now later.old (apply done.now sheet.now.list) }
-    requires room { HasPlaces later.old (length done.now) }
+    requires sees { Sees instance.now counts.old (apply done.now sheet.now.list) }
+    requires room { HasPlaces counts.old (length done.now) }
     requires few { length done.now < 4 }
-    ensures sees { Sees instance.now later.new
+    ensures sees { Sees instance.now counts.new
         (apply_at cell.now.course cell.now.slot cell.now.room (apply done.now sheet.now.list)) }
-    ensures room { HasPlaces later.new (length done.now + 1) }
+    ensures room { HasPlaces counts.new (length done.now + 1) }
     ensures value { result
         ≡ pos (total
         (penalty instance.now
@@ -201,16 +216,16 @@ fn step(
         None => {
             let before = sheet.room_at(course, slot);
             let room = last_room(done, course, slot, before).unwrap();
-            -later.leave(instance, &Placed { course, slot, room })
+            -counts.remove(instance, &Placed { course, slot, room })
         }
-        Some(room) => later.come(instance, &Placed { course, slot, room }),
+        Some(room) => counts.add(instance, &Placed { course, slot, room }),
     }
 }
 
 impl<'i> Timetable for GridSheet<'i> {
     fn cost(&self) -> Cost {
         self.instance.limits_hold();
-        laws::penalty_fits();
+        bound_laws::penalty_fits();
         self.cost
     }
 
@@ -218,10 +233,10 @@ impl<'i> Timetable for GridSheet<'i> {
         self.lawful();
         self.instance.limits_hold();
         let cells = change.cells();
-        let mut later = Later::now(&self.tables.counts);
+        let mut counts = CountsAfter::now(&self.tables.counts);
         let mut total = 0;
         for (number, cell) in cells.iter().enumerate() {
-            total += step(self.instance, self, &mut later, &cells[..number], cell);
+            total += step(self.instance, self, &mut counts, &cells[..number], cell);
         }
         total
     }
@@ -245,21 +260,27 @@ impl<'i> Timetable for GridSheet<'i> {
     }
 
     fn course_row(&self, course: CourseNo) -> Result<Vec<Placed>, NoMemory> {
-        let mut row = Vec::new(self.alloc);
-        self.append_course(&mut row, course)?;
+        let mut row = Vec::with_capacity(self.alloc, self.count(course) as usize)?;
+        self.append_course(&mut row, course);
         Ok(row)
     }
 
     fn append_course_row(&self, course: CourseNo, list: &mut Vec<Placed>) -> Result<(), NoMemory> {
-        let row = self.course_row(course)?;
-        Ok(list.extend_from_slice(&row)?)
+        list.reserve(self.count(course) as usize)?;
+        self.append_course(list, course);
+        Ok(())
     }
 
     fn slot_row(&self, slot: SlotNo) -> Result<Vec<Placed>, NoMemory> {
         self.lawful();
+        self.instance.limits_hold();
+        let courses = self.standing(slot);
+        let end = self.instance.courses() as usize;
         let mut row = Vec::new(self.alloc);
-        for course in 0..self.instance.courses() {
-            self.append_lecture(&mut row, CourseNo::new(course), slot)?;
+        let mut from = 0;
+        while let Some(course) = courses.next_between(from, end) {
+            self.append_lecture(&mut row, CourseNo::new(course as u16), slot)?;
+            from = course + 1;
         }
         Ok(row)
     }
@@ -268,7 +289,7 @@ impl<'i> Timetable for GridSheet<'i> {
         self.lawful();
         let mut list = Vec::new(self.alloc);
         for course in 0..self.instance.courses() {
-            self.append_course(&mut list, CourseNo::new(course))?;
+            self.append_course_row(CourseNo::new(course), &mut list)?;
         }
         Ok(list)
     }

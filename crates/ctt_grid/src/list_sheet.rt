@@ -7,10 +7,10 @@ ghost use Rattle.ctt_problem.specs.Problem.{course_count, slot_count};
 ghost use Rattle.ctt_problem.specs.Timetable.{course_row, slot_row, with, without, before};
 ghost use Rattle.ctt_board.specs.Changes.{holder_at, apply, in_turn};
 
+use crate::bound_laws;
+use crate::courses_in_slot::courses_in_slot;
 use crate::delta::delta;
 use crate::fitting::fits;
-use crate::laws;
-use crate::standing::standing_in;
 use ctt_board::{Cell, Change, Rooms, Sheet, Timetable};
 use ctt_problem::{CourseNo, Instance, Marks, NoMemory, Placed, RoomNo, SlotNo, is_before};
 use ctt_rules::Cost;
@@ -48,7 +48,7 @@ impl<'i> Model for ListSheet<'i> {
 }
 
 /// Returns the index at which a lecture belongs in an ordered list.
-#[tactic(auto, using(crate::proofs::OrderLemmas::found_at, crate::proofs::OrderLemmas::found_nowhere))]
+#[tactic(auto, using(crate::proofs::OrderLemmas::found_at, crate::proofs::OrderLemmas::found_end))]
 fn place_of(lectures: &[Placed], lecture: &Placed) -> usize
     ensures place { result ≡ position_or_len (before lecture.now) lectures.now }
     ensures within { result ≤ length lectures.now }
@@ -161,7 +161,7 @@ impl<'i> Rooms for ListSheet<'i> {
 
     fn standing(&self, slot: SlotNo) -> Marks {
         self.instance.limits_hold();
-        standing_in(&self.lectures, slot)
+        courses_in_slot(&self.lectures, slot)
     }
 
     fn count(&self, course: CourseNo) -> u32 {
@@ -184,7 +184,7 @@ impl<'i> Timetable for ListSheet<'i> {
     }
 
     fn apply(&mut self, change: &Change) {
-        laws::length_is_bounded();
+        bound_laws::length_is_bounded();
         make(&mut self.lectures, change.cells());
     }
 

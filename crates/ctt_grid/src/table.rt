@@ -1,5 +1,5 @@
 //! A two-dimensional table of a fixed size.
-ghost use Rattle.std.specs.Prelude.{◌≡◌, ℕ, ◌<◌, ◌≤◌, ◌*◌, ◌==◌, ◌&&◌, cond, length, IfOk};
+ghost use Rattle.std.specs.Prelude.{◌≡◌, ℕ, ◌<◌, ◌≤◌, ◌*◌, ◌==◌, ◌&&◌, cond, length, get_or, IfOk};
 ghost use Rattle.ctt_grid.specs.Tables.{at};
 
 use std::alloc::{AllocError, Global};
@@ -52,6 +52,17 @@ impl<T: Copy> Table<T> {
         ensures { (d : T) → result ≡ at self.now row column d }
     {
         self.cells[row * self.width + column]
+    }
+
+    /// Returns the values of a row, by column.
+    pub(crate) fn row(&self, row: usize) -> &[T]
+        requires { row < self.now.rows }
+        ensures length { length result.now ≡ self.now.width }
+        ensures cells { (column : ℕ) (d : T) → column < self.now.width
+            → get_or result.now column d ≡ at self.now row column d }
+    {
+        let start = row * self.width;
+        &self.cells[start..start + self.width]
     }
 
     /// Writes a value into a row and a column.

@@ -6,7 +6,7 @@ ghost use Rattle.ctt_problem.specs.Timetable.{with, without, Fits};
 ghost use Rattle.ctt_problem.specs.declared.placed.Placed.{Placed};
 ghost use Rattle.ctt_rules.specs.Hard.{Lawful};
 ghost use Rattle.ctt_board.specs.Changes.{room_at};
-ghost use Rattle.ctt_grid.specs.Grids.{listed, AreTables, ArePlaces, HavePlaceSizes};
+ghost use Rattle.ctt_grid.specs.Grids.{timetable_in, AreTables, ArePlaces, HavePlaceSizes};
 
 use crate::counts::Counts;
 use crate::table::Table;
@@ -22,7 +22,7 @@ pub(crate) struct Tables {
     /// The course in each slot (row) and room (column).
     pub(crate) courses: Table<Compact>,
     /// The courses that have a lecture in each slot: a row for each slot.
-    pub(crate) standing: BitRows,
+    pub(crate) courses_in_slot: BitRows,
     pub(crate) counts: Counts,
 }
 
@@ -30,7 +30,7 @@ impl Tables {
     /// Returns the tables of the empty timetable.
     pub(crate) fn new(alloc: Global, instance: &Instance) -> Result<Self, AllocError>
         ensures tables { IfOk result (AreTables instance.now) }
-        ensures list { IfOk result (λ tables. listed instance.now tables.rooms ≡ []) }
+        ensures list { IfOk result (λ tables. timetable_in instance.now tables.rooms ≡ []) }
     {
         instance.limits_hold();
         let courses = instance.courses() as usize;
@@ -39,7 +39,7 @@ impl Tables {
         Ok(Tables {
             rooms: Table::new(alloc, courses, slots, none)?,
             courses: Table::new(alloc, slots, instance.rooms() as usize, none)?,
-            standing: BitRows::new(alloc, slots, courses)?,
+            courses_in_slot: BitRows::new(alloc, slots, courses)?,
             counts: Counts::new(alloc, instance)?,
         })
     }
@@ -50,7 +50,7 @@ impl Tables {
         Ok(Tables {
             rooms: self.rooms.copy()?,
             courses: self.courses.copy()?,
-            standing: self.standing.copy()?,
+            courses_in_slot: self.courses_in_slot.copy()?,
             counts: self.counts.copy()?,
         })
     }
@@ -65,7 +65,7 @@ impl Tables {
         requires tables { AreTables instance.now self.now }
         requires course { course < course_count instance.now }
         requires slot { slot < slot_count instance.now }
-        ensures { result ≡ room_at course slot (listed instance.now self.now.rooms) }
+        ensures { result ≡ room_at course slot (timetable_in instance.now self.now.rooms) }
     {
         let here = self.rooms.get(course.get() as usize, slot.get() as usize);
         here.room()
@@ -89,7 +89,7 @@ impl Tables {
         let room = lecture.room.get() as usize;
         self.courses
             .set(slot, room, Compact::of_course(lecture.course));
-        self.standing.mark(slot, course);
+        self.courses_in_slot.mark(slot, course);
     }
 
     /// Removes a lecture from the look-up tables, not from the counts.
@@ -110,7 +110,7 @@ impl Tables {
         self.rooms.set(course, slot, none);
         let room = lecture.room.get() as usize;
         self.courses.set(slot, room, none);
-        self.standing.unmark(slot, course);
+        self.courses_in_slot.unmark(slot, course);
     }
 
     #[inline(always)]
@@ -118,13 +118,13 @@ impl Tables {
         requires tables { AreTables instance.now self.old }
         requires fits { Fits instance.now lecture.now }
         requires empty { is_some
-            (room_at lecture.now.course lecture.now.slot (listed instance.now self.old.rooms))
+            (room_at lecture.now.course lecture.now.slot (timetable_in instance.now self.old.rooms))
             ≡ false }
         requires lawful { Lawful instance.now
-            (with lecture.now (listed instance.now self.old.rooms)) }
+            (with lecture.now (timetable_in instance.now self.old.rooms)) }
         ensures tables { AreTables instance.now self.new }
-        ensures list { listed instance.now self.new.rooms
-            ≡ with lecture.now (listed instance.now self.old.rooms) }
+        ensures list { timetable_in instance.now self.new.rooms
+            ≡ with lecture.now (timetable_in instance.now self.old.rooms) }
     {
         instance.limits_hold();
         self.counts.add(instance, lecture);
@@ -136,10 +136,11 @@ impl Tables {
         requires tables { AreTables instance.now self.old }
         requires fits { Fits instance.now lecture.now }
         requires there { room_at lecture.now.course lecture.now.slot
-            (listed instance.now self.old.rooms) ≡ Some lecture.now.room }
+            (timetable_in instance.now self.old.rooms) ≡ Some lecture.now.room }
         ensures tables { AreTables instance.now self.new }
-        ensures list { listed instance.now self.new.rooms
-            ≡ without lecture.now.course lecture.now.slot (listed instance.now self.old.rooms) }
+        ensures list { timetable_in instance.now self.new.rooms
+            ≡ without lecture.now.course lecture.now.slot
+            (timetable_in instance.now self.old.rooms) }
     {
         instance.limits_hold();
         self.counts.take(instance, lecture);

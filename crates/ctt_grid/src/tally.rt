@@ -1,10 +1,10 @@
 //! Updates of tables of counts and of marks.
 
-ghost use Rattle.std.specs.Prelude.{◌≡◌, ◌<◌, ◌≤◌, true};
+ghost use Rattle.std.specs.Prelude.{◌<◌, ◌≤◌};
 ghost use Rattle.std.specs.List.{AllByRecursion as Each};
 ghost use Rattle.ctt_problem.specs.BitRows.{AddsMarks};
 ghost use Rattle.ctt_grid.specs.Counts.{TakesMarks, in_one_slot};
-ghost use Rattle.ctt_grid.specs.Tables.{at, Adds, one_at};
+ghost use Rattle.ctt_grid.specs.Tables.{at, AddsAtEach, one_at};
 
 use crate::table::Table;
 use ctt_problem::{BitRows, CurriculumNo, SlotNo};
@@ -14,7 +14,7 @@ pub(crate) fn add_one(counts: &mut Table<u16>, row: usize, column: usize)
     requires row { row < counts.old.rows }
     requires column { column < counts.old.width }
     requires few { at counts.old row column 0 ≤ 65534 }
-    ensures { Adds counts.old counts.new (one_at row column) }
+    ensures { AddsAtEach counts.old counts.new (one_at row column) }
 {
     let count = counts.get(row, column);
     counts.set(row, column, count + 1);
@@ -25,7 +25,7 @@ pub(crate) fn take_one(counts: &mut Table<u16>, row: usize, column: usize)
     requires row { row < counts.old.rows }
     requires column { column < counts.old.width }
     requires some { 1 ≤ at counts.old row column 0 }
-    ensures { Adds counts.new counts.old (one_at row column) }
+    ensures { AddsAtEach counts.new counts.old (one_at row column) }
 {
     let count = counts.get(row, column);
     counts.set(row, column, count - 1);

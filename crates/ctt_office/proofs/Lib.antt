@@ -2,14 +2,10 @@ mod AnswerLemmas
 mod BadWordLemmas
 mod ClosingLemmas
 mod CommittedLemmas
-mod CutLemmas
 mod EndedLemmas
 mod WordLemmas
 mod LineLemmas
 mod NextLemmas
-mod PagesLemmas
-mod PartLemmas
-mod PassLemmas
-mod RecoveryLemmas
+mod RecordedLemmas
 mod RedoLemmas
 mod SittingLemmas

@@ -25,11 +25,11 @@ use Rattle.ctt_desk.specs.declared.shared_fault.SharedFault.TheVariants as share
 use Rattle.ctt_line.specs.Lines.{words_part}
 use Rattle.ctt_script.proofs.WrittenText.{parts_end}
 use Rattle.ctt_seat.specs.declared.seat.Seat.TheVariants.{Drafting, Free}
-use Rattle.ctt_seat.specs.declared.seat.Told.TheVariants.{Answer as Answered}
+use Rattle.ctt_seat.specs.declared.seat.SeatAnswer.TheVariants.{Answer as Answered}
 use Rattle.ctt_office.specs.SeatAnswers.{RedoesCalls, told_line}
-use Rattle.ctt_office.specs.declared.workplace.Workplace.{Workplace}
-use Rattle.ctt_office.specs.Laws.{AreAsked, RedoIsAsking}
-use Rattle.ctt_office.specs.Redone.{IsMadeAgain, IsMadeBy, LeftOut, left_out, left_out_if, left_out_words, made, redone_line, remade, remade_if}
+use Rattle.ctt_office.specs.declared.seat_state.SeatState.{SeatState}
+use Rattle.ctt_office.specs.RedoLaws.{AreAsked, RedoIsAsking}
+use Rattle.ctt_office.specs.Redone.{IsMadeAgain, IsMadeBy, LeftOut, left_out, left_out_if, left_out_words, as_done, redone_line, remade, remade_if}
 
 -- words after others, each after a blank
 pub parts_joined : (ws vs : List (List ℕ)) → words_part (ws ++ vs) ≡ words_part ws ++ words_part vs
@@ -61,15 +61,15 @@ module _ (i : Problem) (d e : DraftingValue) (old now : List ℕ) (again edits :
   one_made : edit_fault i (present_of i e) x ≡ None → IsRemaking i d (asked_also e (Edits x) Done) old now (again + 1) (edits + 1) all left
   one_made free =
       let next : present_of i (asked_also e (Edits x) Done) ≡ edited (present_of i e) x = made_on i e x free in
-      let here : remade i (present_of i e) (x ∷ left) ≡ made x ∷ remade i (edited (present_of i e) x) left = ap (λ o. remade_if o x (remade i (edited (present_of i e) x) left) (remade i (present_of i e) left)) free in
+      let here : remade i (present_of i e) (x ∷ left) ≡ as_done x ∷ remade i (edited (present_of i e) x) left = ap (λ o. remade_if o x (remade i (edited (present_of i e) x) left) (remade i (present_of i e) left)) free in
       let out : left_out i (present_of i e) (edits + 1) (x ∷ left) ≡ left_out i (edited (present_of i e) x) (edits + 1 + 1) left =
       ap (λ o. left_out_if o (edits + 1) x (left_out i (edited (present_of i e) x) (edits + 1 + 1) left) (left_out i (present_of i e) (edits + 1 + 1) left)) free in
       let long : length (remade i (present_of i e) (x ∷ left)) ≡ suc (length (remade i (edited (present_of i e) x) left)) = ap length here in
       let mades = h.mades in
       let counts = h.counts in
       record {
-        same = ap (λ (w : DraftingValue). record w { asked = e.asked ++ made x ∷ [] }) h.same;
-        calls = ap (λ t. (e.asked ++ made x ∷ []) ++ remade i t left) next ∙ append_assoc e.asked (made x ∷ []) (remade i (edited (present_of i e) x) left) ∙ ap (λ xs. e.asked ++ xs) (sym here) ∙ h.calls;
+        same = ap (λ (w : DraftingValue). record w { asked = e.asked ++ as_done x ∷ [] }) h.same;
+        calls = ap (λ t. (e.asked ++ as_done x ∷ []) ++ remade i t left) next ∙ append_assoc e.asked (as_done x ∷ []) (remade i (edited (present_of i e) x) left) ∙ ap (λ xs. e.asked ++ xs) (sym here) ∙ h.calls;
         texts = ap (λ t. now ++ parts_of i (left_out i t (edits + 1 + 1) left)) next ∙ ap (λ xs. now ++ parts_of i xs) (sym out) ∙ h.texts;
         mades = ap (λ t. again + 1 + length (remade i t left)) next ∙ omega (arith, mades, long);
         counts = omega (arith, counts);
@@ -158,19 +158,19 @@ pub new_present : (i : Problem) (d : DraftingValue) → d.asked ≡ [] → prese
 new_present i d none = ap (λ xs. whole i d.base (calls_of xs)) none
 
 -- memory runs out for a draft that was opened
-pub wanted : {X Y : Type 0} (i : Problem) (t0 : List Placed) (p : PlannerValue) (asked : List Asked) (d : DraftingValue) (q : PlannerValue) (after : Workplace X Y) (answer : List ℕ) → IsOpen i t0 p d → q ≡ d.planner → after.seat ≡ Free q → after.ended ≡ Some asked
+pub wanted : {X Y : Type 0} (i : Problem) (t0 : List Placed) (p : PlannerValue) (asked : List Asked) (d : DraftingValue) (q : PlannerValue) (after : SeatState X Y) (answer : List ℕ) → IsOpen i t0 p d → q ≡ d.planner → after.seat ≡ Free q → after.ended ≡ Some asked
     → answer ≡ told_line i (Answered NoMemory) → RedoesCalls i t0 p asked after answer
 wanted i t0 p asked d q after answer opened same seat ended line_is = inr (q, Answered NoMemory, (shared.NoMemory, subst (Grows i t0 p) (sym same) opened.planner, refl), seat, ended, line_is)
 
 -- the edits that are redone, asked for one by one
 abbrev AreAskedFrom : Problem → DraftingValue → List Asked → Type 0
-AreAskedFrom i d xs = AreAsked {X = Unit {0}} {Y = Unit {0}} i (edits_done xs) (Drafting d) (Drafting (record d { asked = d.asked ++ xs }))
+AreAskedFrom i d xs = AreAsked i (edits_done xs) (Drafting d) (Drafting (record d { asked = d.asked ++ xs }))
 
-ask_first : (i : Problem) (d : DraftingValue) (e : Edit) (xs : List Asked) → edit_fault i (present_of i d) e ≡ None → AreAskedFrom i (asked_also d (Edits e) Done) xs → AreAskedFrom i d (made e ∷ xs)
+ask_first : (i : Problem) (d : DraftingValue) (e : Edit) (xs : List Asked) → edit_fault i (present_of i d) e ≡ None → AreAskedFrom i (asked_also d (Edits e) Done) xs → AreAskedFrom i d (as_done e ∷ xs)
 ask_first i d e xs free more = (
   Drafting (asked_also d (Edits e) Done),
   inl (Done, sym (ap (λ o. told_or o Done) free), refl, refl),
-  subst (λ ys. AreAsked {X = Unit {0}} {Y = Unit {0}} i (edits_done xs) (Drafting (asked_also d (Edits e) Done)) (Drafting (record d { asked = ys }))) (append_assoc d.asked (made e ∷ []) xs) more,
+  subst (λ ys. AreAsked i (edits_done xs) (Drafting (asked_also d (Edits e) Done)) (Drafting (record d { asked = ys }))) (append_assoc d.asked (as_done e ∷ []) xs) more,
 )
 
 ask_each : (i : Problem) (d : DraftingValue) (edits : List Edit) → AreAskedFrom i d (remade i (present_of i d) edits)
@@ -191,5 +191,5 @@ redo_is_asking i d edits none =
     let all = ask_each i d edits in
     let here : present_of i d ≡ d.base = ap (λ xs. whole i d.base (calls_of xs)) none in
     let joined : d.asked ++ remade i (present_of i d) edits ≡ remade i d.base edits = ap₂ (λ xs t. xs ++ remade i t edits) none here in
-    subst (λ t. AreAsked {X = Unit {0}} {Y = Unit {0}} i (edits_done (remade i t edits)) (Drafting d) (Drafting (record d { asked = remade i d.base edits }))) here
-    (subst (λ ys. AreAsked {X = Unit {0}} {Y = Unit {0}} i (edits_done (remade i (present_of i d) edits)) (Drafting d) (Drafting (record d { asked = ys }))) joined all)
+    subst (λ t. AreAsked i (edits_done (remade i t edits)) (Drafting d) (Drafting (record d { asked = remade i d.base edits }))) here
+    (subst (λ ys. AreAsked i (edits_done (remade i (present_of i d) edits)) (Drafting d) (Drafting (record d { asked = ys }))) joined all)

@@ -5,12 +5,12 @@ use Rattle.std.proofs.KnownBytes.{Appends-kept, Appends-nil, Appends-trans}
 use Rattle.std.specs.Io.KnownBytes.{Appends, IsAtEnd, prepend_known}
 use Rattle.ctt_files.specs.Output.{AppendsFront}
 use Rattle.ctt_problem.specs.Problem.{Problem}
-use Rattle.ctt_office.specs.Lines.{Comes, Gives, GivesNext, IsFirstLine, IsLong, IsShort, ReaderValue, coming}
+use Rattle.ctt_office.specs.Lines.{Comes, GivesLine, GivesNext, IsFirstLine, IsLong, FitsBuffer, ReaderValue, coming}
 use Rattle.ctt_office.specs.declared.line_reader.Next.{Next}
 use Rattle.ctt_office.specs.declared.line_reader.Next.TheVariants.{End, Line, TooLong as LongLine}
 use Rattle.ctt_office.specs.SeatAnswers.{Tells}
-use Rattle.ctt_office.specs.SeatText.{asked_by, seat_line}
-use Rattle.ctt_office.specs.Sittings.{AreAnswered, EndsAt, GoOn, IsBroken, IsCut, IsCutShort, IsSat, IsSitting}
+use Rattle.ctt_office.specs.SeatText.{asked_by_line, seat_line}
+use Rattle.ctt_office.specs.Sittings.{AreAnswered, EndsAt, GoOn, IsBroken, IsCutOff, IsBrokenOff, IsSat, IsSitting}
 use Rattle.ctt_office.specs.declared.seat_line.SeatLine.{SeatLine}
 use Rattle.ctt_office.specs.declared.seat_line.SeatLine.TheVariants.{Leave, TooLong}
 use Rattle.ctt_office.specs.declared.sitting.Ending.{Ending}
@@ -51,7 +51,7 @@ module _ {T : Type 0} (asked : List ℕ → SeatLine) (Is : SeatLine → T → T
   sits_down before (Some bytes) out still same = record { answers = []; told = Appends-nil out; served = ([], bytes, same, (refl, refl, refl), tt) }
 
   -- a line that was known to come
-  given : (line : SeatLine) (rest : List ℕ) (old new : Option (List ℕ)) → old ≡ Some rest → Gives (λ bytes. line ≡ asked bytes) old new
+  given : (line : SeatLine) (rest : List ℕ) (old new : Option (List ℕ)) → old ≡ Some rest → GivesLine (λ bytes. line ≡ asked bytes) old new
       → (bytes : List ℕ) × (after : List ℕ) × (new ≡ Some after) × (line ≡ asked bytes) × IsFirstLine bytes after rest
   given line rest None new same gives = cc
   given line rest (Some all) None same gives = absurd gives
@@ -60,7 +60,7 @@ module _ {T : Type 0} (asked : List ℕ → SeatLine) (Is : SeatLine → T → T
       (gives.0, after, refl, gives.1, subst (IsFirstLine gives.0 after) here gives.2)
 
   -- a line by which the planner does not leave is answered, and the seat goes on
-  pub sits_on : (before seat next : T) (left old mid new still later : Option (List ℕ)) (line : SeatLine) → IsSitting asked Is before left old mid still seat → Gives (λ bytes. line ≡ asked bytes) still later
+  pub sits_on : (before seat next : T) (left old mid new still later : Option (List ℕ)) (line : SeatLine) → IsSitting asked Is before left old mid still seat → GivesLine (λ bytes. line ≡ asked bytes) still later
       → Tells (Is line seat next) mid new → line ≢ Leave → IsSitting asked Is before left old new later next
   sits_on before seat next None old mid new still later line sits gives tells goes =
       record { answers = sits.answers ++ tells.0; told = Appends-trans old mid new sits.answers tells.0 sits.told tells.2; served = tt }
@@ -81,7 +81,7 @@ module _ {T : Type 0} (asked : List ℕ → SeatLine) (Is : SeatLine → T → T
 
 module _ {T : Type 0} (asked : List ℕ → SeatLine) (Is : SeatLine → T → T → List ℕ → Type 0) (Gone Unheard : T → Type 0) where
   -- a line by which the planner leaves is answered, and the seat ends
-  pub leaves_by : (before seat next : T) (left old mid new still later : Option (List ℕ)) (line : SeatLine) → IsSitting asked Is before left old mid still seat → Gives (λ bytes. line ≡ asked bytes) still later
+  pub leaves_by : (before seat next : T) (left old mid new still later : Option (List ℕ)) (line : SeatLine) → IsSitting asked Is before left old mid still seat → GivesLine (λ bytes. line ≡ asked bytes) still later
       → Tells (Is line seat next) mid new → line ≡ Leave → Gone next → IsSat asked Is Gone Unheard before left old new Left
   leaves_by before seat next None old mid new still later line sits gives tells leaves gone =
       record { answers = sits.answers ++ tells.0; told = Appends-trans old mid new sits.answers tells.0 sits.told tells.2; served = tt }
@@ -112,7 +112,7 @@ module _ {T : Type 0} (asked : List ℕ → SeatLine) (Is : SeatLine → T → T
       record { answers = sits.answers; told = sits.told; served = (so_far.0, so_far.1, seat, so_far.3, (so_far.4, at_end so_far.1 still so_far.2 end), gone) }
 
   -- the lines so far are answered, and nothing follows their answers
-  stops : (before seat : T) (left old now still : Option (List ℕ)) → IsSitting asked Is before left old now still seat → Gone seat → IsCutShort asked Is Gone before left old now
+  stops : (before seat : T) (left old now still : Option (List ℕ)) → IsSitting asked Is before left old now still seat → Gone seat → IsBrokenOff asked Is Gone before left old now
   stops before seat None old now still sits gone = record { answers = sits.answers; part = []; told = subst (Appends old now) (sym (append-nil sits.answers)) sits.told; served = tt }
   stops before seat (Some bytes) old now still sits gone =
       let so_far = sits.served in
@@ -133,8 +133,8 @@ module _ {T : Type 0} (asked : List ℕ → SeatLine) (Is : SeatLine → T → T
   ends_by before seat left old now still failed NoMemory sits end gone = absurd end
 
   -- a prefix of the answer to one more line is written
-  cut_off : (before seat next : T) (left old mid new still later : Option (List ℕ)) (line : SeatLine) → IsSitting asked Is before left old mid still seat → Gives (λ bytes. line ≡ asked bytes) still later
-      → (answer : List ℕ) → Is line seat next answer → AppendsFront mid new answer → Gone next → IsCutShort asked Is Gone before left old new
+  cut_off : (before seat next : T) (left old mid new still later : Option (List ℕ)) (line : SeatLine) → IsSitting asked Is before left old mid still seat → GivesLine (λ bytes. line ≡ asked bytes) still later
+      → (answer : List ℕ) → Is line seat next answer → AppendsFront mid new answer → Gone next → IsBrokenOff asked Is Gone before left old new
   cut_off before seat next None old mid new still later line sits gives answer is front gone =
       record { answers = sits.answers; part = take front.0 answer; told = Appends-trans old mid new sits.answers (take front.0 answer) sits.told front.1; served = tt }
   cut_off before seat next (Some bytes) old mid new still later line sits gives answer is front gone =
@@ -148,8 +148,8 @@ module _ {T : Type 0} (asked : List ℕ → SeatLine) (Is : SeatLine → T → T
       }
 
   -- an answer could not be written
-  pub breaks_off : (before seat next : T) (left old mid new still later : Option (List ℕ)) (line : SeatLine) (why : Ending) → IsSitting asked Is before left old mid still seat → Gives (λ bytes. line ≡ asked bytes) still later
-      → IsCut (Is line seat next) mid new why → Gone next → (why ≡ NoMemory → Unheard seat) → IsSat asked Is Gone Unheard before left old new why
+  pub breaks_off : (before seat next : T) (left old mid new still later : Option (List ℕ)) (line : SeatLine) (why : Ending) → IsSitting asked Is before left old mid still seat → GivesLine (λ bytes. line ≡ asked bytes) still later
+      → IsCutOff (Is line seat next) mid new why → Gone next → (why ≡ NoMemory → Unheard seat) → IsSat asked Is Gone Unheard before left old new why
   breaks_off before seat next left old mid new still later line Left sits gives cut gone unheard = absurd cut
   breaks_off before seat next left old mid new still later line Ended sits gives cut gone unheard = absurd cut
   breaks_off before seat next left old mid new still later line Broken sits gives cut gone unheard = cut_off before seat next left old mid new still later line sits gives cut.0 cut.1 cut.2 gone
@@ -164,13 +164,13 @@ pub write_failed : (failed : Bool) (why : Ending) (P : Type 0) → IsBroken fail
 write_failed failed why P is same = inr (subst (IsBroken failed) same is)
 
 -- if P implies Q, a line that is lost and of which P holds is one of which Q holds
-pub gives_also : (P Q : List ℕ → Type 0) (old new : Option (List ℕ)) → ((line : List ℕ) → P line → Q line) → Gives P old new → Gives Q old new
+pub gives_also : (P Q : List ℕ → Type 0) (old new : Option (List ℕ)) → ((line : List ℕ) → P line → Q line) → GivesLine P old new → GivesLine Q old new
 gives_also P Q None new also gives = tt
 gives_also P Q (Some all) None also gives = absurd gives
 gives_also P Q (Some all) (Some rest) also gives = (gives.0, also gives.0 gives.1, gives.2)
 
 -- what a line asks for that is not too long
-pub asks_short : (i : Problem) (p : ℕ) (line given : List ℕ) (what : SeatLine) → what ≡ seat_line i p given → given ≡ line → IsShort line → what ≡ asked_by i p line
+pub asks_short : (i : Problem) (p : ℕ) (line given : List ℕ) (what : SeatLine) → what ≡ seat_line i p given → given ≡ line → FitsBuffer line → what ≡ asked_by_line i p line
 asks_short i p line given what is same short = by (nat_le (length line) 65536) refl
   where
     by : (b : Bool) → nat_le (length line) 65536 ≡ b → what ≡ (if b then seat_line i p line else TooLong)
@@ -178,7 +178,7 @@ asks_short i p line given what is same short = by (nat_le (length line) 65536) r
     by false e = (let within = le-leb (length line) 65536 short in cc)
 
 -- a line that is too long asks for nothing known
-pub asks_long : (i : Problem) (p : ℕ) (line : List ℕ) → IsLong line → TooLong ≡ asked_by i p line
+pub asks_long : (i : Problem) (p : ℕ) (line : List ℕ) → IsLong line → TooLong ≡ asked_by_line i p line
 asks_long i p line long = by (nat_le (length line) 65536) refl
   where
     by : (b : Bool) → nat_le (length line) 65536 ≡ b → TooLong ≡ (if b then seat_line i p line else TooLong)
@@ -186,13 +186,13 @@ asks_long i p line long = by (nat_le (length line) 65536) refl
     by false e = refl
 
 -- what the line that was read asks for
-pub asks_short_line : (i : Problem) (p : ℕ) (given : List ℕ) (what : SeatLine) (old new : ReaderValue) → GivesNext Line old new → given ≡ new.line → what ≡ seat_line i p given → Gives (λ line. what ≡ asked_by i p line) (coming old) (coming new)
-asks_short_line i p given what old new gives same is = gives_also (λ line. (new.line ≡ line) × IsShort line) _ (coming old) (coming new) (λ line h. asks_short i p line given what is (same ∙ h.0) h.1) gives
+pub asks_short_line : (i : Problem) (p : ℕ) (given : List ℕ) (what : SeatLine) (old new : ReaderValue) → GivesNext Line old new → given ≡ new.line → what ≡ seat_line i p given → GivesLine (λ line. what ≡ asked_by_line i p line) (coming old) (coming new)
+asks_short_line i p given what old new gives same is = gives_also (λ line. (new.line ≡ line) × FitsBuffer line) _ (coming old) (coming new) (λ line h. asks_short i p line given what is (same ∙ h.0) h.1) gives
 
-pub asks_long_line : (i : Problem) (p : ℕ) (old new : ReaderValue) → GivesNext LongLine old new → Gives (λ line. TooLong ≡ asked_by i p line) (coming old) (coming new)
+pub asks_long_line : (i : Problem) (p : ℕ) (old new : ReaderValue) → GivesNext LongLine old new → GivesLine (λ line. TooLong ≡ asked_by_line i p line) (coming old) (coming new)
 asks_long_line i p old new gives = gives_also IsLong _ (coming old) (coming new) (λ line long. asks_long i p line long) gives.1
 
-pub asks_line : (i : Problem) (p : ℕ) (old new : ReaderValue) (next : Next) → (next ≡ Line → ⊥) → Comes next old new → Gives (λ line. TooLong ≡ asked_by i p line) (coming old) (coming new)
+pub asks_line : (i : Problem) (p : ℕ) (old new : ReaderValue) (next : Next) → (next ≡ Line → ⊥) → Comes next old new → GivesLine (λ line. TooLong ≡ asked_by_line i p line) (coming old) (coming new)
 asks_line i p old new Line other comes = absurd (other refl)
 asks_line i p old new LongLine other comes = asks_long_line i p old new comes
 asks_line i p old new End other comes = absurd comes

@@ -1,11 +1,9 @@
 pub mod BadWords
-pub mod Blocks
 pub mod Ended
-pub mod Laws
+pub mod RedoLaws
 pub mod Lines
 pub mod OfficeFaults
-pub mod Pages
-pub mod Recovery
+pub mod Recorded
 pub mod Redone
 pub mod SeatAnswers
 pub mod SeatText

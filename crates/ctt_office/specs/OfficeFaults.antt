@@ -19,10 +19,10 @@ IsOfficeFault seats NotWritten = Unit {0}
 IsOfficeFault seats NoMemory = Unit {0}
 
 -- the fault of a shared desk whose opening is lawful: memory or a place is lacking
-abbrev pub of_shared : SharedFault → OfficeFault
-of_shared (shared.Unlawful at fault) = NoMemory
-of_shared shared.NoPlace = NoPlace
-of_shared shared.NoMemory = NoMemory
+abbrev pub office_fault_of : SharedFault → OfficeFault
+office_fault_of (shared.Unlawful at fault) = NoMemory
+office_fault_of shared.NoPlace = NoPlace
+office_fault_of shared.NoMemory = NoMemory
 
 -- the fault of a seat that has ended so, if there is one: the planner is not at fault, so only
 -- memory can be lacking

@@ -21,13 +21,13 @@ pub record LeftOut : Type 0 where
   pub fault : EditFault
 
 -- the call of an edit, answered as done
-abbrev pub made : Edit → Asked
-made e = record { call = Edits e; reply = Done }
+abbrev pub as_done : Edit → Asked
+as_done e = record { call = Edits e; reply = Done }
 
 -- if the edit has no fault, its call and the later ones with it made, and else the later ones
 -- without it
 abbrev pub remade_if : Option EditFault → Edit → List Asked → List Asked → List Asked
-remade_if None e with_it without_it = made e ∷ with_it
+remade_if None e with_it without_it = as_done e ∷ with_it
 remade_if (Some f) e with_it without_it = without_it
 
 -- the calls of the edits that can be made, one by one, on the timetable t

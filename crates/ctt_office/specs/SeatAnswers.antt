@@ -13,28 +13,28 @@ use Rattle.ctt_draft.specs.Undoing.{edits_done, undoing}
 use Rattle.ctt_draft.specs.declared.asked.Asked.{Asked}
 use Rattle.ctt_core.specs.declared.answer.Answer.TheVariants.{AlreadyOpen, NoDraft, NoMemory}
 use Rattle.ctt_core.specs.declared.event.Event.{Event}
-use Rattle.ctt_core.specs.declared.event.Event.TheVariants.{Abandon, Ask, Commit, Open, Peek, Refresh, Show, Status}
+use Rattle.ctt_core.specs.declared.event.Event.TheVariants.{Commit, Show}
 use Rattle.ctt_core.specs.declared.journal.JournalEntry.{JournalEntry}
 use Rattle.ctt_desk.specs.Planners.{DraftingValue, IsOpen, PlannerValue, asked_also, present_of}
 use Rattle.ctt_script.specs.AnswerText.{bad_line}
 use Rattle.ctt_seat.specs.Attended.{leaver}
-use Rattle.ctt_seat.specs.CrewText.{told_words}
-use Rattle.ctt_seat.specs.Seats.{Commits, IsUntold, Takes, Views, told_of}
+use Rattle.ctt_seat.specs.CrewText.{seat_answer_words}
+use Rattle.ctt_seat.specs.Seats.{Commits, IsUnreadAnswer, SeatValue, Takes, Views, receipt_answer, seat_value}
 use Rattle.ctt_line.specs.Lines.{line}
 use Rattle.ctt_seat.specs.declared.seat.Seat.{Seat}
 use Rattle.ctt_seat.specs.declared.seat.Seat.TheVariants.{Drafting, Free}
-use Rattle.ctt_seat.specs.declared.seat.Told.{Told}
-use Rattle.ctt_seat.specs.declared.seat.Told.TheVariants.{Answer as Answered}
+use Rattle.ctt_seat.specs.declared.seat.SeatAnswer.{SeatAnswer}
+use Rattle.ctt_seat.specs.declared.seat.SeatAnswer.TheVariants.{Answer as Answered}
 use Rattle.ctt_office.specs.BadWords.{bad_word_line}
 use Rattle.ctt_office.specs.Ended.{ended_after}
 use Rattle.ctt_office.specs.Redone.{nothing_to_redo, nothing_to_undo, redone_line, remade, undone_line}
 use Rattle.ctt_office.specs.declared.seat_line.SeatLine.{SeatLine}
 use Rattle.ctt_office.specs.declared.seat_line.SeatLine.TheVariants.{Bad, Blank, Help, Leave, Redo, Step, TooLong, Undo}
-use Rattle.ctt_office.specs.declared.workplace.Workplace.{Workplace}
+use Rattle.ctt_office.specs.declared.seat_state.SeatState.{SeatState}
 
 -- the line of a report to the planner
-abbrev pub told_line : Problem → Told → List ℕ
-told_line i told = line (told_words i told)
+abbrev pub told_line : Problem → SeatAnswer → List ℕ
+told_line i told = line (seat_answer_words i told)
 
 -- the answer to a commit that is not in the minutes
 abbrev pub not_written : List ℕ
@@ -59,8 +59,8 @@ left_line = line (codes "left" ∷ [])
 
 -- the answer to a commit with this outcome: for an accepted draft its number if it is in the
 -- minutes, or that it is not written if an entry could not be; for a refused one the reason
-abbrev pub IsOutcomeAnswer : (List JournalEntry → Type 0) → Type 0 → Problem → Result (List JournalEntry) Told → List ℕ → Type 0
-IsOutcomeAnswer IsKept Failed i (Ok history) answer = (IsKept history × (answer ≡ told_line i (told_of (Ok history)))) ⊎ (Failed × (answer ≡ not_written))
+abbrev pub IsOutcomeAnswer : (List JournalEntry → Type 0) → Type 0 → Problem → Result (List JournalEntry) SeatAnswer → List ℕ → Type 0
+IsOutcomeAnswer IsKept Failed i (Ok history) answer = (IsKept history × (answer ≡ told_line i (receipt_answer (Ok history)))) ⊎ (Failed × (answer ≡ not_written))
 IsOutcomeAnswer IsKept Failed i (Err told) answer = answer ≡ told_line i told
 
 -- the answer if no commit was tried: an entry could not be written, or memory ran out
@@ -68,47 +68,41 @@ abbrev pub IsUntriedAnswer : Type 0 → Problem → List ℕ → Type 0
 IsUntriedAnswer Failed i answer = (Failed × (answer ≡ not_written)) ⊎ (answer ≡ told_line i (Answered NoMemory))
 
 -- a commit is tried and answered, or not tried, which changes nothing
-abbrev pub IsCommitAnswer : {X Y : Type 0} → (List JournalEntry → Type 0) → Type 0 → Problem → List Placed → Workplace X Y → Workplace X Y → List ℕ → Type 0
+abbrev pub IsCommitAnswer : {X Y : Type 0} → (List JournalEntry → Type 0) → Type 0 → Problem → List Placed → SeatState X Y → SeatState X Y → List ℕ → Type 0
 IsCommitAnswer IsKept Failed i t0 before after answer =
-    ((outcome : Result (List JournalEntry) Told) × Commits i t0 before.seat after.seat outcome × (after.ended ≡ ended_after (told_of outcome) before.ended) × IsOutcomeAnswer IsKept Failed i outcome answer)
+    ((outcome : Result (List JournalEntry) SeatAnswer) × Commits i t0 (seat_value before.seat) (seat_value after.seat) outcome × (after.ended ≡ ended_after (receipt_answer outcome) before.ended) × IsOutcomeAnswer IsKept Failed i outcome answer)
     ⊎ ((after ≡ before) × IsUntriedAnswer Failed i answer)
 
--- without a book, a commit is tried and answered as in a crew, or not tried if memory runs out
-abbrev pub IsCommitAlone : {X Y : Type 0} → Problem → List Placed → Workplace X Y → Workplace X Y → List ℕ → Type 0
+-- without a log, a commit is tried and answered as in a crew, or not tried if memory runs out
+abbrev pub IsCommitAlone : {X Y : Type 0} → Problem → List Placed → SeatState X Y → SeatState X Y → List ℕ → Type 0
 IsCommitAlone i t0 before after answer =
-    ((outcome : Result (List JournalEntry) Told) × Commits i t0 before.seat after.seat outcome × (after.ended ≡ ended_after (told_of outcome) before.ended) × (answer ≡ told_line i (told_of outcome)))
+    ((outcome : Result (List JournalEntry) SeatAnswer) × Commits i t0 (seat_value before.seat) (seat_value after.seat) outcome × (after.ended ≡ ended_after (receipt_answer outcome) before.ended) × (answer ≡ told_line i (receipt_answer outcome)))
     ⊎ ((after ≡ before) × (answer ≡ told_line i (Answered NoMemory)))
 
 -- an event is answered as in a crew, but a look at the published timetable is answered also if a
 -- draft is open, and leaves it as it is
-abbrev pub Does : {X Y : Type 0} → Problem → List Placed → Event → Seat X Y → Seat X Y → Told → Type 0
-Does i t0 (Open p) before after told = Takes i t0 (Open p) before after told
-Does i t0 (Ask p call) before after told = Takes i t0 (Ask p call) before after told
-Does i t0 (Peek p look) before after told = Takes i t0 (Peek p look) before after told
-Does i t0 (Status p) before after told = Takes i t0 (Status p) before after told
-Does i t0 (Commit p) before after told = Takes i t0 (Commit p) before after told
-Does i t0 (Refresh p) before after told = Takes i t0 (Refresh p) before after told
-Does i t0 (Abandon p) before after told = Takes i t0 (Abandon p) before after told
-Does i t0 (Show look) before after told = Views i t0 look before after told
+abbrev pub AnswersEvent : Problem → List Placed → Event → SeatValue → SeatValue → SeatAnswer → Type 0
+AnswersEvent i t0 (Show look) before after told = Views i t0 look before after told
+AnswersEvent i t0 event before after told = Takes i t0 event before after told
 
 -- a step is performed, and the answer is the line of its report
-abbrev pub IsToldAnswer : {X Y : Type 0} → Problem → List Placed → Event → Workplace X Y → Workplace X Y → List ℕ → Type 0
-IsToldAnswer i t0 event before after answer = (told : Told) × Does i t0 event before.seat after.seat told × (after.ended ≡ ended_after told before.ended) × (answer ≡ told_line i told)
+abbrev pub IsToldAnswer : {X Y : Type 0} → Problem → List Placed → Event → SeatState X Y → SeatState X Y → List ℕ → Type 0
+IsToldAnswer i t0 event before after answer = (told : SeatAnswer) × AnswersEvent i t0 event (seat_value before.seat) (seat_value after.seat) told × (after.ended ≡ ended_after told before.ended) × (answer ≡ told_line i told)
 
 -- the accepted edits of an ended draft are redone in a new draft, as far as they can be made; or
 -- what is published cannot be read, or memory runs out, and the calls can still be redone
-abbrev pub RedoesCalls : {X Y : Type 0} → Problem → List Placed → PlannerValue → List Asked → Workplace X Y → List ℕ → Type 0
+abbrev pub RedoesCalls : {X Y : Type 0} → Problem → List Placed → PlannerValue → List Asked → SeatState X Y → List ℕ → Type 0
 RedoesCalls i t0 p asked after answer =
     ((d : DraftingValue) × IsOpen i t0 p d × (after.seat ≡ Drafting (record d { asked = remade i d.base (edits_done asked) })) × (after.ended ≡ None) × (answer ≡ redone_line i d.base (edits_done asked)))
-    ⊎ ((q : PlannerValue) × (told : Told) × IsUntold i t0 p q told × (after.seat ≡ Free q) × (after.ended ≡ Some asked) × (answer ≡ told_line i told))
+    ⊎ ((q : PlannerValue) × (told : SeatAnswer) × IsUnreadAnswer i t0 p q told × (after.seat ≡ Free q) × (after.ended ≡ Some asked) × (answer ≡ told_line i told))
 
 -- the calls are redone, if there are any
-abbrev pub RedoesIfAny : {X Y : Type 0} → Problem → List Placed → PlannerValue → Option (List Asked) → Workplace X Y → List ℕ → Type 0
+abbrev pub RedoesIfAny : {X Y : Type 0} → Problem → List Placed → PlannerValue → Option (List Asked) → SeatState X Y → List ℕ → Type 0
 RedoesIfAny i t0 p None after answer = (after.seat ≡ Free p) × (after.ended ≡ None) × (answer ≡ nothing_to_redo)
 RedoesIfAny i t0 p (Some asked) after answer = RedoesCalls i t0 p asked after answer
 
 -- the draft that ended stale last is redone, if no draft is open
-abbrev pub Redoes : {X Y : Type 0} → Problem → List Placed → Seat X Y → Option (List Asked) → Workplace X Y → List ℕ → Type 0
+abbrev pub Redoes : {X Y : Type 0} → Problem → List Placed → Seat X Y → Option (List Asked) → SeatState X Y → List ℕ → Type 0
 Redoes i t0 (Free p) ended after answer = RedoesIfAny i t0 p ended after answer
 Redoes i t0 (Drafting d) ended after answer = (after.seat ≡ Drafting d) × (after.ended ≡ ended) × (answer ≡ told_line i (Answered AlreadyOpen))
 
@@ -127,44 +121,38 @@ abbrev pub Undoes : {X Y : Type 0} → Problem → Seat X Y → Seat X Y → Lis
 Undoes i (Free p) after answer = (after ≡ Free p) × (answer ≡ told_line i (Answered NoDraft))
 Undoes i (Drafting d) after answer = (e : DraftingValue) × (after ≡ Drafting e) × UndoesIn i d e answer
 
--- a commit is answered, with a book of minutes or without one
-abbrev pub IsAnsweredBy : {B X Y : Type 0} → Option B → (List JournalEntry → Type 0) → Type 0 → Problem → List Placed → Workplace X Y → Workplace X Y → List ℕ → Type 0
+-- a commit is answered, with a log or without one
+abbrev pub IsAnsweredBy : {B X Y : Type 0} → Option B → (List JournalEntry → Type 0) → Type 0 → Problem → List Placed → SeatState X Y → SeatState X Y → List ℕ → Type 0
 IsAnsweredBy None IsKept Failed i t0 before after answer = IsCommitAlone i t0 before after answer
-IsAnsweredBy (Some book) IsKept Failed i t0 before after answer = IsCommitAnswer IsKept Failed i t0 before after answer
+IsAnsweredBy (Some log) IsKept Failed i t0 before after answer = IsCommitAnswer IsKept Failed i t0 before after answer
 
 -- a step is answered; all but commits by the line of the report
-abbrev pub IsStepAnswer : {B X Y : Type 0} → Option B → (List JournalEntry → Type 0) → Type 0 → Problem → List Placed → Event → Workplace X Y → Workplace X Y → List ℕ → Type 0
-IsStepAnswer book IsKept Failed i t0 (Open p) before after answer = IsToldAnswer i t0 (Open p) before after answer
-IsStepAnswer book IsKept Failed i t0 (Ask p call) before after answer = IsToldAnswer i t0 (Ask p call) before after answer
-IsStepAnswer book IsKept Failed i t0 (Peek p look) before after answer = IsToldAnswer i t0 (Peek p look) before after answer
-IsStepAnswer book IsKept Failed i t0 (Status p) before after answer = IsToldAnswer i t0 (Status p) before after answer
-IsStepAnswer book IsKept Failed i t0 (Commit p) before after answer = IsAnsweredBy book IsKept Failed i t0 before after answer
-IsStepAnswer book IsKept Failed i t0 (Refresh p) before after answer = IsToldAnswer i t0 (Refresh p) before after answer
-IsStepAnswer book IsKept Failed i t0 (Abandon p) before after answer = IsToldAnswer i t0 (Abandon p) before after answer
-IsStepAnswer book IsKept Failed i t0 (Show look) before after answer = IsToldAnswer i t0 (Show look) before after answer
+abbrev pub IsStepAnswer : {B X Y : Type 0} → Option B → (List JournalEntry → Type 0) → Type 0 → Problem → List Placed → Event → SeatState X Y → SeatState X Y → List ℕ → Type 0
+IsStepAnswer log IsKept Failed i t0 (Commit p) before after answer = IsAnsweredBy log IsKept Failed i t0 before after answer
+IsStepAnswer log IsKept Failed i t0 event before after answer = IsToldAnswer i t0 event before after answer
 
 -- a line is answered, by one line unless it is blank
-abbrev pub IsAnswer : {B X Y : Type 0} → Option B → (List JournalEntry → Type 0) → Type 0 → Problem → List Placed → SeatLine → Workplace X Y → Workplace X Y → List ℕ → Type 0
-IsAnswer book IsKept Failed i t0 Blank before after answer = (after ≡ before) × (answer ≡ [])
-IsAnswer book IsKept Failed i t0 Leave before after answer = (after ≡ before) × (answer ≡ left_line)
-IsAnswer book IsKept Failed i t0 Help before after answer = (after ≡ before) × (answer ≡ help_line)
-IsAnswer book IsKept Failed i t0 Redo before after answer = Redoes i t0 before.seat before.ended after answer
-IsAnswer book IsKept Failed i t0 Undo before after answer = Undoes i before.seat after.seat answer × (after.ended ≡ before.ended)
-IsAnswer book IsKept Failed i t0 (Bad word) before after answer = (after ≡ before) × (answer ≡ bad_word_line word)
-IsAnswer book IsKept Failed i t0 TooLong before after answer = (after ≡ before) × (answer ≡ bad_line)
-IsAnswer book IsKept Failed i t0 (Step event) before after answer = IsStepAnswer book IsKept Failed i t0 event before after answer
+abbrev pub IsAnswer : {B X Y : Type 0} → Option B → (List JournalEntry → Type 0) → Type 0 → Problem → List Placed → SeatLine → SeatState X Y → SeatState X Y → List ℕ → Type 0
+IsAnswer log IsKept Failed i t0 Blank before after answer = (after ≡ before) × (answer ≡ [])
+IsAnswer log IsKept Failed i t0 Leave before after answer = (after ≡ before) × (answer ≡ left_line)
+IsAnswer log IsKept Failed i t0 Help before after answer = (after ≡ before) × (answer ≡ help_line)
+IsAnswer log IsKept Failed i t0 Redo before after answer = Redoes i t0 before.seat before.ended after answer
+IsAnswer log IsKept Failed i t0 Undo before after answer = Undoes i before.seat after.seat answer × (after.ended ≡ before.ended)
+IsAnswer log IsKept Failed i t0 (Bad word) before after answer = (after ≡ before) × (answer ≡ bad_word_line word)
+IsAnswer log IsKept Failed i t0 TooLong before after answer = (after ≡ before) × (answer ≡ bad_line)
+IsAnswer log IsKept Failed i t0 (Step event) before after answer = IsStepAnswer log IsKept Failed i t0 event before after answer
 
 -- the planner's number of committed drafts is unchanged
-abbrev pub CommitsNone : {X Y : Type 0} → Seat X Y → Seat X Y → Type 0
+abbrev pub CommitsNone : SeatValue → SeatValue → Type 0
 CommitsNone before after = (leaver after).committed ≡ (leaver before).committed
 
--- the same, of workplaces
-abbrev pub IsUncommitted : {X Y : Type 0} → Workplace X Y → Workplace X Y → Type 0
-IsUncommitted before after = CommitsNone before.seat after.seat
+-- the same, of states of a seat
+abbrev pub IsUncommitted : {X Y : Type 0} → SeatState X Y → SeatState X Y → Type 0
+IsUncommitted before after = CommitsNone (seat_value before.seat) (seat_value after.seat)
 
 -- an answer of which P holds is added to a text
-abbrev pub Adds : (List ℕ → Type 0) → List ℕ → List ℕ → Type 0
-Adds P old new = (answer : List ℕ) × P answer × (new ≡ old ++ answer)
+abbrev pub AddsAnswer : (List ℕ → Type 0) → List ℕ → List ℕ → Type 0
+AddsAnswer P old new = (answer : List ℕ) × P answer × (new ≡ old ++ answer)
 
 -- an answer of which P holds is added to the bytes, if these are known
 abbrev pub Tells : (List ℕ → Type 0) → Option (List ℕ) → Option (List ℕ) → Type 0

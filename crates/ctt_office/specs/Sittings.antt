@@ -43,7 +43,7 @@ IsPartOfNext {T} asked Is Gone bytes before part = ((part ≡ []) × Gone before
 
 -- lines are answered, by none of which the planner leaves, and the answer to the next one is cut
 -- short
-pub record IsCutShort {T : Type 0} (asked : List ℕ → SeatLine) (Is : SeatLine → T → T → List ℕ → Type 0) (Gone : T → Type 0) (before : T) (left old new : Option (List ℕ)) : Type 0 where
+pub record IsBrokenOff {T : Type 0} (asked : List ℕ → SeatLine) (Is : SeatLine → T → T → List ℕ → Type 0) (Gone : T → Type 0) (before : T) (left old new : Option (List ℕ)) : Type 0 where
   pub answers : List ℕ
   pub part : List ℕ
   pub told : Appends old new (answers ++ part)
@@ -54,7 +54,7 @@ pub record IsCutShort {T : Type 0} (asked : List ℕ → SeatLine) (Is : SeatLin
 abbrev pub IsSat : {T : Type 0} → (List ℕ → SeatLine) → (SeatLine → T → T → List ℕ → Type 0) → (T → Type 0) → (T → Type 0) → T → Option (List ℕ) → Option (List ℕ) → Option (List ℕ) → Ending → Type 0
 IsSat asked Is Gone Unheard before left old new Left = IsAnswered asked Is Gone before left old new Left
 IsSat asked Is Gone Unheard before left old new Ended = IsAnswered asked Is Gone before left old new Ended
-IsSat asked Is Gone Unheard before left old new Broken = IsCutShort asked Is Gone before left old new
+IsSat asked Is Gone Unheard before left old new Broken = IsBrokenOff asked Is Gone before left old new
 IsSat asked Is Gone Unheard before left old new NoMemory = IsAnswered asked Is Unheard before left old new NoMemory
 
 -- no line follows: none is left, or the reader has failed
@@ -73,11 +73,11 @@ IsBroken failed NoMemory = Unit {0}
 
 -- how much of such an answer is written: a prefix if the writer has failed, and nothing if memory
 -- has run out
-abbrev pub IsCut : (List ℕ → Type 0) → Option (List ℕ) → Option (List ℕ) → Ending → Type 0
-IsCut P old new Left = ⊥
-IsCut P old new Ended = ⊥
-IsCut P old new Broken = (answer : List ℕ) × P answer × AppendsFront old new answer
-IsCut P old new NoMemory = Keeps old new
+abbrev pub IsCutOff : (List ℕ → Type 0) → Option (List ℕ) → Option (List ℕ) → Ending → Type 0
+IsCutOff P old new Left = ⊥
+IsCutOff P old new Ended = ⊥
+IsCutOff P old new Broken = (answer : List ℕ) × P answer × AppendsFront old new answer
+IsCutOff P old new NoMemory = Keeps old new
 
 -- the state so far: the lines read are answered, by none of them the planner leaves, and the bytes
 -- of `still` are to be read

@@ -5,28 +5,26 @@ ghost use Rattle.std.specs.String.{string_capacity, string_len};
 ghost use Rattle.ctt_core.specs.Runs.{EventFits};
 ghost use Rattle.ctt_core.specs.declared.answer.Answer.TheVariants.{NoMemory};
 ghost use Rattle.ctt_core.specs.declared.event.Event.TheVariants.{Commit};
-ghost use Rattle.ctt_seat.specs.CrewText.{ToldFits};
-ghost use Rattle.ctt_seat.specs.Seats.{open_entry};
-ghost use Rattle.ctt_seat.specs.declared.seat.Told.TheVariants.{Answer as Answered};
-ghost use Rattle.ctt_office.specs.Pages.{EndsWith, HasFailed, IsInMinutes};
-ghost use Rattle.ctt_office.specs.SeatAnswers.{Adds, Does, IsAnswer, IsCommitAlone, IsCommitAnswer, IsToldAnswer, IsOutcomeAnswer, IsStepAnswer, IsUncommitted, Undoes, committed_line, help_line, left_line, not_written, told_line};
+ghost use Rattle.ctt_seat.specs.CrewText.{SeatAnswerFits};
+ghost use Rattle.ctt_seat.specs.Seats.{open_entry, seat_value};
+ghost use Rattle.ctt_seat.specs.declared.seat.SeatAnswer.TheVariants.{Answer as Answered};
+ghost use Rattle.ctt_log.specs.Minutes.{EndsWith, CouldNotEnter, IsInMinutes};
+ghost use Rattle.ctt_office.specs.SeatAnswers.{AddsAnswer, AnswersEvent, IsAnswer, IsCommitAlone, IsCommitAnswer, IsToldAnswer, IsOutcomeAnswer, IsStepAnswer, IsUncommitted, Undoes, committed_line, help_line, left_line, not_written, told_line};
 ghost use Rattle.ctt_office.specs.Ended.{EndedFits, ended_after};
 ghost use Rattle.ctt_office.specs.SeatText.{LineFits};
 
-use crate::begun::Begun;
-use crate::book::Book;
-use crate::durable::Durable;
 use crate::redoing::redo;
 use crate::seat_line::SeatLine;
+use crate::seat_state::{SeatState, calls_fit, ended_after};
 use crate::undoing::undo;
-use crate::workplace::{Workplace, calls_fit, ended_after};
 use ctt_board::Sheet;
 use ctt_core::{Answer, Event};
 use ctt_desk::{Naming, Receipt, SharedDesk};
 use ctt_draft::AskedCalls;
+use ctt_log::{Begun, Durable, WriteAheadLog};
 use ctt_script::write_bad_line;
-use ctt_seat::{Seat, Told, write_told};
-use ctt_text::{Instance, NoMemory as OutOfMemory, let_go};
+use ctt_seat::{Seat, SeatAnswer, write_seat_answer};
+use ctt_text::{Instance, NoMemory as OutOfMemory, drop_whole};
 use itoa::Buffer;
 use std::alloc::{AllocError, Global};
 use std::sync::Wait;
@@ -76,7 +74,7 @@ pub(crate) fn write_no_memory(instance: &Instance, text: &mut String) -> Result<
     ensures { OnOk result (string_bytes text.new
         ≡ string_bytes text.old ++ told_line instance.now (Answered NoMemory)) }
 {
-    write_told(text, instance, &Told::Answer(Answer::NoMemory))
+    write_seat_answer(text, instance, &SeatAnswer::Answer(Answer::NoMemory))
 }
 
 /// Returns the entry of the open draft, and reserves capacity for the answer.
@@ -85,7 +83,8 @@ fn entry_of<'i, S: Sheet<'i>, J: Naming>(
     seat: &Seat<'i, S, J>,
     text: &mut String,
 ) -> Result<String, OutOfMemory>
-    ensures entry { IfOk result (λ entry. string_bytes entry ≡ open_entry J.problem seat.now) }
+    ensures entry { IfOk result (λ entry.
+        string_bytes entry ≡ open_entry J.problem (seat_value seat.now)) }
     ensures same { string_bytes text.new ≡ string_bytes text.old }
     ensures room { OnOk result (string_len text.new + 64 ≤ string_capacity text.new) }
 {
@@ -95,23 +94,23 @@ fn entry_of<'i, S: Sheet<'i>, J: Naming>(
     Ok(entry)
 }
 
-/// Enters an accepted draft into the book, and adds the answer, for which capacity has been
-/// reserved: the draft's number if it is in the book, and else that it is not written.
+/// Enters an accepted draft into the log, and adds the answer, for which capacity has been
+/// reserved: the draft's number if it is in the log, and else that it is not written.
 fn enter<J: Naming + Begun, W: Durable, R: Wait>(
     rt: &R,
     instance: &Instance,
-    book: &Book<W, J>,
+    log: &WriteAheadLog<W, J>,
     receipt: &Receipt<J>,
     entry: &str,
     text: &mut String,
 )
     requires ends { EndsWith J.problem receipt.now entry.now }
     requires room { string_len text.old + 64 ≤ string_capacity text.old }
-    ensures { Adds (IsOutcomeAnswer (IsInMinutes W.Sink.taken W.kept J.problem J.start)
-        (HasFailed W.Sink.taken W.Sink.has_failed J.problem J.start) instance.now (Ok receipt.now))
-        (string_bytes text.old) (string_bytes text.new) }
+    ensures { AddsAnswer (IsOutcomeAnswer (IsInMinutes W.Sink.taken W.kept J.problem J.start)
+        (CouldNotEnter W.Sink.taken W.Sink.has_failed J.problem J.start) instance.now
+        (Ok receipt.now)) (string_bytes text.old) (string_bytes text.new) }
 {
-    match book.enter(rt, receipt, entry.as_bytes()) {
+    match log.enter(rt, receipt, entry.as_bytes()) {
         Ok(()) => add_committed(text, receipt.number()),
         Err(_) => write_not_written(text).unwrap(),
     }
@@ -122,70 +121,70 @@ fn refuse<'i, S: Sheet<'i>, J: Naming>(
     instance: &Instance,
     seat: Seat<'i, S, J>,
     ended: Option<AskedCalls>,
-    told: Told,
+    told: SeatAnswer,
     text: &mut String,
-) -> (Workplace<'i, S, J>, Result<(), AllocError>)
-    requires { ToldFits instance.now told }
+) -> (SeatState<'i, S, J>, Result<(), AllocError>)
+    requires { SeatAnswerFits instance.now told }
     ensures line { OnOk result.1
         (string_bytes text.new ≡ string_bytes text.old ++ told_line instance.now told) }
     ensures seat { result.0.seat ≡ seat.entry }
     ensures ended { result.0.ended ≡ ended_after told ended }
 {
-    let written = write_told(text, instance, &told);
+    let written = write_seat_answer(text, instance, &told);
     let ended = ended_after(told, ended);
-    (Workplace { seat, ended }, written)
+    (SeatState { seat, ended }, written)
 }
 
 /// Commits the draft, and adds the answer. The draft is reported as accepted only if it is in the
-/// book.
+/// log.
 fn commit<'i, S: Sheet<'i>, J: Naming + Begun, W: Durable, R: Wait>(
     rt: &R,
     alloc: Global,
     desk: &SharedDesk<S, J>,
     instance: &Instance,
-    book: &Book<W, J>,
-    place: Workplace<'i, S, J>,
+    log: &WriteAheadLog<W, J>,
+    place: SeatState<'i, S, J>,
     text: &mut String,
-) -> (Workplace<'i, S, J>, Result<(), AllocError>)
+) -> (SeatState<'i, S, J>, Result<(), AllocError>)
     requires same { J.problem ≡ instance.now }
     requires fits { EndedFits instance.now place.ended }
     ensures answered { OnOk result.1
-        (Adds (IsCommitAnswer (IsInMinutes W.Sink.taken W.kept J.problem J.start)
-        (HasFailed W.Sink.taken W.Sink.has_failed J.problem J.start) instance.now J.opening
+        (AddsAnswer (IsCommitAnswer (IsInMinutes W.Sink.taken W.kept J.problem J.start)
+        (CouldNotEnter W.Sink.taken W.Sink.has_failed J.problem J.start) instance.now J.opening
         place.entry result.0) (string_bytes text.old) (string_bytes text.new)) }
     ensures unanswered { OnErr result.1 (IsUncommitted place.entry result.0) }
     ensures fits { EndedFits instance.now result.0.ended }
 {
-    if book.has_failed(rt) {
+    if log.has_failed(rt) {
         return (place, write_not_written(text));
     }
-    let Workplace { seat, ended } = place;
+    let SeatState { seat, ended } = place;
     calls_fit(&seat);
     let Ok(entry) = entry_of(alloc, &seat, text) else {
-        return (Workplace { seat, ended }, write_no_memory(instance, text));
+        return (SeatState { seat, ended }, write_no_memory(instance, text));
     };
     let (seat, outcome) = seat.commit(rt, desk);
     match outcome {
         Ok(receipt) => {
-            enter(rt, instance, book, &receipt, &entry, text);
-            let_go(ended);
-            (Workplace { seat, ended: None }, Ok(()))
+            enter(rt, instance, log, &receipt, &entry, text);
+            drop_whole(ended);
+            (SeatState { seat, ended: None }, Ok(()))
         }
         Err(told) => refuse(instance, seat, ended, told, text),
     }
 }
 
-/// Commits the draft without a book, and adds the answer.
+/// Commits the draft without a log, and adds the answer.
 fn commit_alone<'i, S: Sheet<'i>, J: Naming, R: Wait>(
     rt: &R,
     desk: &SharedDesk<S, J>,
     instance: &Instance,
-    place: Workplace<'i, S, J>,
+    place: SeatState<'i, S, J>,
     text: &mut String,
-) -> (Workplace<'i, S, J>, Result<(), AllocError>)
+) -> (SeatState<'i, S, J>, Result<(), AllocError>)
     requires same { J.problem ≡ instance.now }
     requires fits { EndedFits instance.now place.ended }
-    ensures answered { OnOk result.1 (Adds
+    ensures answered { OnOk result.1 (AddsAnswer
         (IsCommitAlone instance.now J.opening place.entry result.0)
         (string_bytes text.old) (string_bytes text.new)) }
     ensures unanswered { OnErr result.1 (IsUncommitted place.entry result.0) }
@@ -194,14 +193,14 @@ fn commit_alone<'i, S: Sheet<'i>, J: Naming, R: Wait>(
     if text.reserve(COMMITTED).is_err() {
         return (place, write_no_memory(instance, text));
     }
-    let Workplace { seat, ended } = place;
+    let SeatState { seat, ended } = place;
     calls_fit(&seat);
     let (seat, outcome) = seat.commit(rt, desk);
     match outcome {
         Ok(receipt) => {
             add_committed(text, receipt.number());
-            let_go(ended);
-            (Workplace { seat, ended: None }, Ok(()))
+            drop_whole(ended);
+            (SeatState { seat, ended: None }, Ok(()))
         }
         Err(told) => refuse(instance, seat, ended, told, text),
     }
@@ -213,10 +212,11 @@ fn do_step<'i, S: Sheet<'i>, J: Naming, R: Wait>(
     desk: &SharedDesk<S, J>,
     seat: Seat<'i, S, J>,
     event: Event,
-) -> (Seat<'i, S, J>, Told)
+) -> (Seat<'i, S, J>, SeatAnswer)
     requires { (n : ℕ) × EventFits J.problem n event }
-    ensures fits { ToldFits J.problem result.1 }
-    ensures does { Does J.problem J.opening event seat.entry result.0 result.1 }
+    ensures fits { SeatAnswerFits J.problem result.1 }
+    ensures does { AnswersEvent J.problem J.opening event (seat_value seat.entry)
+        (seat_value result.0) result.1 }
 {
     match event {
         Event::Show(look) => {
@@ -233,52 +233,52 @@ fn take<'i, S: Sheet<'i>, J: Naming, R: Wait>(
     rt: &R,
     desk: &SharedDesk<S, J>,
     instance: &Instance,
-    place: Workplace<'i, S, J>,
+    place: SeatState<'i, S, J>,
     event: Event,
     text: &mut String,
-) -> (Workplace<'i, S, J>, Result<(), AllocError>)
+) -> (SeatState<'i, S, J>, Result<(), AllocError>)
     requires same { J.problem ≡ instance.now }
     requires fits { (n : ℕ) × EventFits J.problem n event }
     requires ended { EndedFits instance.now place.ended }
     ensures answered { OnOk result.1
-        (Adds (IsToldAnswer instance.now J.opening event place.entry result.0)
+        (AddsAnswer (IsToldAnswer instance.now J.opening event place.entry result.0)
         (string_bytes text.old) (string_bytes text.new)) }
     ensures uncommitted { ((p : ℕ) → event ≢ Commit p) → IsUncommitted place.entry result.0 }
     ensures fits { EndedFits instance.now result.0.ended }
 {
-    let Workplace { seat, ended } = place;
+    let SeatState { seat, ended } = place;
     calls_fit(&seat);
     let (seat, told) = do_step(rt, desk, seat, event);
-    let written = write_told(text, instance, &told);
+    let written = write_seat_answer(text, instance, &told);
     let ended = ended_after(told, ended);
-    (Workplace { seat, ended }, written)
+    (SeatState { seat, ended }, written)
 }
 
-/// Performs a step, and adds the answer. Accepted drafts are entered into the book, if there is
+/// Performs a step, and adds the answer. Accepted drafts are entered into the log, if there is
 /// one.
 fn step<'i, S: Sheet<'i>, J: Naming + Begun, W: Durable, R: Wait>(
     rt: &R,
     alloc: Global,
     desk: &SharedDesk<S, J>,
     instance: &Instance,
-    book: Option<&Book<W, J>>,
-    place: Workplace<'i, S, J>,
+    log: Option<&WriteAheadLog<W, J>>,
+    place: SeatState<'i, S, J>,
     event: Event,
     text: &mut String,
-) -> (Workplace<'i, S, J>, Result<(), AllocError>)
+) -> (SeatState<'i, S, J>, Result<(), AllocError>)
     requires same { J.problem ≡ instance.now }
     requires fits { (n : ℕ) × EventFits J.problem n event }
     requires ended { EndedFits instance.now place.ended }
     ensures answered { OnOk result.1
-        (Adds (IsStepAnswer book.entry (IsInMinutes W.Sink.taken W.kept J.problem J.start)
-        (HasFailed W.Sink.taken W.Sink.has_failed J.problem J.start) instance.now J.opening event
-        place.entry result.0) (string_bytes text.old) (string_bytes text.new)) }
+        (AddsAnswer (IsStepAnswer log.entry (IsInMinutes W.Sink.taken W.kept J.problem J.start)
+        (CouldNotEnter W.Sink.taken W.Sink.has_failed J.problem J.start) instance.now J.opening
+        event place.entry result.0) (string_bytes text.old) (string_bytes text.new)) }
     ensures unanswered { OnErr result.1 (IsUncommitted place.entry result.0) }
     ensures fits { EndedFits instance.now result.0.ended }
 {
     match event {
-        Event::Commit(_) => match book {
-            Some(book) => commit(rt, alloc, desk, instance, book, place, text),
+        Event::Commit(_) => match log {
+            Some(log) => commit(rt, alloc, desk, instance, log, place, text),
             None => commit_alone(rt, desk, instance, place, text),
         },
         _ => take(rt, desk, instance, place, event, text),
@@ -288,19 +288,20 @@ fn step<'i, S: Sheet<'i>, J: Naming + Begun, W: Durable, R: Wait>(
 /// Undoes the last edit, and adds the answer.
 fn undo_at<'i, S: Sheet<'i>, J: Naming>(
     instance: &Instance,
-    place: Workplace<'i, S, J>,
+    place: SeatState<'i, S, J>,
     text: &mut String,
-) -> (Workplace<'i, S, J>, Result<(), AllocError>)
+) -> (SeatState<'i, S, J>, Result<(), AllocError>)
     requires { J.problem ≡ instance.now }
-    ensures answered { OnOk result.1 (Adds (Undoes instance.now place.entry.seat result.0.seat)
-        (string_bytes text.old) (string_bytes text.new)) }
+    ensures answered { OnOk result.1 (AddsAnswer
+        (Undoes instance.now place.entry.seat result.0.seat) (string_bytes text.old)
+        (string_bytes text.new)) }
     ensures unanswered { IsUncommitted place.entry result.0 }
     ensures ended { result.0.ended ≡ place.entry.ended }
 {
-    let Workplace { seat, ended } = place;
+    let SeatState { seat, ended } = place;
     let mut seat = seat;
     let written = undo(&mut seat, instance, text);
-    (Workplace { seat, ended }, written)
+    (SeatState { seat, ended }, written)
 }
 
 /// Answers a line of a seat, and adds the answer, which is one line or empty.
@@ -311,18 +312,18 @@ pub(crate) fn answer<'i, S: Sheet<'i>, J: Naming + Begun, W: Durable, R: Wait>(
     alloc: Global,
     desk: &SharedDesk<S, J>,
     instance: &Instance,
-    book: Option<&Book<W, J>>,
-    place: Workplace<'i, S, J>,
+    log: Option<&WriteAheadLog<W, J>>,
+    place: SeatState<'i, S, J>,
     line: &SeatLine,
     text: &mut String,
-) -> (Workplace<'i, S, J>, Result<(), AllocError>)
+) -> (SeatState<'i, S, J>, Result<(), AllocError>)
     requires same { J.problem ≡ instance.now }
     requires fits { (p : ℕ) × LineFits instance.now p line.now }
     requires ended { EndedFits instance.now place.ended }
     ensures answered { OnOk result.1
-        (Adds (IsAnswer book.entry (IsInMinutes W.Sink.taken W.kept J.problem J.start)
-        (HasFailed W.Sink.taken W.Sink.has_failed J.problem J.start) instance.now J.opening line.now
-        place.entry result.0) (string_bytes text.old) (string_bytes text.new)) }
+        (AddsAnswer (IsAnswer log.entry (IsInMinutes W.Sink.taken W.kept J.problem J.start)
+        (CouldNotEnter W.Sink.taken W.Sink.has_failed J.problem J.start) instance.now J.opening
+        line.now place.entry result.0) (string_bytes text.old) (string_bytes text.new)) }
     ensures unanswered { OnErr result.1 (IsUncommitted place.entry result.0) }
     ensures fits { EndedFits instance.now result.0.ended }
 {
@@ -334,6 +335,6 @@ pub(crate) fn answer<'i, S: Sheet<'i>, J: Naming + Begun, W: Durable, R: Wait>(
         SeatLine::Undo => undo_at(instance, place, text),
         SeatLine::Bad(word) => (place, word.write(text)),
         SeatLine::TooLong => (place, write_bad_line(text)),
-        SeatLine::Step(event) => step(rt, alloc, desk, instance, book, place, *event, text),
+        SeatLine::Step(event) => step(rt, alloc, desk, instance, log, place, *event, text),
     }
 }

@@ -4,21 +4,22 @@ ghost use Rattle.std.specs.Prelude.{◌≡◌, ◌≤◌, ◌+◌, ℕ, [], Err,
 ghost use Rattle.std.specs.Vec.{vec_capacity};
 ghost use mathlib.Core.List.{IsPrefix};
 ghost use Rattle.ctt_core.specs.Runs.{Legal};
+ghost use Rattle.ctt_desk.specs.Names.{IsNameOf};
 ghost use Rattle.ctt_seat.specs.Attended.{IsCrewText};
 ghost use Rattle.ctt_seat.specs.CrewText.{closing_text};
 ghost use Rattle.ctt_office.specs.OfficeFaults.{IsOfficeFault};
-ghost use Rattle.ctt_office.specs.Pages.{AreMinutesOf, IsPartOf, IsRecorded};
+ghost use Rattle.ctt_log.specs.Minutes.{AreMinutesOf, IsPartOf};
+ghost use Rattle.ctt_office.specs.Recorded.{IsRecorded};
 ghost use Rattle.ctt_office.specs.declared.office_fault.OfficeFault.TheVariants.{NotWritten};
 
-use crate::begun::Begun;
-use crate::book::{Book, Pages};
-use crate::durable::Durable;
 use crate::office_fault::OfficeFault;
 use ctt_board::Timetable;
-use ctt_desk::{Closed, Named, Naming, Planner, SharedDesk};
+use ctt_desk::{Closed, Named, Naming, Opened, Planner, SharedDesk};
+use ctt_log::{Begun, Durable, LogWriter, WriteAheadLog};
 use ctt_seat::{closing_report, end_desk};
-use ctt_text::let_go;
+use ctt_text::drop_whole;
 use std::alloc::Global;
+use std::marker::PhantomData;
 use std::sync::Wait;
 
 /// A planner without a seat, who closes the desk after he has seen what is in the minutes: so they
@@ -36,13 +37,20 @@ pub(crate) struct Keeper<S: Timetable, J: Naming> {
 pub(crate) fn desk_named<S: Timetable, J: Naming, R: Wait>(
     rt: &R,
     alloc: Global,
-    named: Named<S, J>,
+    opened: Opened<S>,
+    count: u16,
 ) -> Result<(SharedDesk<S, J>, Vec<Planner<S, J>>, Keeper<S, J>), OfficeFault>
-    requires { 1 ≤ named.count }
-    ensures planners { IfOk result (λ made. length made.1.items + 1 ≡ named.count) }
+    requires named { IsNameOf J.problem J.opening J.planners J.book opened count }
+    requires some { 1 ≤ count }
+    ensures planners { IfOk result (λ made. length made.1.items + 1 ≡ count) }
     ensures fault { (seats : ℕ) → IfErr result (IsOfficeFault seats) }
 {
     let list = Vec::with_capacity(alloc, 1)?;
+    let named = Named {
+        opened,
+        count,
+        name: PhantomData,
+    };
     let (desk, mut planners) = SharedDesk::new(rt, named)?;
     let planner = planners.pop().unwrap();
     Ok((desk, planners, Keeper { planner, list }))
@@ -74,7 +82,7 @@ fn close_on<S: Timetable, J: Naming + Begun, W: Durable, R: Wait>(
     rt: &R,
     desk: SharedDesk<S, J>,
     keeper: Keeper<S, J>,
-    pages: Pages<W, J>,
+    pages: LogWriter<W, J>,
 ) -> (Closed<S, J>, W, bool)
     ensures whole { result.2 ≡ true
         → AreMinutesOf J.problem result.0 J.start (W.Sink.taken result.1) }
@@ -88,26 +96,26 @@ fn close_on<S: Timetable, J: Naming + Begun, W: Durable, R: Wait>(
     (closed, writer, is_whole)
 }
 
-/// Closes a desk whose seats have ended, with its book, if there is one.
+/// Closes a desk whose seats have ended, with its log, if there is one.
 fn close_all<S: Timetable, J: Naming + Begun, W: Durable, R: Wait>(
     rt: &R,
     alloc: Global,
     desk: SharedDesk<S, J>,
     keeper: Keeper<S, J>,
-    book: Option<Book<W, J>>,
+    log: Option<WriteAheadLog<W, J>>,
 ) -> (Closed<S, J>, Option<W>, bool)
-    ensures given { is_some result.1 ≡ is_some book }
+    ensures given { is_some result.1 ≡ is_some log }
     ensures whole { result.2 ≡ true → IfSome result.1
         (λ writer. AreMinutesOf J.problem result.0 J.start (W.Sink.taken writer)) }
     ensures part { IfSome result.1 (IsPartOf W.Sink.taken J.problem J.opening J.start) }
 {
-    match book {
-        Some(book) => {
-            let (closed, writer, is_whole) = close_on(rt, desk, keeper, book.into_pages());
+    match log {
+        Some(log) => {
+            let (closed, writer, is_whole) = close_on(rt, desk, keeper, log.into_writer());
             (closed, Some(writer), is_whole)
         }
         None => {
-            let_go(keeper);
+            drop_whole(keeper);
             (end_desk(rt, alloc, desk), None, true)
         }
     }
@@ -155,19 +163,19 @@ pub(crate) fn close<S: Timetable, J: Naming + Begun, W: Durable, R: Wait>(
     alloc: Global,
     desk: SharedDesk<S, J>,
     keeper: Keeper<S, J>,
-    book: Option<Book<W, J>>,
+    log: Option<WriteAheadLog<W, J>>,
     ended: Result<(), OfficeFault>,
 ) -> (Result<Vec<u8>, OfficeFault>, Option<W>)
     ensures text { IfOk result.0 (λ text. IsCrewText J.problem J.opening [] text.items) }
     ensures recorded { IfOk result.0 (λ text.
         IsRecorded W.Sink.taken J.problem J.opening J.start result.1 text.items) }
     ensures part { IfSome result.1 (IsPartOf W.Sink.taken J.problem J.opening J.start) }
-    ensures given { is_some result.1 ≡ is_some book }
+    ensures given { is_some result.1 ≡ is_some log }
     ensures fault { (seats : ℕ) → IfErr ended (IsOfficeFault seats)
         → IfErr result.0 (IsOfficeFault seats) }
 {
-    let (closed, minutes, is_whole) = close_all(rt, alloc, desk, keeper, book);
+    let (closed, minutes, is_whole) = close_all(rt, alloc, desk, keeper, log);
     let text = last_lines(alloc, &closed, check_end(ended, is_whole));
-    let_go(closed);
+    drop_whole(closed);
     (text, minutes)
 }

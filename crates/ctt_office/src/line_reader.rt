@@ -3,12 +3,13 @@
 ghost use Rattle.std.specs.Prelude.{◌≡◌, ◌<◌, ◌≤◌, ◌+◌, ◌-◌, ◌==◌, ℕ, List, [], true, false, length, drop, take, Ok, Some, OnErr, OnOk, OnSome, IfOk, IfSome, IfNone, IsErr, vec_len};
 ghost use Rattle.std.specs.Vec.{vec_capacity};
 ghost use Rattle.std.specs.Io.KnownBytes.{Keeps, IsAtEnd};
-ghost use Rattle.ctt_office.specs.Lines.{GivesNext, HasLine, IsCut, IsGrown, IsLong, IsOpen, IsReadOnce, IsShort, IsShut, coming};
+ghost use Rattle.ctt_log.specs.Recovery.{HasNoNewline};
+ghost use Rattle.ctt_office.specs.Lines.{GivesNext, HasLine, IsLineThenRest, IsGrown, IsLong, IsReadOnce, FitsBuffer, IsShut, coming};
 ghost use Rattle.ctt_office.specs.declared.line_reader.Next.TheVariants.{End, Line, TooLong};
 
 use ctt_files::{Failed, Source};
 use ctt_script::line_end;
-use ctt_text::{NoMemory, let_go};
+use ctt_text::{NoMemory, drop_whole};
 use std::alloc::Global;
 use std::marker::Model;
 use std::sync::Wait;
@@ -75,9 +76,9 @@ impl<R: Source> Model for LineReader<R> {
 fn first_end(bytes: &[u8]) -> Option<usize>
     ensures some { OnSome result (HasLine bytes.now) }
     ensures cut { IfSome result (λ n.
-        IsCut (take n bytes.now) (drop (n + 1) bytes.now) bytes.now) }
+        IsLineThenRest (take n bytes.now) (drop (n + 1) bytes.now) bytes.now) }
     ensures within { IfSome result (λ n. n < length bytes.now) }
-    ensures none { IfNone result (IsOpen bytes.now) }
+    ensures none { IfNone result (HasNoNewline bytes.now) }
 {
     line_end(bytes)
 }
@@ -108,7 +109,7 @@ impl<R: Source> LineReader<R> {
         ensures open { IfOk result (λ lines. lines.is_shut ≡ false) }
     {
         let Ok(held) = Vec::with_capacity(alloc, CAPACITY) else {
-            let_go(source);
+            drop_whole(source);
             return Err(NoMemory);
         };
         Ok(LineReader {
@@ -131,8 +132,8 @@ impl<R: Source> LineReader<R> {
 
     /// Appends the bytes of one more read to those held, and returns whether there were any.
     fn pull(&mut self) -> Result<bool, Failed>
-        requires open { IsOpen self.old.held }
-        requires short { IsShort self.old.held }
+        requires open { HasNoNewline self.old.held }
+        requires short { FitsBuffer self.old.held }
         ensures grown { result ≡ Ok true → IsGrown self.old self.new }
         ensures coming { OnOk result (Keeps (coming self.old) (coming self.new)) }
         ensures line { self.old.line ≡ [] → self.new.line ≡ [] }
@@ -166,12 +167,12 @@ impl<R: Source> LineReader<R> {
     /// Takes the first line held, if its newline is held too.
     #[tactic(auto, using(crate::proofs::LineLemmas::cut_behind))]
     fn find(&mut self) -> Option<Next>
-        ensures none { IfNone result ((self.new ≡ self.old) × IsOpen self.old.held) }
+        ensures none { IfNone result ((self.new ≡ self.old) × HasNoNewline self.old.held) }
         ensures some { OnSome result (HasLine self.old.held) }
         ensures line { result ≡ Some Line
-            → IsCut self.new.line self.new.held self.old.held × IsShort self.new.line }
+            → IsLineThenRest self.new.line self.new.held self.old.held × FitsBuffer self.new.line }
         ensures long { result ≡ Some TooLong → (self.new.line ≡ [])
-            × ((line : List ℕ) × IsLong line × IsCut line self.new.held self.old.held) }
+            × ((line : List ℕ) × IsLong line × IsLineThenRest line self.new.held self.old.held) }
         ensures never { result ≡ Some End → ⊥ }
         ensures rest { self.new ≡ record self.old { line = self.new.line; held = self.new.held } }
     {
@@ -189,8 +190,8 @@ impl<R: Source> LineReader<R> {
 
     /// Takes all bytes held as the last line, if there are any.
     fn last(&mut self) -> Next
-        requires open { IsOpen self.old.held }
-        requires short { IsShort self.old.held }
+        requires open { HasNoNewline self.old.held }
+        requires short { FitsBuffer self.old.held }
         requires end { IsAtEnd self.old.left }
         ensures next { GivesNext result self.old self.new }
         ensures rest { self.new ≡ record self.old { line = self.new.line; held = self.new.held } }
@@ -216,7 +217,7 @@ impl<R: Source> LineReader<R> {
 
     /// Reads to the end of a line that is known to be too long, and stores nothing of it.
     fn pass_long<W: Wait>(&mut self, rt: &W) -> Result<Next, Failed>
-        requires open { IsOpen self.old.held }
+        requires open { HasNoNewline self.old.held }
         requires long { IsLong self.old.held }
         ensures next { IfOk result (λ next. GivesNext next self.old self.new) }
         ensures long { IfOk result (λ next. next ≡ TooLong) }
@@ -242,7 +243,7 @@ impl<R: Source> LineReader<R> {
 
     /// Reads until a whole line is held or the source has ended.
     fn fetch<W: Wait>(&mut self, rt: &W) -> Result<Next, Failed>
-        requires { IsOpen self.old.held }
+        requires { HasNoNewline self.old.held }
         ensures next { IfOk result (λ next. GivesNext next self.old self.new) }
         ensures once { IsReadOnce R.left R.has_failed R.pulls self.old self.new.pulls }
         ensures failed { OnErr result (self.new.has_failed ≡ true) }
@@ -270,7 +271,7 @@ impl<R: Source> LineReader<R> {
     pub fn next<W: Wait>(&mut self, rt: &W) -> Result<Next, Failed>
         ensures next { IfOk result (λ next. GivesNext next self.old self.new) }
         ensures at_hand { HasLine self.old.held → self.new.pulls ≡ self.old.pulls }
-        ensures once { IsOpen self.old.held
+        ensures once { HasNoNewline self.old.held
             → IsReadOnce R.left R.has_failed R.pulls self.old self.new.pulls }
         ensures failed { OnErr result (self.new.has_failed ≡ true) }
         ensures unmarked { OnOk result (self.new.has_failed ≡ self.old.has_failed) }

@@ -1,22 +1,21 @@
 //! A desk with its seats, from its opening until all planners have left.
 
 ghost use Rattle.std.specs.Prelude.{◌≡◌, ◌≤◌, ◌<◌, ◌+◌, ℕ, [], is_some, length, map, IfErr, IfOk, IfSome, OnOk, string_bytes};
-ghost use Rattle.ctt_desk.specs.Names.{IsNamed};
+ghost use Rattle.ctt_desk.specs.Names.{IsNameOf};
 ghost use Rattle.ctt_seat.specs.Attended.{IsCrewText};
 ghost use Rattle.ctt_office.specs.OfficeFaults.{IsOfficeFault, first_fault};
-ghost use Rattle.ctt_office.specs.Pages.{IsPartOf, IsRecorded, taken_by};
+ghost use Rattle.ctt_log.specs.Minutes.{IsPartOf};
+ghost use Rattle.ctt_office.specs.Recorded.{IsRecorded, taken_by};
 ghost use Rattle.ctt_office.specs.declared.office_fault.OfficeFault.TheVariants.{NoMemory as OutOfMemory};
 
-use crate::begun::Begun;
-use crate::book::Book;
 use crate::closing::{close, desk_named};
 use crate::doors::Doors;
-use crate::durable::Durable;
 use crate::office_fault::{OfficeFault, SeatFault};
-use crate::sitting::{GridStation, Station, sit_on_grid};
-use ctt_desk::{Named, Naming, Opened, Planner, SharedDesk};
+use crate::sitting::{GridTask, SeatTask, sit_on_grid};
+use ctt_desk::{Naming, Opened, Planner, SharedDesk};
 use ctt_grid::GridSheet;
-use ctt_text::{Instance, let_go};
+use ctt_log::{Begun, Durable, WriteAheadLog};
+use ctt_text::{Instance, drop_whole};
 use std::alloc::Global;
 use std::marker::{Brand, PhantomData, Send, Sync};
 use std::sync::Wait;
@@ -80,7 +79,7 @@ fn sit_at_once<
     rt: &R,
     alloc: Global,
     desk: &'x SharedDesk<GridSheet<'i>, J>,
-    seats: Vec<(Planner<GridSheet<'i>, J>, Station<'i, 'x, J, D, W>)>,
+    seats: Vec<(Planner<GridSheet<'i>, J>, SeatTask<'i, 'x, J, D, W>)>,
 ) -> Result<(), OfficeFault>
     ensures { IfErr result (IsOfficeFault (length seats.entry.items)) }
 {
@@ -91,15 +90,15 @@ fn sit_at_once<
             ensures { IfErr result (IsOfficeFault (length seats.entry.items)) }
         {
             let mut threads = Vec::new(alloc);
-            for (planner, station) in seats {
-                let work = GridStation {
+            for (planner, task) in seats {
+                let work = GridTask {
                     desk,
                     planner,
-                    station,
+                    task,
                 };
                 let sitting = move || sit_on_grid(work, rt);
                 if let Err(fault) = push_started(&mut threads, scope.spawn(sitting)) {
-                    let_go(threads);
+                    drop_whole(threads);
                     return Err(fault);
                 }
             }
@@ -109,37 +108,37 @@ fn sit_at_once<
 }
 
 /// Gives each planner a seat, in the order of the names.
-fn stations<'i, 'x, P: Drop, J: Naming + Begun, D: Doors, W: Durable>(
+fn seat_tasks<'i, 'x, P: Drop, J: Naming + Begun, D: Doors, W: Durable>(
     alloc: Global,
     instance: &'i Instance,
     planners: Vec<P>,
     names: &'x [String],
     doors: &'x D,
-    book: Option<&'x Book<W, J>>,
-) -> Result<Vec<(P, Station<'i, 'x, J, D, W>)>, OfficeFault>
+    log: Option<&'x WriteAheadLog<W, J>>,
+) -> Result<Vec<(P, SeatTask<'i, 'x, J, D, W>)>, OfficeFault>
     requires problem { J.problem ≡ instance.now }
     requires counted { length planners.items ≡ length names.now }
     ensures each { IfOk result (λ seats. length seats.items ≡ length names.now) }
     ensures planners { IfOk result (λ seats. map (λ s. s.0) seats.items ≡ planners.items) }
     ensures names { IfOk result (λ seats.
         map (λ s. s.1.name.now) seats.items ≡ map string_bytes names.now) }
-    ensures book { IfOk result (λ seats.
-        map (λ s. s.1.book) seats.items ≡ map (λ _. book.entry) seats.items) }
+    ensures log { IfOk result (λ seats.
+        map (λ s. s.1.log) seats.items ≡ map (λ _. log.entry) seats.items) }
     ensures fault { IfErr result (λ fault. fault ≡ OutOfMemory) }
 {
     let mut seats = Vec::with_capacity(alloc, names.len())?;
     for (planner, name) in planners.into_iter().zip(names) {
-        let station = Station {
+        let task = SeatTask {
             alloc,
             instance,
-            book,
+            log,
             doors,
             name: name.as_str(),
             desk: PhantomData,
         };
-        if let Err(refused) = seats.push((planner, station)) {
-            let_go(refused);
-            let_go(seats);
+        if let Err(refused) = seats.push((planner, task)) {
+            drop_whole(refused);
+            drop_whole(seats);
             return Err(OfficeFault::NoMemory);
         }
     }
@@ -161,30 +160,30 @@ fn seat_all<
     planners: Vec<Planner<GridSheet<'i>, J>>,
     names: &[String],
     doors: &D,
-    book: Option<&Book<W, J>>,
+    log: Option<&WriteAheadLog<W, J>>,
 ) -> Result<(), OfficeFault>
     requires problem { J.problem ≡ instance.now }
     requires counted { length planners.items ≡ length names.now }
     ensures { IfErr result (IsOfficeFault (length names.now)) }
 {
-    let seats = stations(alloc, instance, planners, names, doors, book)?;
+    let seats = seat_tasks(alloc, instance, planners, names, doors, log)?;
     sit_at_once(rt, alloc, desk, seats)
 }
 
-/// Creates a book on the writer, if there is one.
-fn book_on<W: Durable, J: Naming + Begun>(minutes: Option<W>) -> Option<Book<W, J>>
+/// Creates a log on the writer, if there is one.
+fn log_on<W: Durable, J: Naming + Begun>(minutes: Option<W>) -> Option<WriteAheadLog<W, J>>
     requires { J.start ≡ taken_by W.Sink.taken minutes }
     ensures { is_some result ≡ is_some minutes }
 {
     match minutes {
-        Some(writer) => Some(Book::new(writer)),
+        Some(writer) => Some(WriteAheadLog::new(writer)),
         None => None,
     }
 }
 
 /// Runs the desk that `J` names until all planners have left. It has a seat for each planner but
 /// the last, who closes it.
-#[tactic(auto, using(crate::proofs::PagesLemmas::none_taken))]
+#[tactic(auto, using(crate::proofs::RecordedLemmas::none_taken))]
 fn keep_named<
     'i,
     J: Naming + Begun + Send + Sync,
@@ -201,7 +200,7 @@ fn keep_named<
     doors: &D,
     minutes: Option<W>,
 ) -> (Result<Vec<u8>, OfficeFault>, Option<W>)
-    requires named { IsNamed J.problem J.opening J.planners J.book opened count }
+    requires named { IsNameOf J.problem J.opening J.planners J.book opened count }
     requires begun { J.start ≡ taken_by W.Sink.taken minutes }
     requires problem { opened.problem ≡ instance.now }
     requires counted { length names.now + 1 ≡ count }
@@ -212,26 +211,21 @@ fn keep_named<
     ensures given { is_some result.1 ≡ is_some minutes }
     ensures fault { IfErr result.0 (IsOfficeFault (length names.now)) }
 {
-    let named = Named {
-        opened,
-        count,
-        name: PhantomData,
-    };
-    match desk_named::<GridSheet<'i>, J, R>(rt, alloc, named) {
+    match desk_named::<GridSheet<'i>, J, R>(rt, alloc, opened, count) {
         Ok((desk, planners, keeper)) => {
-            let kept = book_on(minutes);
-            let book = kept.as_ref();
-            let sat = seat_all(rt, alloc, &desk, instance, planners, names, doors, book);
+            let kept = log_on(minutes);
+            let log = kept.as_ref();
+            let sat = seat_all(rt, alloc, &desk, instance, planners, names, doors, log);
             close::<GridSheet<'i>, J, W, R>(rt, alloc, desk, keeper, kept, sat)
         }
         Err(fault) => (Err(fault), minutes),
     }
 }
 
-/// Runs a desk with a seat for each name until all planners have left. Each seat has a thread, which
-/// opens its devices and answers each line before it reads the next one. If there is a writer for
-/// minutes, each accepted draft is entered there before it is reported to its planner. Returns the
-/// number of accepted drafts and the costs, as lines, and the writer of the minutes.
+/// Runs a desk with a seat for each name until all planners have left. Each seat has a thread,
+/// which opens its devices and answers each line before it reads the next one. If there is a writer
+/// for minutes, each accepted draft is entered there before it is reported to its planner. Returns
+/// the number of accepted drafts and the costs, as lines, and the writer of the minutes.
 pub fn keep_desk<'i, D: Doors, W: Durable + Send, R: Threads + Wait + Sync>(
     rt: &R,
     alloc: Global,

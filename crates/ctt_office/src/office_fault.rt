@@ -1,7 +1,7 @@
 //! Why a desk could not be run to its end.
 
 ghost use Rattle.std.specs.Prelude.{◌≡◌};
-ghost use Rattle.ctt_office.specs.OfficeFaults.{at_seat, of_shared};
+ghost use Rattle.ctt_office.specs.OfficeFaults.{at_seat, office_fault_of};
 ghost use Rattle.ctt_office.specs.declared.office_fault.OfficeFault.TheVariants.{NoMemory as OutOfMemory};
 
 use ctt_desk::SharedFault;
@@ -57,7 +57,7 @@ impl OfficeFault {
 }
 
 impl From<SharedFault> for OfficeFault {
-    ghost from_gives = { λ fault given. given ≡ of_shared fault };
+    ghost from_gives = { λ fault given. given ≡ office_fault_of fault };
 
     /// Converts the fault of a shared desk. The desk already has a lawful opening, so that only
     /// memory or a place can be lacking.

@@ -12,22 +12,23 @@ ghost use Rattle.ctt_edits.specs.declared.reply.Reply.TheVariants.{Refused};
 ghost use Rattle.ctt_desk.specs.Planners.{present_of};
 ghost use Rattle.ctt_line.specs.Lines.{words_part};
 ghost use Rattle.ctt_seat.specs.Attended.{leaver};
-ghost use Rattle.ctt_seat.specs.CrewText.{told_unread};
+ghost use Rattle.ctt_seat.specs.CrewText.{unread_answer};
+ghost use Rattle.ctt_seat.specs.Seats.{seat_value};
 ghost use Rattle.ctt_office.specs.Ended.{EndedFits};
 ghost use Rattle.ctt_office.specs.Redone.{IsMadeAgain, left_out, left_out_words, redone_line, remade};
-ghost use Rattle.ctt_office.specs.SeatAnswers.{Adds, IsUncommitted, Redoes, RedoesCalls, told_line};
+ghost use Rattle.ctt_office.specs.SeatAnswers.{AddsAnswer, IsUncommitted, Redoes, RedoesCalls, told_line};
 
 use crate::answering::write_no_memory;
-use crate::workplace::Workplace;
+use crate::seat_state::SeatState;
 use ctt_board::Sheet;
 use ctt_core::Answer;
 use ctt_desk::{Drafting, Naming, Planner, SharedFault};
 use ctt_draft::{Asked, AskedCalls};
 use ctt_edits::{Call, Edit, EditFault, Look, Reply};
 use ctt_line::{Word, push_words};
-use ctt_script::{words_of_edit, words_of_fault};
-use ctt_seat::{Seat, Told, write_told};
-use ctt_text::{Instance, NoMemory, let_go};
+use ctt_script::{push_edit, push_fault};
+use ctt_seat::{Seat, SeatAnswer, write_seat_answer};
+use ctt_text::{Instance, NoMemory, drop_whole};
 use std::alloc::{AllocError, Global};
 
 /// The number of accepted edits of an ended draft, and how many of them were redone.
@@ -52,8 +53,10 @@ fn push_left_out(
         (record { number = number; edit = edit.now; fault = fault.now }))) }
 {
     push_words(text, &[Word::text("refused"), Word::number(number)])?;
-    push_words(text, words_of_edit(instance, edit).as_slice())?;
-    push_words(text, words_of_fault(instance, fault).as_slice())
+    text.push(' ')?;
+    push_edit(text, instance, edit)?;
+    text.push(' ')?;
+    push_fault(text, instance, fault)
 }
 
 /// Returns the fault with which a reply refuses an edit, if it does.
@@ -80,7 +83,7 @@ fn fault_of<'i, S: Sheet<'i>, J: Naming>(
 {
     let price = drafting.peek(&Look::Price(*edit))?;
     let fault = refusal(&price);
-    let_go(price);
+    drop_whole(price);
     Ok(fault)
 }
 
@@ -106,7 +109,7 @@ fn make_again<'i, S: Sheet<'i>, J: Naming>(
         }
         None => {
             let done = drafting.call(Call::Edit(*edit))?;
-            let_go(done);
+            drop_whole(done);
             Ok(true)
         }
     }
@@ -197,13 +200,13 @@ fn write_unread(
     text: &mut String,
 ) -> Result<(), AllocError>
     ensures { OnOk result (string_bytes text.new
-        ≡ string_bytes text.old ++ told_line instance.now (told_unread fault)) }
+        ≡ string_bytes text.old ++ told_line instance.now (unread_answer fault)) }
 {
     let told = match fault {
-        SharedFault::NoPlace => Told::NoPlace,
-        _ => Told::Answer(Answer::NoMemory),
+        SharedFault::NoPlace => SeatAnswer::NoPlace,
+        _ => SeatAnswer::Answer(Answer::NoMemory),
     };
-    write_told(text, instance, &told)
+    write_seat_answer(text, instance, &told)
 }
 
 /// Opens a draft, redoes the accepted edits of calls in it, and adds the answer. If it cannot be
@@ -214,13 +217,13 @@ fn redo_calls<'i, S: Sheet<'i>, J: Naming>(
     planner: Planner<S, J>,
     asked: AskedCalls,
     text: &mut String,
-) -> (Workplace<'i, S, J>, Result<(), AllocError>)
+) -> (SeatState<'i, S, J>, Result<(), AllocError>)
     requires same { J.problem ≡ instance.now }
     requires fits { Each (AskedFits instance.now) asked }
-    ensures answered { OnOk result.1 (Adds (RedoesCalls instance.now J.opening planner asked
+    ensures answered { OnOk result.1 (AddsAnswer (RedoesCalls instance.now J.opening planner asked
         result.0) (string_bytes text.old) (string_bytes text.new)) }
     ensures unanswered { OnErr result.1
-        ((leaver result.0.seat).committed ≡ planner.committed) }
+        ((leaver (seat_value result.0.seat)).committed ≡ planner.committed) }
     ensures fits { EndedFits instance.now result.0.ended }
 {
     match planner.open() {
@@ -228,24 +231,21 @@ fn redo_calls<'i, S: Sheet<'i>, J: Naming>(
             let mut drafting = drafting;
             match redo_in(alloc, &mut drafting, instance, asked.as_slice(), text) {
                 Ok(()) => {
-                    let_go(asked);
+                    drop_whole(asked);
                     let seat = Seat::Drafting(drafting);
-                    (Workplace { seat, ended: None }, Ok(()))
+                    (SeatState { seat, ended: None }, Ok(()))
                 }
                 Err(_) => {
                     let seat = Seat::Free(drafting.abandon());
                     let ended = Some(asked);
-                    (Workplace { seat, ended }, write_no_memory(instance, text))
+                    (SeatState { seat, ended }, write_no_memory(instance, text))
                 }
             }
         }
         Err((planner, fault)) => {
-            let seat = Seat::Free(planner);
-            let ended = Some(asked);
-            (
-                Workplace { seat, ended },
-                write_unread(instance, fault, text),
-            )
+            let written = write_unread(instance, fault, text);
+            let (seat, ended) = (Seat::Free(planner), Some(asked));
+            (SeatState { seat, ended }, written)
         }
     }
 }
@@ -255,29 +255,32 @@ fn redo_calls<'i, S: Sheet<'i>, J: Naming>(
 pub(crate) fn redo<'i, S: Sheet<'i>, J: Naming>(
     alloc: Global,
     instance: &Instance,
-    place: Workplace<'i, S, J>,
+    place: SeatState<'i, S, J>,
     text: &mut String,
-) -> (Workplace<'i, S, J>, Result<(), AllocError>)
+) -> (SeatState<'i, S, J>, Result<(), AllocError>)
     requires same { J.problem ≡ instance.now }
     requires fits { EndedFits instance.now place.ended }
-    ensures answered { OnOk result.1 (Adds (Redoes instance.now J.opening place.entry.seat place.entry.ended
-        result.0) (string_bytes text.old) (string_bytes text.new)) }
+    ensures answered { OnOk result.1 (AddsAnswer (Redoes instance.now J.opening place.entry.seat
+        place.entry.ended result.0) (string_bytes text.old) (string_bytes text.new)) }
     ensures unanswered { OnErr result.1 (IsUncommitted place.entry result.0) }
     ensures fits { EndedFits instance.now result.0.ended }
 {
-    let Workplace { seat, ended } = place;
+    let SeatState { seat, ended } = place;
     match seat {
         Seat::Drafting(drafting) => {
             let seat = Seat::Drafting(drafting);
-            let told = Told::Answer(Answer::AlreadyOpen);
-            (Workplace { seat, ended }, write_told(text, instance, &told))
+            let told = SeatAnswer::Answer(Answer::AlreadyOpen);
+            (
+                SeatState { seat, ended },
+                write_seat_answer(text, instance, &told),
+            )
         }
         Seat::Free(planner) => match ended {
             Some(asked) => redo_calls(alloc, instance, planner, asked, text),
             None => {
                 let seat = Seat::Free(planner);
                 (
-                    Workplace { seat, ended: None },
+                    SeatState { seat, ended: None },
                     text.push_str("nothing to redo\n"),
                 )
             }

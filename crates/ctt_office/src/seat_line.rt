@@ -3,7 +3,7 @@
 ghost use Rattle.std.specs.Prelude.{◌≡◌};
 ghost use Rattle.ctt_text.specs.Words.{words};
 ghost use Rattle.ctt_script.specs.ScriptText.{own_event};
-ghost use Rattle.ctt_office.specs.SeatText.{LineFits, alone_of, line_of, seat_line, step_line, words_line};
+ghost use Rattle.ctt_office.specs.SeatText.{LineFits, one_word_request, seat_line_of, seat_line, step_line, words_line};
 
 use crate::bad_word::BadWord;
 use ctt_core::{Event, PlannerNo};
@@ -41,9 +41,9 @@ pub(crate) enum Alone {
 }
 
 /// Returns the request that a word is, if it is one.
-#[tactic(auto, unfolding(crate::specs::SeatText::alone_of))]
+#[tactic(auto, unfolding(crate::specs::SeatText::one_word_request))]
 fn alone_of(word: &str) -> Option<Alone>
-    ensures { result ≡ alone_of word.now }
+    ensures { result ≡ one_word_request word.now }
 {
     if is_word(word, "leave") {
         Some(Alone::Leave)
@@ -60,7 +60,7 @@ fn alone_of(word: &str) -> Option<Alone>
 
 /// Returns what a line of this one word asks for.
 fn line_of<'a>(word: Alone) -> SeatLine<'a>
-    ensures { result ≡ line_of word }
+    ensures { result ≡ seat_line_of word }
 {
     match word {
         Alone::Leave => SeatLine::Leave,

@@ -3,32 +3,31 @@
 ghost use Rattle.std.specs.Prelude.{◌≡◌, ◌≢◌, ◌⊎◌, ℕ, true, false, Err, IfErr, IfNone, IfOk, IfSome, IsErr, OnErr, OnOk};
 ghost use Rattle.std.specs.Io.KnownBytes.{Appends};
 ghost use Rattle.ctt_files.specs.Output.{AppendsFront};
-ghost use Rattle.ctt_office.specs.Lines.{Comes, Gives, ReaderValue, coming};
+ghost use Rattle.ctt_office.specs.Lines.{Comes, GivesLine, ReaderValue, coming};
 ghost use Rattle.ctt_seat.specs.Attended.{leaver};
-ghost use Rattle.ctt_office.specs.Pages.{HasFailed, IsInMinutes};
+ghost use Rattle.ctt_seat.specs.Seats.{seat_value};
+ghost use Rattle.ctt_log.specs.Minutes.{CouldNotEnter, IsInMinutes};
 ghost use Rattle.ctt_office.specs.Ended.{EndedFits};
 ghost use Rattle.ctt_office.specs.OfficeFaults.{IsBarred, fault_of};
 ghost use Rattle.ctt_office.specs.SeatAnswers.{IsAnswer, IsUncommitted, Tells};
-ghost use Rattle.ctt_office.specs.SeatText.{LineFits, asked_by};
-ghost use Rattle.ctt_office.specs.Sittings.{EndsAt, IsBroken, IsCut, IsSat};
+ghost use Rattle.ctt_office.specs.SeatText.{LineFits, asked_by_line};
+ghost use Rattle.ctt_office.specs.Sittings.{EndsAt, IsBroken, IsCutOff, IsSat};
 ghost use Rattle.ctt_office.specs.declared.seat_line.SeatLine.TheVariants.{Leave};
 ghost use Rattle.ctt_office.specs.declared.sitting.Ending.TheVariants.{Broken, NoMemory};
 
 use crate::answering::answer;
-use crate::begun::Begun;
-use crate::book::Book;
 use crate::doors::Doors;
-use crate::durable::Durable;
 use crate::line_reader::{LineReader, Next};
 use crate::office_fault::SeatFault;
 use crate::seat_line::{SeatLine, read_seat_line};
-use crate::workplace::Workplace;
+use crate::seat_state::SeatState;
 use ctt_board::{Sheet, Timetable};
 use ctt_core::PlannerNo;
 use ctt_desk::{Naming, Planner, SharedDesk};
 use ctt_files::{Failed, Sink, Source, put_whole};
 use ctt_grid::GridSheet;
-use ctt_text::{Instance, let_go};
+use ctt_log::{Begun, Durable, WriteAheadLog};
+use ctt_text::{Instance, drop_whole};
 use std::alloc::Global;
 use std::marker::PhantomData;
 use std::sync::Wait;
@@ -60,10 +59,10 @@ fn say<O: Sink>(out: &mut O, answer: &[u8]) -> Result<(), Failed>
 
 /// A seat at a desk of the instance, none of whose devices is open yet.
 #[derive(Drop)]
-pub struct Station<'i, 'x, J: Naming + Begun, D: Doors, W: Durable> {
+pub struct SeatTask<'i, 'x, J: Naming + Begun, D: Doors, W: Durable> {
     pub alloc: Global,
     pub instance: &'i Instance,
-    pub book: Option<&'x Book<W, J>>,
+    pub log: Option<&'x WriteAheadLog<W, J>>,
     pub doors: &'x D,
     pub name: &'x str,
     pub desk: PhantomData<J>,
@@ -89,7 +88,8 @@ fn next_line<I: Source, R: Wait>(rt: &R, lines: &mut LineReader<I>) -> Result<Ne
 fn line_of<'a>(instance: &Instance, planner: PlannerNo, next: Next, bytes: &'a [u8]) -> SeatLine<'a>
     ensures fits { LineFits instance.now planner result }
     ensures asked { (old new : ReaderValue) → Comes next old new → bytes.now ≡ new.line
-        → Gives (λ line. result ≡ asked_by instance.now planner line) (coming old) (coming new) }
+        → GivesLine (λ line. result ≡ asked_by_line instance.now planner line) (coming old)
+        (coming new) }
 {
     match next {
         Next::Line => read_seat_line(instance, planner, bytes),
@@ -105,28 +105,28 @@ fn serve<'i, S: Sheet<'i>, J: Naming + Begun, W: Durable, O: Sink, R: Wait>(
     alloc: Global,
     desk: &SharedDesk<S, J>,
     instance: &Instance,
-    book: Option<&Book<W, J>>,
-    place: Workplace<'i, S, J>,
+    log: Option<&WriteAheadLog<W, J>>,
+    place: SeatState<'i, S, J>,
     line: &SeatLine,
     out: &mut O,
-) -> (Workplace<'i, S, J>, Result<(), Ending>)
+) -> (SeatState<'i, S, J>, Result<(), Ending>)
     requires same { J.problem ≡ instance.now }
     requires fits { (p : ℕ) × LineFits instance.now p line.now }
     requires ended { EndedFits instance.now place.ended }
     ensures told { OnOk result.1
-        (Tells (IsAnswer book.entry (IsInMinutes W.Sink.taken W.kept J.problem J.start)
-        (HasFailed W.Sink.taken W.Sink.has_failed J.problem J.start) instance.now J.opening line.now
-        place.entry result.0) (O.taken out.old) (O.taken out.new)) }
+        (Tells (IsAnswer log.entry (IsInMinutes W.Sink.taken W.kept J.problem J.start)
+        (CouldNotEnter W.Sink.taken W.Sink.has_failed J.problem J.start) instance.now J.opening
+        line.now place.entry result.0) (O.taken out.old) (O.taken out.new)) }
     ensures cut { IfErr result.1
-        (IsCut (IsAnswer book.entry (IsInMinutes W.Sink.taken W.kept J.problem J.start)
-        (HasFailed W.Sink.taken W.Sink.has_failed J.problem J.start) instance.now J.opening line.now
-        place.entry result.0) (O.taken out.old) (O.taken out.new)) }
+        (IsCutOff (IsAnswer log.entry (IsInMinutes W.Sink.taken W.kept J.problem J.start)
+        (CouldNotEnter W.Sink.taken W.Sink.has_failed J.problem J.start) instance.now J.opening
+        line.now place.entry result.0) (O.taken out.old) (O.taken out.new)) }
     ensures broken { IfErr result.1 (IsBroken (O.has_failed out.new)) }
     ensures unheard { result.1 ≡ Err NoMemory → IsUncommitted place.entry result.0 }
     ensures fits { EndedFits instance.now result.0.ended }
 {
     let mut text = String::new(alloc);
-    let (place, written) = answer(rt, alloc, desk, instance, book, place, line, &mut text);
+    let (place, written) = answer(rt, alloc, desk, instance, log, place, line, &mut text);
     if written.is_err() {
         return (place, Err(Ending::NoMemory));
     }
@@ -155,19 +155,19 @@ pub fn sit<'i, S: Sheet<'i>, J: Naming + Begun, W: Durable, I: Source, O: Sink, 
     alloc: Global,
     desk: &SharedDesk<S, J>,
     instance: &Instance,
-    book: Option<&Book<W, J>>,
+    log: Option<&WriteAheadLog<W, J>>,
     number: PlannerNo,
-    place: Workplace<'i, S, J>,
+    place: SeatState<'i, S, J>,
     lines: &mut LineReader<I>,
     out: &mut O,
 ) -> (Planner<S, J>, Ending)
     requires same { J.problem ≡ instance.now }
     requires fits { EndedFits instance.now place.ended }
-    ensures sat { IsSat (asked_by instance.now number)
-        (IsAnswer book.entry (IsInMinutes W.Sink.taken W.kept J.problem J.start)
-        (HasFailed W.Sink.taken W.Sink.has_failed J.problem J.start) instance.now J.opening)
-        (λ after. result.0 ≡ leaver after.seat)
-        (λ after. result.0.committed ≡ (leaver after.seat).committed)
+    ensures sat { IsSat (asked_by_line instance.now number)
+        (IsAnswer log.entry (IsInMinutes W.Sink.taken W.kept J.problem J.start)
+        (CouldNotEnter W.Sink.taken W.Sink.has_failed J.problem J.start) instance.now J.opening)
+        (λ after. result.0 ≡ leaver (seat_value after.seat))
+        (λ after. result.0.committed ≡ (leaver (seat_value after.seat)).committed)
         place.entry (coming lines.old) (O.taken out.old) (O.taken out.new) result.1 }
     ensures broken { result.1 ≡ Broken
         → (lines.new.has_failed ≡ true) ⊎ (O.has_failed out.new ≡ true) }
@@ -180,7 +180,7 @@ pub fn sit<'i, S: Sheet<'i>, J: Naming + Begun, W: Durable, I: Source, O: Sink, 
         };
         let line = line_of(instance, number, next, lines.line());
         let is_last = is_last(&line);
-        let (after, served) = serve(rt, alloc, desk, instance, book, place, &line, out);
+        let (after, served) = serve(rt, alloc, desk, instance, log, place, &line, out);
         place = after;
         match served {
             Ok(()) => {
@@ -235,7 +235,7 @@ fn open_seat<D: Doors>(
     match LineReader::new(alloc, input) {
         Ok(lines) => Ok((lines, out)),
         Err(_) => {
-            let_go(out);
+            drop_whole(out);
             Err(SeatFault::NoMemory)
         }
     }
@@ -246,86 +246,86 @@ fn open_seat<D: Doors>(
 /// the seat, if it has one.
 #[tactic(auto, using(crate::proofs::SittingLemmas::sat_over))]
 pub fn open_and_sit<'i, 'x, S: Sheet<'i>, J: Naming + Begun, D: Doors, W: Durable, R: Wait>(
-    station: Station<'i, 'x, J, D, W>,
+    task: SeatTask<'i, 'x, J, D, W>,
     rt: &R,
     desk: &SharedDesk<S, J>,
     number: PlannerNo,
-    place: Workplace<'i, S, J>,
+    place: SeatState<'i, S, J>,
 ) -> (
     Planner<S, J>,
     Option<Sat<D::Input, D::Output>>,
     Result<(), SeatFault>,
 )
-    requires { EndedFits station.instance.now place.ended }
+    requires { EndedFits task.instance.now place.ended }
     ensures unopened { IfNone result.1
-        ((result.0 ≡ leaver place.entry.seat) × IsErr result.2) }
+        ((result.0 ≡ leaver (seat_value place.entry.seat)) × IsErr result.2) }
     ensures barred { IfNone result.1 (IfErr result.2
-        (IsBarred (D.may_bar_input station.entry.doors.now station.entry.name.now)
-        (D.may_bar_output station.entry.doors.now station.entry.name.now))) }
-    ensures sat { IfSome result.1 (λ sat. IsSat (asked_by station.entry.instance.now number)
-        (IsAnswer station.entry.book (IsInMinutes W.Sink.taken W.kept J.problem J.start)
-        (HasFailed W.Sink.taken W.Sink.has_failed J.problem J.start) station.entry.instance.now
+        (IsBarred (D.may_bar_input task.entry.doors.now task.entry.name.now)
+        (D.may_bar_output task.entry.doors.now task.entry.name.now))) }
+    ensures sat { IfSome result.1 (λ sat. IsSat (asked_by_line task.entry.instance.now number)
+        (IsAnswer task.entry.log (IsInMinutes W.Sink.taken W.kept J.problem J.start)
+        (CouldNotEnter W.Sink.taken W.Sink.has_failed J.problem J.start) task.entry.instance.now
         J.opening)
-        (λ after. result.0 ≡ leaver after.seat)
-        (λ after. result.0.committed ≡ (leaver after.seat).committed)
-        place.entry (D.gives station.entry.doors.now station.entry.name.now)
-        (D.had station.entry.doors.now station.entry.name.now) (D.Output.taken sat.out)
+        (λ after. result.0 ≡ leaver (seat_value after.seat))
+        (λ after. result.0.committed ≡ (leaver (seat_value after.seat)).committed)
+        place.entry (D.gives task.entry.doors.now task.entry.name.now)
+        (D.had task.entry.doors.now task.entry.name.now) (D.Output.taken sat.out)
         sat.ending) }
     ensures broken { IfSome result.1 (λ sat. sat.ending ≡ Broken
         → (sat.lines.has_failed ≡ true) ⊎ (D.Output.has_failed sat.out ≡ true)) }
     ensures fault { IfSome result.1 (λ sat. result.2 ≡ fault_of sat.ending) }
 {
-    let Station {
+    let SeatTask {
         alloc,
         instance,
-        book,
+        log,
         doors,
         name,
         desk: _,
-    } = station;
+    } = task;
     let (mut lines, mut out) = match open_seat(alloc, doors, name) {
         Ok(opened) => opened,
         Err(fault) => return (place.leave(), None, Err(fault)),
     };
     let (planner, ending) = sit(
-        rt, alloc, desk, instance, book, number, place, &mut lines, &mut out,
+        rt, alloc, desk, instance, log, number, place, &mut lines, &mut out,
     );
     (planner, Some(Sat { lines, out, ending }), fault_of(ending))
 }
 
 /// Seats a planner, and returns the fault of the seat, if it has one.
 fn sit_down<'i, 'x, S: Sheet<'i>, J: Naming + Begun, D: Doors, W: Durable, R: Wait>(
-    station: Station<'i, 'x, J, D, W>,
+    task: SeatTask<'i, 'x, J, D, W>,
     rt: &R,
     desk: &SharedDesk<S, J>,
     planner: Planner<S, J>,
 ) -> Result<(), SeatFault> {
     let number = planner.number();
-    let place = Workplace::new(planner);
-    let (planner, sat, fault) = open_and_sit(station, rt, desk, number, place);
-    let_go(planner);
-    let_go(sat);
+    let place = SeatState::new(planner);
+    let (planner, sat, fault) = open_and_sit(task, rt, desk, number, place);
+    drop_whole(planner);
+    drop_whole(sat);
     fault
 }
 
 /// A planner with a seat at a shared desk, over a grid sheet. The type has one lifetime for the
 /// instance, as required of what moves to a thread.
 #[derive(Drop)]
-pub(crate) struct GridStation<'i, 'x, J: Naming + Begun, D: Doors, W: Durable> {
+pub(crate) struct GridTask<'i, 'x, J: Naming + Begun, D: Doors, W: Durable> {
     pub(crate) desk: &'x SharedDesk<GridSheet<'i>, J>,
     pub(crate) planner: Planner<GridSheet<'i>, J>,
-    pub(crate) station: Station<'i, 'x, J, D, W>,
+    pub(crate) task: SeatTask<'i, 'x, J, D, W>,
 }
 
 /// Opens a seat, and answers the planner's lines, over a grid sheet.
 pub(crate) fn sit_on_grid<'i, 'x, J: Naming + Begun, D: Doors, W: Durable, R: Wait>(
-    work: GridStation<'i, 'x, J, D, W>,
+    work: GridTask<'i, 'x, J, D, W>,
     rt: &R,
 ) -> Result<(), SeatFault> {
-    let GridStation {
+    let GridTask {
         desk,
         planner,
-        station,
+        task,
     } = work;
-    sit_down::<GridSheet<'i>, J, D, W, R>(station, rt, desk, planner)
+    sit_down::<GridSheet<'i>, J, D, W, R>(task, rt, desk, planner)
 }

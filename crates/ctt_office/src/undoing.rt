@@ -4,21 +4,22 @@ ghost use Rattle.std.specs.Prelude.{◌≡◌, ◌++◌, OnOk, string_bytes};
 ghost use Rattle.ctt_edits.specs.Edits.{EditFits};
 ghost use Rattle.ctt_edits.specs.Fitting.{ReplyFits};
 ghost use Rattle.ctt_seat.specs.Attended.{leaver};
+ghost use Rattle.ctt_seat.specs.Seats.{seat_value};
 ghost use Rattle.ctt_office.specs.Redone.{undone_line};
-ghost use Rattle.ctt_office.specs.SeatAnswers.{Adds, Undoes, UndoesIn};
+ghost use Rattle.ctt_office.specs.SeatAnswers.{AddsAnswer, Undoes, UndoesIn};
 
 use crate::answering::write_no_memory;
 use ctt_board::Sheet;
 use ctt_core::Answer;
 use ctt_desk::{Drafting, Naming};
 use ctt_edits::{Call, Edit, Reply};
-use ctt_line::{push_line, push_words};
-use ctt_script::{words_of_edit, words_of_fault};
-use ctt_seat::{Seat, Told, write_told};
+use ctt_script::{push_edit, write_fault};
+use ctt_seat::{Seat, SeatAnswer, write_seat_answer};
 use ctt_text::Instance;
 use std::alloc::AllocError;
 
 /// Adds the answer to an undo, which made this edit and got this reply.
+#[tactic(auto, using(ctt_script::proofs::WrittenText::after_blank))]
 fn write_undone(
     text: &mut String,
     instance: &Instance,
@@ -33,11 +34,11 @@ fn write_undone(
     match reply {
         Reply::Refused(fault) => {
             text.push_str("refused ")?;
-            push_line(text, words_of_fault(instance, fault).as_slice())
+            write_fault(text, instance, fault)
         }
         _ => {
-            text.push_str("done")?;
-            push_words(text, words_of_edit(instance, edit).as_slice())?;
+            text.push_str("done ")?;
+            push_edit(text, instance, edit)?;
             text.push('\n')
         }
     }
@@ -50,7 +51,7 @@ fn undo_in<'i, S: Sheet<'i>, J: Naming>(
     text: &mut String,
 ) -> Result<(), AllocError>
     requires { J.problem ≡ instance.now }
-    ensures answered { OnOk result (Adds (UndoesIn instance.now drafting.old drafting.new)
+    ensures answered { OnOk result (AddsAnswer (UndoesIn instance.now drafting.old drafting.new)
         (string_bytes text.old) (string_bytes text.new)) }
     ensures planner { drafting.new.planner ≡ drafting.old.planner }
 {
@@ -72,12 +73,12 @@ pub(crate) fn undo<'i, S: Sheet<'i>, J: Naming>(
     text: &mut String,
 ) -> Result<(), AllocError>
     requires { J.problem ≡ instance.now }
-    ensures answered { OnOk result (Adds (Undoes instance.now seat.old seat.new)
+    ensures answered { OnOk result (AddsAnswer (Undoes instance.now seat.old seat.new)
         (string_bytes text.old) (string_bytes text.new)) }
-    ensures planner { leaver seat.new ≡ leaver seat.old }
+    ensures planner { leaver (seat_value seat.new) ≡ leaver (seat_value seat.old) }
 {
     match seat {
-        Seat::Free(_) => write_told(text, instance, &Told::Answer(Answer::NoDraft)),
+        Seat::Free(_) => write_seat_answer(text, instance, &SeatAnswer::Answer(Answer::NoDraft)),
         Seat::Drafting(drafting) => undo_in(drafting, instance, text),
     }
 }

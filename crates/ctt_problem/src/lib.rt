@@ -20,7 +20,7 @@ pub use compact::Compact;
 pub use course_facts::CourseFacts;
 pub use ids::{CourseNo, CurriculumNo, RoomNo, SlotNo, TeacherNo};
 pub use instance::{Instance, Parts};
-pub use letting::let_go;
+pub use letting::drop_whole;
 pub use marks::Marks;
 pub use names::Names;
 pub use no_memory::NoMemory;

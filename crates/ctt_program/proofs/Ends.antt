@@ -1,240 +1,175 @@
--- How the program ends, by its status.
-use Rattle.std.proofs.Common.{◌≡◌, ◌≢◌, ◌≤◌, ◌∙◌, ◌⊎◌, refl, ap, sym, inl, inr, true, false, ⊎_elim, subst, ℕ, suc, Bool, List, [], Option, Result, Ok, Err, IfOk, IfErr, OnOk, OnErr, arith}
-use Rattle.ctt_words.specs.Jobs.{IsJobOf, faults_of}
-use Rattle.ctt_words.specs.declared.job.Job.{Job}
-use Rattle.ctt_words.specs.declared.job.Job.TheVariants.{Audit, Check, Compare, Crew, Desk, Journal as Journals, List as Listing, Mend, Page, Run, Week, Where}
-use Rattle.ctt_files.specs.Faults.{MayHaveWritten, status_of}
+-- How a job ends, and with which exit status.
+use Rattle.std.proofs.Common.{◌≡◌, ◌≢◌, ◌⊎◌, ◌≤◌, ◌∙◌, ⊎_elim, inl, inr, ap, arith, refl, sym, subst, Bool, true, false, ℕ, List, [], Option, Result, Ok, Err, IfOk, IfErr, OnErr, OnOk}
+use Rattle.std.specs.Global.{Global}
+use Rattle.std.specs.Io.KnownBytes.{Appends}
+use Rattle.std.specs.String.{string_bytes}
+use Rattle.std.specs.declared.string.String.{String}
+use Rattle.ctt_files.specs.Faults.{IfUnwritten, MayHaveWritten, line_of, status_of}
 use Rattle.ctt_files.specs.Outcomes.{outcome_status}
+use Rattle.ctt_files.specs.Storing.{IsGiven, KeepOthers}
 use Rattle.ctt_files.specs.Texts.{Held}
 use Rattle.ctt_files.specs.declared.fault.Fault.{Fault}
-use Rattle.ctt_files.specs.declared.fault.Fault.TheVariants.{BadSeats, Barred, Blocked, CannotRead, CannotWrite, Instance, Journal, MinutesExist, NoCourse, NoCurriculum, NoMemory, NoPlace, NoRoom, NoTeacher, NoThread, NoWord, Opening, Solution, TooLong, TooManyScripts, Words, WordsNotText}
+use Rattle.ctt_files.specs.declared.fault.Fault.TheVariants.{Contents, Machine, Usage}
 use Rattle.ctt_files.specs.declared.outcome.Outcome.{Outcome}
 use Rattle.ctt_files.specs.declared.outcome.Outcome.TheVariants.{Differs, Done, Incomplete, Unlawful}
-use Rattle.ctt_files.proofs.Causes.{three_is_one}
+use Rattle.ctt_files.specs.declared.fault.MachineFault.TheVariants.{CannotWrite, NoMemory}
+use Rattle.ctt_files.specs.declared.output.Output.{Output}
+use Rattle.ctt_files.specs.declared.sides.Sides.{Sides}
+use Rattle.ctt_words.specs.declared.job.Command.{Command}
+use Rattle.ctt_words.specs.declared.job.Job.{Job}
+use Rattle.ctt_words.specs.declared.job.Job.TheVariants.{Answer, Desk, Run}
+use Rattle.ctt_commands.specs.Commands.{Answers, IsLoaded}
 use Rattle.ctt_commands.specs.Faults.{KeptUnless}
-use Rattle.ctt_program.specs.Reporting.{SaysFault}
-use Rattle.ctt_program.specs.Work.{DoesAsAsked, DoesJob, WarnsAsAsked, WarnsOfJob}
-use Rattle.ctt_program.proofs.Known.{says_caused}
+use Rattle.ctt_commands.specs.Refusals.{IsOfRun}
+use Rattle.ctt_commands.specs.declared.task.Task.{Task}
+use Rattle.ctt_program.specs.Desks.{DoesDesk}
+use Rattle.ctt_program.specs.Jobs.{Does, DoesCommand, Stops, StopsCommand, StopsRun}
+use Rattle.ctt_program.specs.Served.{IsDone, IsStopped, Reports, said_of}
+use Rattle.ctt_program.specs.Streams.{HasFailed, IsUnmarked, IsUntouched, Stream, Writes, WritesFront, stream}
+use Rattle.ctt_program.specs.declared.desk.DeskPlan.{DeskPlan}
 
--- the outcome of a job is known by its status
-pub same_outcome : (a b : Outcome) → outcome_status a ≡ outcome_status b → a ≡ b
-same_outcome Done Done e = refl
-same_outcome Done Differs e = absurd (omega (arith, e))
-same_outcome Done Unlawful e = absurd (omega (arith, e))
-same_outcome Done Incomplete e = absurd (omega (arith, e))
-same_outcome Differs Done e = absurd (omega (arith, e))
-same_outcome Differs Differs e = refl
-same_outcome Differs Unlawful e = absurd (omega (arith, e))
-same_outcome Differs Incomplete e = absurd (omega (arith, e))
-same_outcome Unlawful Done e = absurd (omega (arith, e))
-same_outcome Unlawful Differs e = absurd (omega (arith, e))
-same_outcome Unlawful Unlawful e = refl
-same_outcome Unlawful Incomplete e = absurd (omega (arith, e))
-same_outcome Incomplete Done e = absurd (omega (arith, e))
-same_outcome Incomplete Differs e = absurd (omega (arith, e))
-same_outcome Incomplete Unlawful e = absurd (omega (arith, e))
-same_outcome Incomplete Incomplete e = refl
+-- ---- statuses
 
--- a job that ended with a status had the outcome of that status
-pub ends_as : (outcome told : Outcome) (status : ℕ) (D : Outcome → Type 0) → status ≡ outcome_status outcome → D outcome → status ≡ outcome_status told → D told
-ends_as outcome told status D is does ends = subst D (same_outcome outcome told (sym is ∙ ends)) does
+pub fault_few : (fault : Fault) → status_of fault ≤ 3
+fault_few (Contents met) = omega arith
+fault_few (Usage met) = omega arith
+fault_few (Machine met) = omega arith
 
--- status 0 is that of a job that is done
-pub is_other : (outcome : Outcome) (status : ℕ) → status ≡ outcome_status outcome → status ≢ 0 → outcome ≢ Done
-is_other outcome status is some done = some (is ∙ ap outcome_status done)
+pub outcome_few : (outcome : Outcome) → outcome_status outcome ≤ 5
+outcome_few Done = omega arith
+outcome_few Differs = omega arith
+outcome_few Unlawful = omega arith
+outcome_few Incomplete = omega arith
 
--- no job ends with status 2
-pub is_not_two : (outcome : Outcome) → outcome_status outcome ≢ 2
-is_not_two Done two = omega (arith, two)
-is_not_two Differs two = omega (arith, two)
-is_not_two Unlawful two = omega (arith, two)
-is_not_two Incomplete two = omega (arith, two)
+-- no job that is done has status 2
+outcome_not_two : {C : Type 0} (outcome : Outcome) → outcome_status outcome ≡ 2 → C
+outcome_not_two Done two = absurd (omega (arith, two))
+outcome_not_two Differs two = absurd (omega (arith, two))
+outcome_not_two Unlawful two = absurd (omega (arith, two))
+outcome_not_two Incomplete two = absurd (omega (arith, two))
 
-pub is_some_status : (status n : ℕ) → status ≡ suc n → status ≢ 0
-is_some_status status n is zero = omega (arith, is, zero)
+-- ---- what a job leaves that stops
 
--- the reported status is that of the fault, unless it is 3
-pub one_is_of_fault : (fault : Fault) (status : ℕ) → (status ≡ status_of fault) ⊎ (status ≡ 3) → status ≡ 1 → status_of fault ≡ 1
-one_is_of_fault fault status (inl same) one = sym same ∙ one
-one_is_of_fault fault status (inr three) one = absurd (omega (arith, three, one))
+written_marked : (fault : Fault) (P Q U : Type 0) → IfUnwritten fault P (Q × U) → (status_of fault ≡ 3) ⊎ U
+written_marked (Contents met) P Q U is = inr is.1
+written_marked (Usage met) P Q U is = inr is.1
+written_marked (Machine met) P Q U is = inl refl
 
--- status 2 is that of a fault
-pub two_is_of_fault : (fault : Fault) (status : ℕ) → (status ≡ status_of fault) ⊎ (status ≡ 3) → status ≡ 2 → status_of fault ≡ 2
-two_is_of_fault fault status (inl same) two = sym same ∙ two
-two_is_of_fault fault status (inr three) two = absurd (omega (arith, three, two))
+unprinted_two : (fault : Fault) (P : Type 0) → MayHaveWritten fault ⊎ P → status_of fault ≡ 2 → P
+unprinted_two (Contents met) P may two = absurd (omega (arith, two))
+unprinted_two (Usage met) P (inl may) two = absurd may
+unprinted_two (Usage met) P (inr same) two = same
+unprinted_two (Machine met) P may two = absurd (omega (arith, two))
 
--- words whose job ended with `Differs` have no fault
-pub differs_taken : (words : List (List ℕ)) (before after : Held) (old new : Option (List ℕ)) → DoesAsAsked words Differs before after old new → faults_of words ≡ []
-differs_taken words before after old new (inl help) = cc
-differs_taken words before after old new (inr does) = does.0
+module _ {W V : Type 0} (before after : Held) (out : Stream W) (err : Stream V) where
+  -- standard output fails only with status 3
+  stops_marked : (job : Job) (fault : Fault) → Stops job fault before after out err → (status_of fault ≡ 3) ⊎ IsUnmarked out
+  stops_marked (Answer command) fault stops = ⊎_elim (λ undone. inr (ap out.failed undone.1)) (λ cut. inl (ap status_of cut.0)) stops.cause
+  stops_marked (Run instance sides script start journal) fault stops = written_marked fault _ _ _ stops.cause
+  stops_marked (Desk instance sides seats start minutes) fault stops = written_marked fault _ _ _ stops.cause
 
--- files have changed only if one could not be stored, which ends with status 3
-pub ended_kept : (fault : Fault) (status : ℕ) (S K : Type 0) → (status ≡ status_of fault) ⊎ (status ≡ 3) → KeptUnless fault S K → K ⊎ ((status ≡ 3) × S)
-ended_kept CannotWrite status S K is kept = ⊎_elim inl (λ stored. inr (⊎_elim (λ same. same) (λ three. three) is, stored)) kept
-ended_kept NoMemory status S K is kept = inl kept
-ended_kept (Instance met) status S K is kept = inl kept
-ended_kept (Solution met) status S K is kept = inl kept
-ended_kept (Barred met) status S K is kept = inl kept
-ended_kept (Blocked met) status S K is kept = inl kept
-ended_kept (Journal number at) status S K is kept = inl kept
-ended_kept (Opening text) status S K is kept = inl kept
-ended_kept (CannotRead name) status S K is kept = inl kept
-ended_kept (TooLong name) status S K is kept = inl kept
-ended_kept (Words text) status S K is kept = inl kept
-ended_kept WordsNotText status S K is kept = inl kept
-ended_kept TooManyScripts status S K is kept = inl kept
-ended_kept NoThread status S K is kept = inl kept
-ended_kept NoPlace status S K is kept = inl kept
-ended_kept BadSeats status S K is kept = inl kept
-ended_kept (MinutesExist name) status S K is kept = inl kept
-ended_kept (NoCurriculum name) status S K is kept = inl kept
-ended_kept (NoTeacher name) status S K is kept = inl kept
-ended_kept (NoCourse name) status S K is kept = inl kept
-ended_kept (NoRoom name) status S K is kept = inl kept
-ended_kept (NoWord word file) status S K is kept = inl kept
+  -- nothing is printed with status 2
+  stops_unprinted_two : (job : Job) (fault : Fault) → Stops job fault before after out err → status_of fault ≡ 2 → IsUntouched out
+  stops_unprinted_two (Answer command) fault stops two = ⊎_elim (λ undone. undone.1) (λ cut. absurd (omega (arith, ap status_of cut.0, two))) stops.cause
+  stops_unprinted_two (Run instance sides script start journal) fault stops two = unprinted_two fault _ stops.printed two
+  stops_unprinted_two (Desk instance sides seats start minutes) fault stops two = unprinted_two fault _ stops.printed two
 
--- what holds of a success with `Done` holds of each success, if `Done` is the only outcome
-pub done_so : {E : Type 0} (r : Result Outcome E) (P : Type 0) (Q : Outcome → Type 0) → IfOk r (λ outcome. outcome ≡ Done) → OnOk r P
-    → ((outcome : Outcome) → outcome ≡ Done → P → Q outcome) → IfOk r Q
-done_so (Ok outcome) P Q done does gives = gives outcome done does
-done_so (Err fault) P Q done does gives = tt
+  -- ---- what has ended so, with this status
 
--- what holds in any case holds of a success
-pub on_ok_too : {T E : Type 0} (r : Result T E) (P : Type 0) → P → OnOk r P
-on_ok_too (Ok value) P holds = holds
-on_ok_too (Err fault) P holds = tt
+  pub ended_marked : (job : Job) (status : ℕ) (ended : Result Outcome Fault) → OnOk ended (IsUnmarked out) → IfErr ended (λ fault. Stops job fault before after out err) → IfErr ended (λ fault. (status ≡ status_of fault) ⊎ (status ≡ 3))
+      → (status ≡ 3) ⊎ IsUnmarked out
+  ended_marked job status (Ok outcome) same stops told = inr same
+  ended_marked job status (Err fault) same stops (inl is) = ⊎_elim (λ three. inl (is ∙ three)) inr (stops_marked job fault stops)
+  ended_marked job status (Err fault) same stops (inr three) = inl three
 
--- what holds in any case holds of a failure
-pub on_err_too : {T E : Type 0} (r : Result T E) (P : Type 0) → P → OnErr r P
-on_err_too (Ok value) P holds = tt
-on_err_too (Err fault) P holds = holds
+  pub ended_unprinted : (job : Job) (status : ℕ) (ended : Result Outcome Fault) → IfOk ended (λ outcome. status ≡ outcome_status outcome) → IfErr ended (λ fault. Stops job fault before after out err)
+      → IfErr ended (λ fault. (status ≡ status_of fault) ⊎ (status ≡ 3)) → status ≡ 2 → IsUntouched out
+  ended_unprinted job status (Ok outcome) is stops told two = outcome_not_two outcome (sym is ∙ two)
+  ended_unprinted job status (Err fault) is stops (inl same) two = stops_unprinted_two job fault stops (sym same ∙ two)
+  ended_unprinted job status (Err fault) is stops (inr three) two = absurd (omega (arith, three, two))
 
-pub on_err_weaker : {T E : Type 0} (r : Result T E) (P Q : Type 0) → (P → Q) → OnErr r P → OnErr r Q
-on_err_weaker (Ok value) P Q more holds = tt
-on_err_weaker (Err fault) P Q more holds = more holds
+pub ended_known : (status : ℕ) (ended : Result Outcome Fault) → IfOk ended (λ outcome. status ≡ outcome_status outcome) → IfErr ended (λ fault. (status ≡ status_of fault) ⊎ (status ≡ 3)) → status ≤ 5
+ended_known status (Ok outcome) is told = omega (arith, is, outcome_few outcome)
+ended_known status (Err fault) is (inl same) = omega (arith, same, fault_few fault)
+ended_known status (Err fault) is (inr three) = omega (arith, three)
 
--- what holds of a failure holds with what is known of its fault
-pub failed_so : {T : Type 0} (r : Result T Fault) (F : Fault → Type 0) (P : Type 0) (Q : Fault → Type 0) → IfErr r F → OnErr r P → ((fault : Fault) → F fault → P → Q fault) → IfErr r Q
-failed_so (Ok value) F P Q is holds gives = tt
-failed_so (Err fault) F P Q is holds gives = gives fault is holds
+-- what has ended so is done, or stops and is reported
+pub ended_so : {W V : Type 0} (told : V → Option (List ℕ)) (broken : V → Bool) (job : Job) (point : Bool) (status : ℕ) (before after : Held) (out : Stream W) (old mid new : V) (ended : Result Outcome Fault)
+    → IfOk ended (λ outcome. Does job outcome before after out (stream told broken old mid)) → IfErr ended (λ fault. Stops job fault before after out (stream told broken old mid))
+    → IfOk ended (λ outcome. status ≡ outcome_status outcome) → OnOk ended (new ≡ mid) → IfErr ended (λ fault. Reports point fault status (stream told broken mid new))
+    → IsDone job status before after out (stream told broken old new) ⊎ IsStopped job point status before after out (stream told broken old new)
+ended_so told broken job point status before after out old mid new (Ok outcome) does stops ends same reports =
+    inl (record { outcome = outcome; ends = ends; does = subst (λ e. Does job outcome before after out (stream told broken old e)) (sym same) does })
+ended_so told broken job point status before after out old mid new (Err fault) does stops ends same reports = inr (record { fault = fault; mid = mid; stops = stops; reports = reports })
 
--- a job that ends with another outcome than `Done` has changed no file
-job_kept : (job : Job) (outcome : Outcome) (before after : Held) (old new : Option (List ℕ))
-    → DoesJob job outcome before after old new → outcome ≢ Done → after ≡ before
-job_kept (Check instance sides solution json name true strict) outcome before after old new does other = does.0
-job_kept (Check instance sides solution json name false strict) outcome before after old new does other = does.0
-job_kept (Week instance sides solution whose) outcome before after old new does other = does.0
-job_kept (Page instance sides solution days) outcome before after old new does other = does.0
-job_kept (Run instance sides script start journal) outcome before after old new does other = absurd (other does.0)
-job_kept (Audit instance sides journal start) outcome before after old new does other = does.0
-job_kept (Crew instance sides scripts) outcome before after old new does other = does.0
-job_kept (Desk instance sides seats start minutes) outcome before after old new does other = absurd (other does.0)
-job_kept (Journals instance sides minutes) outcome before after old new does other = does.0
-job_kept (Listing instance sides journal start) outcome before after old new does other = does.0
-job_kept (Mend instance sides solution) outcome before after old new does other = does.0
-job_kept (Compare instance sides solutions csv json strict) outcome before after old new does other = does.0
-job_kept (Where file word) outcome before after old new does other = does.0
+-- ---- what a run and a command leave
 
-pub other_kept : (words : List (List ℕ)) (outcome : Outcome) (before after : Held) (old new : Option (List ℕ)) → DoesAsAsked words outcome before after old new → outcome ≢ Done → after ≡ before
-other_kept words outcome before after old new (inl help) other = help.2
-other_kept words outcome before after old new (inr (taken, (job, is, does))) other = job_kept job outcome before after old new does other
+pub run_does : {V : Type 0} (r : Result Outcome Fault) (R : Type 0) (err : V) → IfOk r (λ outcome. outcome ≡ Done) → OnOk r R → IfOk r (λ outcome. (outcome ≡ Done) × R × (err ≡ err))
+run_does (Ok outcome) R err done runs = (done, runs, refl)
+run_does (Err fault) R err done runs = tt
 
--- part of an answer may have been printed only if the status is 3
-may_is_three : (fault : Fault) → MayHaveWritten fault → status_of fault ≡ 3
-may_is_three CannotWrite may = refl
-may_is_three NoMemory may = refl
-may_is_three (Instance met) may = absurd may
-may_is_three (Solution met) may = absurd may
-may_is_three (Barred met) may = absurd may
-may_is_three (Blocked met) may = absurd may
-may_is_three (Journal number at) may = absurd may
-may_is_three (Opening text) may = absurd may
-may_is_three (CannotRead name) may = absurd may
-may_is_three (TooLong name) may = absurd may
-may_is_three (Words text) may = absurd may
-may_is_three WordsNotText may = absurd may
-may_is_three TooManyScripts may = absurd may
-may_is_three NoThread may = absurd may
-may_is_three NoPlace may = absurd may
-may_is_three BadSeats may = absurd may
-may_is_three (MinutesExist name) may = absurd may
-may_is_three (NoCurriculum name) may = absurd may
-may_is_three (NoTeacher name) may = absurd may
-may_is_three (NoCourse name) may = absurd may
-may_is_three (NoRoom name) may = absurd may
-may_is_three (NoWord word file) may = absurd may
+pub run_stops : {W V : Type 0} (r : Result Outcome Fault) (instance : String Global) (sides : Sides) (script : String Global) (start journal : Option (String Global)) (before after : Held) (out : Stream W) (err : Stream V)
+    → IfErr r (λ fault. IfUnwritten fault (HasFailed out ⊎ IsGiven journal) (IsOfRun before instance sides script start fault × IsUnmarked out)) → IfErr r (λ fault. MayHaveWritten fault ⊎ IsUntouched out)
+    → IfErr r (λ fault. KeptUnless fault (IsUnmarked out × IsGiven journal) (after ≡ before)) → KeepOthers journal before after → IsUntouched err
+    → IfErr r (λ fault. StopsRun instance sides script start journal fault before after out err)
+run_stops (Ok outcome) instance sides script start journal before after out err cause printed unstored others quiet = tt
+run_stops (Err fault) instance sides script start journal before after out err cause printed unstored others quiet = record { cause = cause; printed = printed; quiet = quiet; unstored = unstored; others = others }
 
--- if a text or the words are refused, nothing was printed
-pub unprinted_one : (fault : Fault) (P : Type 0) → MayHaveWritten fault ⊎ P → status_of fault ≡ 1 → P
-unprinted_one fault P unwritten one = ⊎_elim (λ may. three_is_one (sym (may_is_three fault may) ∙ one)) (λ same. same) unwritten
+-- nothing was for standard error, so nothing was said
+quiet_if : {V : Type 0} (said : List ℕ) (err : Stream V) → (said ≢ []) ⊎ IsUntouched err → said ≡ [] → IsUntouched err
+quiet_if said err (inl some) none = absurd (some none)
+quiet_if said err (inr same) none = same
 
-pub unprinted_two : (fault : Fault) (P : Type 0) → MayHaveWritten fault ⊎ P → status_of fault ≡ 2 → P
-unprinted_two fault P unwritten two = ⊎_elim (λ may. absurd (omega (arith, may_is_three fault may, two))) (λ same. same) unwritten
+module _ {W V : Type 0} (command : Command) (before after : Held) (task : Task) (output : Output) (out : Stream W) (err : Stream V) where
+  pub command_does : (r : Result Outcome Fault) → IsLoaded command before task → Answers task output → after ≡ before → IfOk r (λ outcome. outcome ≡ output.outcome) → OnOk r (Writes out output.text.items)
+      → OnOk r (HasFailed err ⊎ Writes err (string_bytes output.diagnostics)) → OnOk r ((string_bytes output.diagnostics ≢ []) ⊎ IsUntouched err) → IfOk r (λ outcome. DoesCommand command outcome before after out err)
+  command_does (Ok outcome) loaded answers kept ends printed said quiet = record {
+    task = task;
+    is_loaded = loaded;
+    output = output;
+    answers = answers;
+    is_delivered = record { printed = printed; said = said; quiet = quiet_if (string_bytes output.diagnostics) err quiet };
+    ends = ends;
+    kept = kept;
+  }
+  command_does (Err fault) loaded answers kept ends printed said quiet = tt
 
--- the status of a fault is 1, 2 or 3
-pub status_between : (fault : Fault) → (1 ≤ status_of fault) × (status_of fault ≤ 3)
-status_between CannotWrite = (omega arith, omega arith)
-status_between NoMemory = (omega arith, omega arith)
-status_between (Instance met) = (omega arith, omega arith)
-status_between (Solution met) = (omega arith, omega arith)
-status_between (Barred met) = (omega arith, omega arith)
-status_between (Blocked met) = (omega arith, omega arith)
-status_between (Journal number at) = (omega arith, omega arith)
-status_between (Opening text) = (omega arith, omega arith)
-status_between (CannotRead name) = (omega arith, omega arith)
-status_between (TooLong name) = (omega arith, omega arith)
-status_between (Words text) = (omega arith, omega arith)
-status_between WordsNotText = (omega arith, omega arith)
-status_between TooManyScripts = (omega arith, omega arith)
-status_between NoThread = (omega arith, omega arith)
-status_between NoPlace = (omega arith, omega arith)
-status_between BadSeats = (omega arith, omega arith)
-status_between (MinutesExist name) = (omega arith, omega arith)
-status_between (NoCurriculum name) = (omega arith, omega arith)
-status_between (NoTeacher name) = (omega arith, omega arith)
-status_between (NoCourse name) = (omega arith, omega arith)
-status_between (NoRoom name) = (omega arith, omega arith)
-status_between (NoWord word file) = (omega arith, omega arith)
+  pub command_cut : (r : Result Outcome Fault) → IsLoaded command before task → Answers task output → after ≡ before → IfErr r (λ fault. fault ≡ Machine CannotWrite) → OnErr r (WritesFront out output.text.items)
+      → OnErr r (HasFailed out) → OnErr r (IsUntouched err) → IfErr r (λ fault. StopsCommand command fault before after out err)
+  command_cut (Ok outcome) loaded answers kept is front failed quiet = tt
+  command_cut (Err fault) loaded answers kept is front failed quiet = record {
+    cause = inr (is, record { task = task; is_loaded = loaded; output = output; answers = answers; front = front; failed = failed });
+    quiet = quiet;
+    kept = kept;
+  }
 
--- if no words could be had, it is reported that one is not UTF-8, or that memory ran out
-pub of_no_words : (M : Type 0) (fault : Fault) (status : ℕ) (old new : Option (List ℕ)) → (fault ≡ WordsNotText) ⊎ (fault ≡ NoMemory) → M ⊎ SaysFault (λ told. (told ≡ fault) ⊎ (told ≡ NoMemory)) status old new
-    → M ⊎ SaysFault (λ told. (told ≡ WordsNotText) ⊎ (told ≡ NoMemory)) status old new
-of_no_words M fault status old new is said = says_caused M (λ told. (told ≡ WordsNotText) ⊎ (told ≡ NoMemory)) fault status old new is (inr refl) said
+pub desk_does : {W V : Type 0} (r : Result Outcome Fault) (instance : String Global) (sides : Sides) (plan : DeskPlan) (before after : Held) (out : Stream W) (err : Stream V) → IfOk r (λ outcome. outcome ≡ Done) → OnOk r (DoesDesk instance sides plan before after out err)
+    → IfOk r (λ outcome. (outcome ≡ Done) × DoesDesk instance sides plan before after out err)
+desk_does (Ok outcome) instance sides plan before after out err done does = (done, does)
+desk_does (Err fault) instance sides plan before after out err done does = tt
 
--- the status is that of this fault
-pub ends_no_words : (fault : Fault) (status : ℕ) → (fault ≡ WordsNotText) ⊎ (fault ≡ NoMemory) → (status ≡ status_of fault) ⊎ (status ≡ 3) → (status ≡ 2) ⊎ (status ≡ 3)
-ends_no_words fault status is ends = ⊎_elim (λ same. ⊎_elim (λ word. inl (same ∙ ap status_of word)) (λ memory. inr (same ∙ ap status_of memory)) is) (λ three. inr three) ends
+-- ---- what is reported
 
--- the outcome of a job that is done is not `Differs`
-pub done_differs : {C : Type 0} (outcome : Outcome) → outcome ≡ Done → outcome ≡ Differs → C
-done_differs outcome done differs = absurd (omega (arith, ap outcome_status done, ap outcome_status differs))
+-- that memory ran out has no point
+pub no_memory_said : (point : Bool) → said_of point (Machine NoMemory) ≡ line_of (Machine NoMemory)
+no_memory_said true = refl
+no_memory_said false = refl
 
--- a job that ends with another outcome than `Done` or `Differs` writes nothing to standard error
-pub unsaid_other : (outcome : Outcome) (A S : Type 0) → (A × (outcome ≡ Done)) ⊎ ((outcome ≡ Differs) ⊎ S) → outcome ≢ Done → outcome ≢ Differs → S
-unsaid_other outcome A S (inl says) other same_too = absurd (other says.1)
-unsaid_other outcome A S (inr (inl differs)) other same_too = absurd (same_too differs)
-unsaid_other outcome A S (inr (inr same)) other same_too = same
+pub reports_said : {V : Type 0} (point : Bool) (fault said : Fault) (status : ℕ) (told : V → Option (List ℕ)) (broken : V → Bool) (old new : V) (bytes : List ℕ) → (said ≡ fault) ⊎ (said ≡ Machine NoMemory) → status ≡ status_of said → bytes ≡ said_of point said
+    → (broken new ≡ true) ⊎ ((broken new ≡ broken old) × Appends (told old) (told new) bytes) → Reports point fault status (stream told broken old new)
+reports_said point fault said status told broken old new bytes is ends line written = record {
+  said = said;
+  is = is;
+  ends = ends;
+  says = ⊎_elim inl (λ all. inr (subst (Appends (told old) (told new)) line all.1)) written;
+  marked = λ marks. ⊎_elim (λ failed. failed) (λ all. all.0 ∙ marks) written;
+}
 
--- a job that ends with `Done` writes to standard error only what it says
-pub unsaid_done : (outcome : Outcome) (A S : Type 0) → (A × (outcome ≡ Done)) ⊎ ((outcome ≡ Differs) ⊎ S) → outcome ≡ Done → A ⊎ S
-unsaid_done outcome A S (inl says) done = inl says.0
-unsaid_done outcome A S (inr (inl differs)) done = done_differs outcome done differs
-unsaid_done outcome A S (inr (inr same)) done = inr same
+pub reported_few : (fault : Fault) (status : ℕ) → (status ≡ status_of fault) ⊎ (status ≡ 3) → status ≤ 3
+reported_few fault status (inl same) = omega (arith, same, fault_few fault)
+reported_few fault status (inr three) = omega (arith, three)
 
--- status 1 is that of `Differs`
-pub is_not_differs : (outcome : Outcome) (status : ℕ) → status ≡ outcome_status outcome → status ≢ 1 → outcome ≢ Differs
-is_not_differs outcome status is some differs = some (is ∙ ap outcome_status differs)
-
--- a fault is reported after what a job has written, unless that could not be written
-pub said_since : {V : Type 0} (taken : V → Option (List ℕ)) (failed : V → Bool) (C : Fault → Type 0) (status : ℕ) (words : List (List ℕ)) (old mid new : V)
-    → (failed mid ≡ true) ⊎ WarnsAsAsked words (taken old) (taken mid) → (failed mid ≡ true → failed new ≡ true) → (failed new ≡ true) ⊎ SaysFault C status (taken mid) (taken new)
-    → (failed new ≡ true) ⊎ ((warned : Option (List ℕ)) × WarnsAsAsked words (taken old) warned × SaysFault C status warned (taken new))
-said_since taken failed C status words old mid new (inl marks) marked said = inl (marked marks)
-said_since taken failed C status words old mid new (inr warns) marked said = ⊎_elim inl (λ fault. inr (taken mid, warns, fault)) said
-
--- what a job has written, by the words that ask for it
-pub warned_as_asked : {V : Type 0} (taken : V → Option (List ℕ)) (failed : V → Bool) (words : List (List ℕ)) (job : Job) (old new : V) → IsJobOf words job
-    → (new ≡ old) ⊎ ((failed new ≡ true) ⊎ WarnsOfJob job (taken old) (taken new)) → (failed new ≡ true) ⊎ WarnsAsAsked words (taken old) (taken new)
-warned_as_asked taken failed words job old new is (inl same) = inr (inl (ap taken same))
-warned_as_asked taken failed words job old new is (inr (inl marks)) = inl marks
-warned_as_asked taken failed words job old new is (inr (inr warns)) = inr (inr (job, is, warns))
+-- that standard output failed has status 3
+pub unwritten_three : (fault : Fault) (status : ℕ) → fault ≡ Machine CannotWrite → (status ≡ status_of fault) ⊎ (status ≡ 3) → status ≡ 3
+unwritten_three fault status is (inl same) = same ∙ ap status_of is
+unwritten_three fault status is (inr three) = three

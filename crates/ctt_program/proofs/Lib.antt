@@ -1,5 +1,2 @@
-pub mod Plain
-pub mod Known
-pub mod Ends
-pub mod Offices
-pub mod Delivered
+mod Ends
+mod Offices

@@ -1,64 +1,87 @@
--- Which files jobs get and store, and whether they write to standard error.
-use Rattle.std.specs.Prelude.{◌≡◌, ◌⊎◌, Bool, false, true, List, [], Option, None, is_some}
+-- What a job does, and why it stops: a case a kind of job.
+use Rattle.std.specs.Prelude.{◌≡◌, ◌⊎◌, [], Option}
 use Rattle.std.specs.Global.{Global}
+use Rattle.std.specs.String.{string_bytes}
 use Rattle.std.specs.declared.string.String.{String}
+use Rattle.ctt_files.specs.Faults.{IfUnwritten, MayHaveWritten}
+use Rattle.ctt_files.specs.Storing.{IsGiven, KeepOthers}
+use Rattle.ctt_files.specs.Texts.{Held}
+use Rattle.ctt_files.specs.declared.fault.Fault.{Fault}
+use Rattle.ctt_files.specs.declared.fault.Fault.TheVariants.{Machine}
+use Rattle.ctt_files.specs.declared.fault.MachineFault.TheVariants.{CannotWrite}
+use Rattle.ctt_files.specs.declared.outcome.Outcome.{Outcome}
+use Rattle.ctt_files.specs.declared.outcome.Outcome.TheVariants.{Done}
+use Rattle.ctt_files.specs.declared.output.Output.{Output}
+use Rattle.ctt_files.specs.declared.sides.Sides.{Sides}
+use Rattle.ctt_words.specs.declared.job.Command.{Command}
 use Rattle.ctt_words.specs.declared.job.Job.{Job}
-use Rattle.ctt_words.specs.declared.job.Job.TheVariants.{Check, Compare, Crew, Desk, Journal, Mend, Page, Run, Week, Where}
-use Rattle.ctt_files.specs.Storing.{IsGiven}
-use Rattle.ctt_program.specs.Seats.{AreBadSeats, has_standard}
+use Rattle.ctt_words.specs.declared.job.Job.TheVariants.{Answer, Desk, Run}
+use Rattle.ctt_commands.specs.Commands.{Answers, IsLoaded, IsUnanswered, IsUnloaded}
+use Rattle.ctt_commands.specs.Faults.{KeptUnless}
+use Rattle.ctt_commands.specs.Refusals.{IsOfRun}
+use Rattle.ctt_commands.specs.Runs.{RunsScript}
+use Rattle.ctt_commands.specs.declared.task.Task.{Task}
+use Rattle.ctt_program.specs.Desks.{DoesDesk, StopsDesk}
+use Rattle.ctt_program.specs.Streams.{HasFailed, IsUnmarked, IsUntouched, Stream, Writes, WritesFront}
 
--- the scripts of a crew
-abbrev pub scripts_of : Job → List (String Global)
-scripts_of (Crew instance sides scripts) = scripts.items
-scripts_of job = []
+-- an output is delivered: its text is printed, and its diagnostics, if there are any, are said,
+-- unless standard error fails
+pub record IsDelivered {W V : Type 0} (output : Output) (out : Stream W) (err : Stream V) : Type 0 where
+  pub printed : Writes out output.text.items
+  pub said : HasFailed err ⊎ Writes err (string_bytes output.diagnostics)
+  pub quiet : string_bytes output.diagnostics ≡ [] → IsUntouched err
 
--- the seats of a desk are refused
-abbrev pub HasBadSeats : Job → Type 0
-HasBadSeats (Desk instance sides seats start minutes) = AreBadSeats seats.items
-HasBadSeats job = ⊥
+-- a command is done: a task is loaded from its files, and an output answers it, which is delivered;
+-- its outcome is that of the command, and no file is changed
+pub record DoesCommand {W V : Type 0} (command : Command) (outcome : Outcome) (before after : Held) (out : Stream W) (err : Stream V) : Type 0 where
+  pub task : Task
+  pub is_loaded : IsLoaded command before task
+  pub output : Output
+  pub answers : Answers task output
+  pub is_delivered : IsDelivered output out err
+  pub ends : outcome ≡ output.outcome
+  pub kept : after ≡ before
 
--- the job stores a file, or writes to files
-abbrev pub Storing : Job → Type 0
-Storing (Run instance sides script start journal) = IsGiven journal
-Storing (Desk instance sides seats start minutes) = Unit {0}
-Storing job = ⊥
+-- no task is loaded from the files of a command, or the task is not answered
+abbrev pub IsUndone : Command → Held → Fault → Type 0
+IsUndone command held fault = IsUnloaded command held fault ⊎ ((task : Task) × IsLoaded command held task × IsUnanswered task fault)
 
--- the file that the job stores, if one is given
-abbrev pub stored_by : Job → Option (String Global)
-stored_by (Run instance sides script start journal) = journal
-stored_by job = None
+-- the output that answers the task of a command is printed only in part, since standard output
+-- fails
+pub record IsCutShort {W : Type 0} (command : Command) (held : Held) (out : Stream W) : Type 0 where
+  pub task : Task
+  pub is_loaded : IsLoaded command held task
+  pub output : Output
+  pub answers : Answers task output
+  pub front : WritesFront out output.text.items
+  pub failed : HasFailed out
 
--- the job, when it ends with `Done`, may write to standard error: for a desk without minutes or
--- with a seat at standard output, for an incomplete entry of minutes, and for lectures that are set
--- aside
-abbrev pub Saying : Job → Type 0
-Saying (Desk instance sides seats start minutes) = (is_some minutes ≡ false) ⊎ (has_standard seats.items ≡ true)
-Saying (Journal instance sides minutes) = Unit {0}
-Saying (Mend instance sides solution) = Unit {0}
-Saying job = ⊥
+-- a command stops with this fault: it is undone, and nothing is printed, or its output is cut short;
+-- nothing is said, and no file is changed
+pub record StopsCommand {W V : Type 0} (command : Command) (fault : Fault) (before after : Held) (out : Stream W) (err : Stream V) : Type 0 where
+  pub cause : (IsUndone command before fault × IsUntouched out) ⊎ ((fault ≡ Machine CannotWrite) × IsCutShort command before out)
+  pub quiet : IsUntouched err
+  pub kept : after ≡ before
 
--- whether the job prints its answer while it works: all findings, the answers to a script, or
--- what the seats of a desk get
-abbrev pub streams : Job → Bool
-streams (Check instance sides solution json name explain strict) = explain
-streams (Run instance sides script start journal) = true
-streams (Desk instance sides seats start minutes) = true
-streams job = false
+-- a run stops with this fault: its files, its start or its script have it, or something could not be
+-- written; no file is changed but that of the journal, and only if it could not be stored
+pub record StopsRun {W V : Type 0} (instance : String Global) (sides : Sides) (script : String Global) (start journal : Option (String Global)) (fault : Fault) (before after : Held) (out : Stream W) (err : Stream V) : Type 0 where
+  pub cause : IfUnwritten fault (HasFailed out ⊎ IsGiven journal) (IsOfRun before instance sides script start fault × IsUnmarked out)
+  pub printed : MayHaveWritten fault ⊎ IsUntouched out
+  pub quiet : IsUntouched err
+  pub unstored : KeptUnless fault (IsUnmarked out × IsGiven journal) (after ≡ before)
+  pub others : KeepOthers journal before after
 
--- whether the job reports on solutions, or on a file
-abbrev pub reports : Job → Bool
-reports (Check instance sides solution json name explain strict) = true
-reports (Compare instance sides solutions csv json strict) = true
-reports (Week instance sides solution whose) = true
-reports (Page instance sides solution days) = true
-reports (Where file word) = true
-reports job = false
+-- what a job does that is done with this outcome
+abbrev pub Does : {W V : Type 0} → Job → Outcome → Held → Held → Stream W → Stream V → Type 0
+Does (Answer command) outcome before after out err = DoesCommand command outcome before after out err
+Does (Run instance sides script start journal) outcome before after out err = (outcome ≡ Done)
+    × RunsScript instance sides script start journal before after (out.taken out.old) (out.taken out.new) × IsUntouched err
+Does (Desk instance sides seats start minutes) outcome before after out err = (outcome ≡ Done)
+    × DoesDesk instance sides (record { seats = seats; start = start; minutes = minutes }) before after out err
 
--- what the job writes there includes a warning, and if that cannot be written, the job is done
--- nevertheless
-abbrev pub Warning : Job → Type 0
-Warning (Desk instance sides seats start minutes) = is_some minutes ≡ false
-Warning (Journal instance sides minutes) = Unit {0}
-Warning (Mend instance sides solution) = Unit {0}
-Warning (Compare instance sides solutions csv json strict) = Unit {0}
-Warning job = ⊥
+-- why a job stops with this fault, and what it leaves
+abbrev pub Stops : {W V : Type 0} → Job → Fault → Held → Held → Stream W → Stream V → Type 0
+Stops (Answer command) fault before after out err = StopsCommand command fault before after out err
+Stops (Run instance sides script start journal) fault before after out err = StopsRun instance sides script start journal fault before after out err
+Stops (Desk instance sides seats start minutes) fault before after out err = StopsDesk instance sides (record { seats = seats; start = start; minutes = minutes }) fault before after out err

@@ -1,32 +1,56 @@
 //! The program, from the words of its command line to its exit status.
 
-ghost use Rattle.std.specs.Prelude.{◌≡◌, ◌≤◌, ◌⊎◌, [], true, false, OnOk, OnErr, IfOk, IfErr};
-ghost use Rattle.ctt_words.specs.Jobs.{HasScripts, faults_of};
-ghost use Rattle.ctt_files.specs.Faults.{IfUnwritten, MayHaveWritten, status_of};
-ghost use Rattle.ctt_files.specs.declared.fault.Fault.TheVariants.{NoMemory};
-ghost use Rattle.ctt_files.specs.declared.outcome.Outcome.TheVariants.{Differs, Done};
-ghost use Rattle.ctt_commands.specs.Faults.{KeptUnless};
-ghost use Rattle.ctt_program.specs.Reporting.{SaysFault};
-ghost use Rattle.ctt_files.specs.Storing.{KeepOthers};
-ghost use Rattle.ctt_program.specs.Jobs.{Saying, Storing, Warning, stored_by, streams};
-ghost use Rattle.ctt_program.specs.Served.{IsServed};
-ghost use Rattle.ctt_program.specs.Work.{AsksToSay, AsksToStore, AsksToWarn, DiffersAsAsked, DiffersOfJob, DoesAsAsked, DoesJob, HasCause, IsOfHelp, IsOfJob, KeepAsAsked, PrintsHelp, SaysAsAsked, SaysOfJob, WarnsAsAsked, WarnsOfJob, texts};
+ghost use Rattle.std.specs.Prelude.{◌≡◌, ◌≤◌, ◌⊎◌, true, false, OnOk, IfOk, IfErr};
+ghost use Rattle.ctt_files.specs.Faults.{status_of};
+ghost use Rattle.ctt_files.specs.Outcomes.{outcome_status};
+ghost use Rattle.ctt_words.specs.Jobs.{HasInputs, HasScripts};
+ghost use Rattle.ctt_program.specs.Jobs.{Does, DoesCommand, Stops, StopsCommand};
+ghost use Rattle.std.specs.String.{string_bytes};
+ghost use Rattle.ctt_program.specs.Served.{IsServed, IsTurned, Reports, said_of, texts};
+ghost use Rattle.ctt_program.specs.Streams.{stream};
 
-use crate::answers::{answer, streams};
-use crate::desk::desk;
+use crate::desk::{DeskJob, desk};
 use crate::office::Office;
-use crate::printed::print_last;
-use ctt_commands::run;
-use ctt_files::{Fault, Files, NO_MEMORY, Outcome, Sink, complain, deliver};
-use ctt_reports::{explain, report_form};
-use ctt_words::{Job, WordsFault, read_words};
-use std::alloc::Global;
+use ctt_commands::{act, load, run};
+use ctt_files::{
+    Fault, Files, MachineFault, NO_MEMORY, Outcome, Sink, UsageFault, deliver, print, write_stderr,
+};
+use ctt_problem::drop_whole;
+use ctt_words::{Asked, Command, Job, WordsFault, read_words};
+use std::alloc::{AllocError, Global};
 use std::marker::Sync;
 use std::sync::Wait;
 use std::thread::Threads;
 
-/// Runs a job that prints its answer while it works.
-fn stream<R: Threads + Wait + Sync, F: Files, O: Office, W: Sink, V: Sink>(
+/// Does a command: loads its files, answers its task, and delivers the output.
+fn do_command<R: Threads + Wait + Sync, F: Files, W: Sink, V: Sink>(
+    rt: &R,
+    alloc: Global,
+    command: Command,
+    files: &mut F,
+    out: &mut W,
+    err: &mut V,
+) -> Result<Outcome, Fault>
+    requires { HasInputs command }
+    ensures does { IfOk result (λ outcome. DoesCommand command outcome
+        (F.held files.old) (F.held files.new) (stream W.taken W.has_failed out.old out.new)
+        (stream V.taken V.has_failed err.old err.new)) }
+    ensures stops { IfErr result (λ fault. StopsCommand command fault
+        (F.held files.old) (F.held files.new) (stream W.taken W.has_failed out.old out.new)
+        (stream V.taken V.has_failed err.old err.new)) }
+    ensures unmarked { OnOk result (W.has_failed out.new ≡ W.has_failed out.old) }
+{
+    let task = load(alloc, files, command)?;
+    let acted = act(rt, alloc, &task);
+    drop_whole(task);
+    match acted {
+        Ok(output) => deliver(out, err, output),
+        Err(fault) => Err(fault),
+    }
+}
+
+/// Does a job.
+fn do_job<R: Threads + Wait + Sync, F: Files, O: Office, W: Sink, V: Sink>(
     rt: &R,
     alloc: Global,
     job: Job,
@@ -35,40 +59,17 @@ fn stream<R: Threads + Wait + Sync, F: Files, O: Office, W: Sink, V: Sink>(
     out: &mut W,
     err: &mut V,
 ) -> Result<Outcome, Fault>
-    requires scripts { HasScripts job }
-    requires streaming { streams job ≡ true }
-    ensures done { IfOk result (λ outcome. DoesJob job outcome
-        (F.held files.old) (F.held files.new) (W.taken out.old) (W.taken out.new)) }
+    requires { HasScripts job }
+    ensures does { IfOk result (λ outcome. Does job outcome
+        (F.held files.old) (F.held files.new) (stream W.taken W.has_failed out.old out.new)
+        (stream V.taken V.has_failed err.old err.new)) }
+    ensures stops { IfErr result (λ fault. Stops job fault
+        (F.held files.old) (F.held files.new) (stream W.taken W.has_failed out.old out.new)
+        (stream V.taken V.has_failed err.old err.new)) }
     ensures unmarked { OnOk result (W.has_failed out.new ≡ W.has_failed out.old) }
-    ensures cause { IfErr result (λ fault. IfUnwritten fault
-        ((W.has_failed out.new ≡ true) ⊎ Storing job)
-        (IsOfJob job (F.held files.old) fault
-        × (W.has_failed out.new ≡ W.has_failed out.old))) }
-    ensures unwritten { IfErr result (λ fault. MayHaveWritten fault ⊎ (out.new ≡ out.old)) }
-    ensures unstored { IfErr result (λ fault. KeptUnless fault
-        ((W.has_failed out.new ≡ W.has_failed out.old) × Storing job)
-        (F.held files.new ≡ F.held files.old)) }
-    ensures others { KeepOthers (stored_by job) (F.held files.old) (F.held files.new) }
-    ensures quiet { IfOk result (λ outcome.
-        (Saying job × (outcome ≡ Done)) ⊎ (err.new ≡ err.old)) }
-    ensures says { OnOk result ((Warning job × (V.has_failed err.new ≡ true))
-        ⊎ SaysOfJob job (F.held files.old) (V.taken err.old) (V.taken err.new)) }
-    ensures unsaid { OnErr result ((err.new ≡ err.old) ⊎ ((V.has_failed err.new ≡ true)
-        ⊎ WarnsOfJob job (V.taken err.old) (V.taken err.new))) }
 {
     match job {
-        Job::Check {
-            instance,
-            sides,
-            solution,
-            json,
-            name,
-            strict,
-            ..
-        } => {
-            let form = report_form(json, name);
-            explain(alloc, files, out, instance, sides, solution, form, strict)
-        }
+        Job::Answer(command) => do_command(rt, alloc, command, files, out, err),
         Job::Run {
             instance,
             sides,
@@ -82,129 +83,78 @@ fn stream<R: Threads + Wait + Sync, F: Files, O: Office, W: Sink, V: Sink>(
             seats,
             start,
             minutes,
-        } => desk(
-            rt, alloc, files, office, out, err, instance, sides, seats, start, minutes,
-        ),
-        _ => unreachable!(),
+        } => {
+            let asked = DeskJob::new(instance, sides, seats, start, minutes);
+            desk(rt, alloc, files, office, out, err, asked)
+        }
     }
 }
 
-/// Runs the command of a job.
-fn do_job<R: Threads + Wait + Sync, F: Files, O: Office, W: Sink, V: Sink>(
-    rt: &R,
-    alloc: Global,
-    job: Job,
-    files: &mut F,
-    office: &O,
-    out: &mut W,
-    err: &mut V,
-) -> Result<Outcome, Fault>
-    requires { HasScripts job }
-    ensures done { IfOk result (λ outcome. DoesJob job outcome (F.held files.old) (F.held files.new)
-        (W.taken out.old) (W.taken out.new)) }
-    ensures unmarked { OnOk result (W.has_failed out.new ≡ W.has_failed out.old) }
-    ensures cause { IfErr result (λ fault. IfUnwritten fault
-        ((W.has_failed out.new ≡ true) ⊎ Storing job)
-        (IsOfJob job (F.held files.old) fault × (W.has_failed out.new ≡ W.has_failed out.old))) }
-    ensures unwritten { IfErr result (λ fault. MayHaveWritten fault ⊎ (out.new ≡ out.old)) }
-    ensures unstored { IfErr result (λ fault. KeptUnless fault
-        ((W.has_failed out.new ≡ W.has_failed out.old) × Storing job)
-        (F.held files.new ≡ F.held files.old)) }
-    ensures others { KeepOthers (stored_by job) (F.held files.old) (F.held files.new) }
-    ensures quiet { IfOk result (λ outcome. (Saying job × (outcome ≡ Done))
-        ⊎ ((outcome ≡ Differs) ⊎ (err.new ≡ err.old))) }
-    ensures differs { IfOk result (λ outcome. outcome ≡ Differs
-        → DiffersOfJob V.taken V.has_failed job (F.held files.old)
-        (W.taken out.old) (W.taken out.new) err.old err.new) }
-    ensures says { OnOk result ((Warning job × (V.has_failed err.new ≡ true))
-        ⊎ SaysOfJob job (F.held files.old)
-        (V.taken err.old) (V.taken err.new)) }
-    ensures unsaid { OnErr result ((err.new ≡ err.old) ⊎ ((V.has_failed err.new ≡ true)
-        ⊎ WarnsOfJob job (V.taken err.old) (V.taken err.new))) }
+/// Returns what is said of a fault: its line, and that of its point if it is asked for.
+fn said_of(alloc: Global, point: bool, fault: &Fault) -> Result<String, AllocError>
+    ensures { IfOk result (λ text. string_bytes text ≡ said_of point fault.now) }
 {
-    if streams(&job) {
-        return stream(rt, alloc, job, files, office, out, err);
+    let mut text = fault.line(alloc)?;
+    if point {
+        text.push_str(fault.point())?;
     }
-    let printed = answer(rt, alloc, files, job)?;
-    deliver(files, out, err, printed)
+    Ok(text)
 }
 
-/// Prints the help that the words ask for, or returns why they are refused.
-fn answer_words<W: Sink>(out: &mut W, fault: WordsFault) -> Result<Outcome, Fault>
-    ensures done { IfOk result (λ outcome. outcome ≡ Done) }
-    ensures prints { OnOk result (PrintsHelp fault (W.taken out.old) (W.taken out.new)) }
-    ensures unmarked { OnOk result (W.has_failed out.new ≡ W.has_failed out.old) }
-    ensures marked { IfErr result (λ told. (status_of told ≡ 3)
-        ⊎ (W.has_failed out.new ≡ W.has_failed out.old)) }
-    ensures cause { IfErr result (IsOfHelp fault (W.has_failed out.new)) }
-    ensures unwritten { IfErr result (λ told. MayHaveWritten told ⊎ (out.new ≡ out.old)) }
-{
-    match fault {
-        WordsFault::Help(text) => print_last(out, text.as_bytes()),
-        WordsFault::Refused(text) => Err(Fault::Words(text)),
-        WordsFault::NoMemory => Err(Fault::NoMemory),
-    }
-}
-
-/// Does the job that the words ask for, or prints help.
-fn do_as_asked<R: Threads + Wait + Sync, F: Files, O: Office, W: Sink, V: Sink>(
-    rt: &R,
-    alloc: Global,
-    words: &[&str],
-    files: &mut F,
-    office: &O,
-    out: &mut W,
-    err: &mut V,
-) -> Result<Outcome, Fault>
-    ensures done { IfOk result (λ outcome. DoesAsAsked (texts words.now) outcome
-        (F.held files.old) (F.held files.new) (W.taken out.old) (W.taken out.new)) }
-    ensures unmarked { OnOk result (W.has_failed out.new ≡ W.has_failed out.old) }
-    ensures marked { IfErr result (λ fault. (status_of fault ≡ 3)
-        ⊎ (W.has_failed out.new ≡ W.has_failed out.old)) }
-    ensures unwritten { IfErr result (λ fault. MayHaveWritten fault ⊎ (out.new ≡ out.old)) }
-    ensures unstored { IfErr result (λ fault. KeptUnless fault
-        ((W.has_failed out.new ≡ W.has_failed out.old) × AsksToStore (texts words.now))
-        (F.held files.new ≡ F.held files.old)) }
-    ensures others { KeepAsAsked (texts words.now) (F.held files.old) (F.held files.new) }
-    ensures taken { IfErr result (λ fault. status_of fault ≡ 1 → faults_of (texts words.now) ≡ []) }
-    ensures quiet { IfOk result (λ outcome. (AsksToSay (texts words.now) × (outcome ≡ Done))
-        ⊎ ((outcome ≡ Differs) ⊎ (err.new ≡ err.old))) }
-    ensures differs { IfOk result (λ outcome. outcome ≡ Differs
-        → DiffersAsAsked V.taken V.has_failed (texts words.now) (F.held files.old)
-        (W.taken out.old) (W.taken out.new) err.old err.new) }
-    ensures says { OnOk result ((AsksToWarn (texts words.now) × (V.has_failed err.new ≡ true))
-        ⊎ SaysAsAsked (texts words.now) (F.held files.old) (V.taken err.old) (V.taken err.new)) }
-    ensures unsaid { OnErr result ((V.has_failed err.new ≡ true)
-        ⊎ WarnsAsAsked (texts words.now) (V.taken err.old) (V.taken err.new)) }
-    ensures cause { IfErr result
-        (HasCause (texts words.now) (F.held files.old) (W.has_failed out.new)) }
-{
-    match read_words(alloc, words) {
-        Ok(job) => do_job(rt, alloc, job, files, office, out, err),
-        Err(fault) => answer_words(out, fault),
-    }
-}
-
-/// Reports on standard error why a job was not done, and returns the exit status.
+/// Reports a fault on standard error, with its point if it is asked for, and returns its exit
+/// status.
 ///
-/// If memory runs out for the line, that is reported instead.
-pub fn fail_with<V: Sink>(alloc: Global, fault: &Fault, err: &mut V) -> u8
+/// If memory runs out for what is said, that is reported instead.
+pub(crate) fn report<V: Sink>(alloc: Global, point: bool, fault: &Fault, err: &mut V) -> u8
+    ensures reports { Reports point fault.now result
+        (stream V.taken V.has_failed err.old err.new) }
     ensures status { (result ≡ status_of fault.now) ⊎ (result ≡ 3) }
-    ensures told { (1 ≤ result) × (result ≤ 3) }
-    ensures marked { V.has_failed err.old ≡ true → V.has_failed err.new ≡ true }
-    ensures said { (V.has_failed err.new ≡ true)
-        ⊎ SaysFault (λ told. (told ≡ fault.now) ⊎ (told ≡ NoMemory)) result
-        (V.taken err.old) (V.taken err.new) }
 {
-    match fault.line(alloc) {
-        Ok(line) => {
-            complain(err, line.as_bytes());
+    match said_of(alloc, point, fault) {
+        Ok(text) => {
+            write_stderr(err, text.as_bytes());
             fault.status()
         }
         Err(_) => {
-            complain(err, NO_MEMORY.as_bytes());
+            write_stderr(err, NO_MEMORY.as_bytes());
             3
         }
+    }
+}
+
+/// Returns the exit status of a job that has ended so, and reports its fault, if it has one, with
+/// its point if it is asked for.
+fn end<V: Sink>(alloc: Global, point: bool, ended: Result<Outcome, Fault>, err: &mut V) -> u8
+    ensures done { IfOk ended (λ outcome. result ≡ outcome_status outcome) }
+    ensures quiet { OnOk ended (err.new ≡ err.old) }
+    ensures reports { IfErr ended (λ fault.
+        Reports point fault result (stream V.taken V.has_failed err.old err.new)) }
+    ensures status { IfErr ended (λ fault. (result ≡ status_of fault) ⊎ (result ≡ 3)) }
+{
+    match ended {
+        Ok(outcome) => outcome.status(),
+        Err(fault) => report(alloc, point, &fault, err),
+    }
+}
+
+/// Prints the help that words ask for, or reports why they ask for no job, and returns the exit
+/// status.
+fn turn_away<W: Sink, V: Sink>(alloc: Global, fault: WordsFault, out: &mut W, err: &mut V) -> u8
+    ensures turned { IsTurned fault result (stream W.taken W.has_failed out.old out.new)
+        (stream V.taken V.has_failed err.old err.new) }
+    ensures known { result ≤ 3 }
+    ensures unmarked { (result ≡ 3) ⊎ (W.has_failed out.new ≡ W.has_failed out.old) }
+    ensures unprinted { result ≡ 2 → out.new ≡ out.old }
+{
+    match fault {
+        WordsFault::Help(text) => match print(out, text.as_bytes()) {
+            Ok(()) => 0,
+            Err(fault) => report(alloc, false, &fault, err),
+        },
+        WordsFault::Refused(text) => {
+            report(alloc, false, &Fault::Usage(UsageFault::Words(text)), err)
+        }
+        WordsFault::NoMemory => report(alloc, false, &Fault::Machine(MachineFault::NoMemory), err),
     }
 }
 
@@ -228,12 +178,17 @@ pub fn program<R: AllocGlobal + Threads + Wait + Sync, F: Files, O: Office, W: S
     ensures unmarked { result ≡ 0 → W.has_failed out.new ≡ false }
     ensures unprinted { result ≡ 2 → out.new ≡ out.old }
     ensures unwritten { W.has_failed out.new ≡ true → result ≡ 3 }
-    ensures served { IsServed W.taken W.has_failed V.taken V.has_failed (texts words.now) result
-        (F.held files.old) (F.held files.new) out.old out.new err.old err.new }
+    ensures served { IsServed (texts words.now) result (F.held files.old) (F.held files.new)
+        (stream W.taken W.has_failed out.old out.new)
+        (stream V.taken V.has_failed err.old err.new) }
 {
     let alloc = rt.alloc();
-    match do_as_asked(rt, alloc, words, files, office, out, err) {
-        Ok(outcome) => outcome.status(),
-        Err(fault) => fail_with(alloc, &fault, err),
+    match read_words(alloc, words) {
+        Ok(asked) => {
+            let Asked { job, point } = asked;
+            let ended = do_job(rt, alloc, job, files, office, out, err);
+            end(alloc, point, ended, err)
+        }
+        Err(fault) => turn_away(alloc, fault, out, err),
     }
 }

@@ -1,7 +1,8 @@
 //! Seats and minutes in files.
 
-use ctt_files::{Device, Failed};
-use ctt_office::{Doors, Durable};
+use ctt_files::{Device, Failed, Leaving};
+use ctt_log::Durable;
+use ctt_office::Doors;
 use std::alloc::Global;
 use std::fs::{File, OpenOptions};
 use std::io::{Read, Write};
@@ -40,10 +41,12 @@ impl<F: Read> Read for SeatInput<F> {
     }
 }
 
-/// The device to which the answers of a seat are written.
+/// The device to which the answers of a seat are written. If nobody reads standard output any more,
+/// the lines that were typed are still done, and their answers are dropped; a seat with files of its
+/// own ends there.
 #[derive(Drop)]
 pub enum SeatOutput<F> {
-    Standard(Stdout),
+    Standard(Leaving<Stdout>),
     File(F),
 }
 
@@ -116,7 +119,7 @@ where
 
     fn open_output(&self, seat: &str) -> Result<Self::Output, Failed> {
         if seat == STANDARD {
-            return Ok(Device::new(SeatOutput::Standard(self.out)));
+            return Ok(Device::new(SeatOutput::Standard(Leaving(self.out))));
         }
         let name = self.file_name(seat, ".out")?;
         match fs::create(self.rt, name.as_str()) {

@@ -10,13 +10,13 @@ use Rattle.ctt_rules.specs.Hard.{Lawful}
 use Rattle.ctt_core.specs.declared.event.Event.{Event}
 use Rattle.ctt_core.specs.declared.answer.Answer.{Answer}
 use Rattle.ctt_core.specs.declared.answer.Answer.TheVariants.{NoMemory}
-use Rattle.ctt_core.specs.Runs.{Turn, plain, IsRight, EventFits}
+use Rattle.ctt_core.specs.Runs.{Turn, reference_answer, IsRight, EventFits}
 use Rattle.ctt_core.specs.Desks.{DeskValue, SameDesk}
 use Rattle.ctt_core.specs.Laws.{Stands}
 use Rattle.ctt_script.specs.Entries.{AnswerFits}
-use Rattle.ctt_script.specs.AnswerText.{answer_words, bad_line, answered, answers_after, run_after}
+use Rattle.ctt_script.specs.AnswerText.{answer_words, bad_line, next_turn, answers_after, run_after}
 use Rattle.ctt_files.specs.Output.{WritesOut, AppendsFront}
-use Rattle.ctt_script.specs.Answering.{IsAtRun, Answered, Answering, Wrote, WroteFront}
+use Rattle.ctt_script.specs.Answering.{IsAtRun, PlaysItems, Answering, Wrote, WroteFront}
 use Rattle.ctt_script.specs.ScriptText.{items_of}
 use Rattle.ctt_line.specs.Lines.{line}
 use Rattle.ctt_script.proofs.AnswersFit.{answer_fits}
@@ -24,11 +24,11 @@ use Rattle.ctt_script.proofs.ScriptLaws.{items_then}
 
 -- a desk that has answered an event
 module _ (v w : DeskValue) (event : Event) (answer : Answer) (same : SameDesk v w) (goes : (past : List Turn) → Stands v past → Stands w (record { event = event; answer = answer } ∷ past)) (given : answer ≡ NoMemory → ⊥) where
-  answer_is : (past : List Turn) → Stands v past → answer ≡ plain v.problem v.opening past event
+  answer_is : (past : List Turn) → Stands v past → answer ≡ reference_answer v.problem v.opening past event
   answer_is past stands = by (subst (λ i. IsRight i w.opening past event answer) same.problem (goes past stands).right.0)
     where
-      by : IsRight v.problem w.opening past event answer → answer ≡ plain v.problem v.opening past event
-      by (inl e) = e ∙ ap (λ t. plain v.problem t past event) same.opening
+      by : IsRight v.problem w.opening past event answer → answer ≡ reference_answer v.problem v.opening past event
+      by (inl e) = e ∙ ap (λ t. reference_answer v.problem t past event) same.opening
       by (inr m) = absurd (given m.0)
 
   -- the answer can be written
@@ -38,11 +38,11 @@ module _ (v w : DeskValue) (event : Event) (answer : Answer) (same : SameDesk v 
       subst (AnswerFits v.problem) (sym (answer_is at.0 stands)) (answer_fits v.problem is v.opening lawful (length v.drafts) at.0 event stands.fit stands.right (subst (λ k. EventFits v.problem k event) count fits))
 
   -- the desk has answered the event, and the text has grown by a line
-  pub event_answered : (old new : List ℕ) → new ≡ old ++ line (answer_words v.problem answer) → Answered v w old new (Some event ∷ [])
+  pub event_answered : (old new : List ℕ) → new ≡ old ++ line (answer_words v.problem answer) → PlaysItems v w old new (Some event ∷ [])
   event_answered old new e = record {
     same = same;
     goes_on = λ past stands. subst (λ a. Stands w (record { event = event; answer = a } ∷ past)) (answer_is past stands) (goes past stands);
-    grown = λ past stands. e ∙ ap (λ a. old ++ line (answer_words v.problem a)) (answer_is past stands) ∙ ap (λ bs. old ++ bs) (sym (append-nil (line (answer_words v.problem (plain v.problem v.opening past event)))));
+    grown = λ past stands. e ∙ ap (λ a. old ++ line (answer_words v.problem a)) (answer_is past stands) ∙ ap (λ bs. old ++ bs) (sym (append-nil (line (answer_words v.problem (reference_answer v.problem v.opening past event)))));
   }
 
 -- the answers to items, and to items after them
@@ -50,14 +50,14 @@ pub answers_join : (i : Problem) (t0 : List Placed) (past : List Turn) (xs ys : 
 answers_join i t0 past [] ys = refl
 answers_join i t0 past (None ∷ xs) ys = ap (λ bs. bad_line ++ bs) (answers_join i t0 past xs ys) ∙ sym (append_assoc bad_line (answers_after i t0 past xs) (answers_after i t0 (run_after i t0 past xs) ys))
 answers_join i t0 past (Some e ∷ xs) ys =
-    let next : List Turn = answered i t0 past e ∷ past in
-    let first : List ℕ = line (answer_words i (plain i t0 past e)) in
+    let next : List Turn = next_turn i t0 past e ∷ past in
+    let first : List ℕ = line (answer_words i (reference_answer i t0 past e)) in
     ap (λ bs. first ++ bs) (answers_join i t0 next xs ys) ∙ sym (append_assoc first (answers_after i t0 next xs) (answers_after i t0 (run_after i t0 next xs) ys))
 
 pub runs_join : (i : Problem) (t0 : List Placed) (past : List Turn) (xs ys : List (Option Event)) → run_after i t0 past (xs ++ ys) ≡ run_after i t0 (run_after i t0 past xs) ys
 runs_join i t0 past [] ys = refl
 runs_join i t0 past (None ∷ xs) ys = runs_join i t0 past xs ys
-runs_join i t0 past (Some e ∷ xs) ys = runs_join i t0 (answered i t0 past e ∷ past) xs ys
+runs_join i t0 past (Some e ∷ xs) ys = runs_join i t0 (next_turn i t0 past e ∷ past) xs ys
 
 same_desk : (v : DeskValue) → SameDesk v v
 same_desk v = record { problem = refl; opening = refl; planners = refl }
@@ -66,11 +66,11 @@ same_on : (v w u : DeskValue) → SameDesk v w → SameDesk w u → SameDesk v u
 same_on v w u h k = record { problem = k.problem ∙ h.problem; opening = k.opening ∙ h.opening; planners = k.planners ∙ h.planners }
 
 -- no item
-pub none_answered : (v : DeskValue) (old : List ℕ) → Answered v v old old []
+pub none_answered : (v : DeskValue) (old : List ℕ) → PlaysItems v v old old []
 none_answered v old = record { same = same_desk v; goes_on = λ past stands. stands; grown = λ past stands. sym (append-nil old) }
 
 -- items, and items after them
-pub answered_on : (v w u : DeskValue) (a b c : List ℕ) (xs ys : List (Option Event)) → Answered v w a b xs → Answered w u b c ys → Answered v u a c (xs ++ ys)
+pub answered_on : (v w u : DeskValue) (a b c : List ℕ) (xs ys : List (Option Event)) → PlaysItems v w a b xs → PlaysItems w u b c ys → PlaysItems v u a c (xs ++ ys)
 answered_on v w u a b c xs ys h k = record {
   same = same_on v w u h.same k.same;
   goes_on = λ past stands.
@@ -89,11 +89,11 @@ answered_on v w u a b c xs ys h k = record {
     says next = ap (λ i. answers_after i w.opening next ys) h.same.problem ∙ ap (λ t. answers_after v.problem t next ys) h.same.opening
 
 -- a desk that was at a run and has answered items is at a run
-pub at_run : (v w : DeskValue) (old new : List ℕ) (items : List (Option Event)) → IsAtRun v → Answered v w old new items → IsAtRun w
+pub at_run : (v w : DeskValue) (old new : List ℕ) (items : List (Option Event)) → IsAtRun v → PlaysItems v w old new items → IsAtRun w
 at_run v w old new items at h = (run_after v.problem v.opening at.0 items, h.goes_on at.0 at.1)
 
 -- the same after another text
-pub answered_behind : (v w : DeskValue) (front old new : List ℕ) (items : List (Option Event)) → Answered v w old new items → Answered v w (front ++ old) (front ++ new) items
+pub answered_behind : (v w : DeskValue) (front old new : List ℕ) (items : List (Option Event)) → PlaysItems v w old new items → PlaysItems v w (front ++ old) (front ++ new) items
 answered_behind v w front old new items h = record {
   same = h.same;
   goes_on = h.goes_on;
@@ -107,12 +107,12 @@ module _ (v : DeskValue) (all : List (List ℕ)) (before : Option (List ℕ)) wh
     done = [];
     written = [];
     lines = refl;
-    answered = subst (λ bs. Answered v v [] bs []) (sym e) (none_answered v []);
+    answered = subst (λ bs. PlaysItems v v [] bs []) (sym e) (none_answered v []);
     taken = Appends-nil before;
   }
 
   -- one more line was answered
-  pub one_more_line : (w u : DeskValue) (taken : Option (List ℕ)) (line : List ℕ) (left rest : List (List ℕ)) (kept grown : List ℕ) → left ≡ line ∷ rest → Answering v w all left before taken kept → Answered w u kept grown (items_of v.problem (line ∷ [])) → Answering v u all rest before taken grown
+  pub one_more_line : (w u : DeskValue) (taken : Option (List ℕ)) (line : List ℕ) (left rest : List (List ℕ)) (kept grown : List ℕ) → left ≡ line ∷ rest → Answering v w all left before taken kept → PlaysItems w u kept grown (items_of v.problem (line ∷ [])) → Answering v u all rest before taken grown
   one_more_line w u taken line left rest kept grown e h k = record {
     done = h.done ++ items_of v.problem (line ∷ []);
     written = h.written;
@@ -128,7 +128,7 @@ module _ (v : DeskValue) (all : List (List ℕ)) (before : Option (List ℕ)) wh
       done = h.done;
       written = h.written ++ k.prefix;
       lines = h.lines;
-      answered = subst (λ bs. Answered v w [] bs h.done) (ap (λ bs. h.written ++ bs) k.all ∙ sym (append_assoc h.written k.prefix rest)) h.answered;
+      answered = subst (λ bs. PlaysItems v w [] bs h.done) (ap (λ bs. h.written ++ bs) k.all ∙ sym (append_assoc h.written k.prefix rest)) h.answered;
       taken = Appends-trans before taken later h.written k.prefix h.taken k.taken;
     }
 
@@ -153,7 +153,7 @@ module _ (v : DeskValue) (all : List (List ℕ)) (before : Option (List ℕ)) wh
   all_written w left taken later kept none h k = record {
     text = h.written ++ kept;
     taken = Appends-trans before taken later h.written kept h.taken k;
-    answered = subst (λ items. Answered v w [] (h.written ++ kept) items) (sym (h.lines ∙ ap (λ ls. h.done ++ items_of v.problem ls) none ∙ append-nil h.done)) h.answered;
+    answered = subst (λ items. PlaysItems v w [] (h.written ++ kept) items) (sym (h.lines ∙ ap (λ ls. h.done ++ items_of v.problem ls) none ∙ append-nil h.done)) h.answered;
   }
 
   -- the desk is at a run, and belongs to the instance

@@ -30,7 +30,7 @@ use Rattle.ctt_script.specs.declared.kinds.CallKind.{CallKind}
 use Rattle.ctt_script.specs.declared.kinds.CallKind.TheVariants as kind
 use Rattle.ctt_script.specs.Amounts.{number_below}
 use Rattle.ctt_script.specs.JournalWords.{word, label}
-use Rattle.ctt_script.specs.CallPlaces.{course, room, teacher, curriculum, slot, edit_after, edit_form, any_or, room_choice, slot_after, slot_choice, pattern_after, pattern_form, any_slot, slot_pattern_after, slot_pattern_form, look_after, look_form, call_after, call_form}
+use Rattle.ctt_script.specs.Calls.{course_form, room_form, teacher, curriculum_form, slot, edit_after, edit_form, any_or, room_choice, slot_after, slot_choice, pattern_after, pattern_form, any_slot, anywhere_after, anywhere_form, look_after, look_form, call_after, call_form}
 use Rattle.ctt_text.proofs.FormLaws.{Yields, yields_done, yields_bind}
 use Rattle.ctt_text.proofs.PlaceLaws.{yields_word}
 
@@ -82,20 +82,20 @@ below_choice limit w o h = by (bytes_eq w (codes "*")) (number_below limit w) re
     by false (Some n) k h = let same : Some n ≡ o = cc in subst (FitsIfGiven limit) same (is_below limit w n k)
 
 module _ (i : Problem) (is : IsProblem i) where
-  pub yields_course : Yields (λ c. c < course_count i) (course i)
-  unfolding course known_name
+  pub yields_course : Yields (λ c. c < course_count i) (course_form i)
+  unfolding course_form known_name
   yields_course = yields_meaning _ _ 0 (λ w c h. subst (λ n. c < n) is.courses_named (name_below i.course_names w c h))
 
-  pub yields_room : Yields (λ r. r < room_count i) (room i)
-  unfolding room known_name
+  pub yields_room : Yields (λ r. r < room_count i) (room_form i)
+  unfolding room_form known_name
   yields_room = yields_meaning _ _ 0 (λ w r h. subst (λ n. r < n) is.rooms_named (name_below i.room_names w r h))
 
   pub yields_teacher : Yields (λ h. h < teacher_count i) (teacher i)
   unfolding teacher known_name
   yields_teacher = yields_meaning _ _ 0 (λ w n h. name_below i.teacher_names w n h)
 
-  pub yields_curriculum : Yields (λ q. q < curriculum_count i) (curriculum i)
-  unfolding curriculum known_name
+  pub yields_curriculum : Yields (λ q. q < curriculum_count i) (curriculum_form i)
+  unfolding curriculum_form known_name
   yields_curriculum = yields_meaning _ _ 0 (λ w q h. subst (λ n. q < n) is.curricula_named (name_below i.curriculum_names w q h))
 
   pub yields_below : (limit : ℕ) → Yields (λ n. n < limit) (word (number_below limit) 0)
@@ -183,8 +183,8 @@ module _ (i : Problem) (is : IsProblem i) where
   abbrev pub SlotPatternFits : SlotPattern → Type 0
   SlotPatternFits p = PatternFits i (pattern_of p)
 
-  yields_slot_pattern_after : (k : SlotPatternKind) → Yields SlotPatternFits (slot_pattern_after i k)
-  unfolding slot_pattern_after
+  yields_slot_pattern_after : (k : SlotPatternKind) → Yields SlotPatternFits (anywhere_after i k)
+  unfolding anywhere_after
   yields_slot_pattern_after to_any.Place =
       yields_bind _ SlotPatternFits _ _ yields_course (λ c fc. yields_bind _ SlotPatternFits _ _ yields_room_choice (λ r fr. yields_bind (λ _. Unit {0}) SlotPatternFits _ _ yields_any_slot (λ star t.
       yields_done JournalFault SlotPatternFits _ (fc, tt, fr))))
@@ -196,8 +196,8 @@ module _ (i : Problem) (is : IsProblem i) where
       yields_bind (λ _. Unit {0}) SlotPatternFits _ _ (yields_label (codes "*")) (λ x t. yields_bind (λ _. Unit {0}) SlotPatternFits _ _ yields_any_slot (λ star u.
       yields_done JournalFault SlotPatternFits _ (fc, fs)))))
 
-  yields_slot_pattern : Yields SlotPatternFits (slot_pattern_form i)
-  unfolding slot_pattern_form
+  yields_slot_pattern : Yields SlotPatternFits (anywhere_form i)
+  unfolding anywhere_form
   yields_slot_pattern = yields_bind _ SlotPatternFits _ _ (yields_any _ _) (λ k t. yields_slot_pattern_after k)
 
   pub yields_look_after : (k : LookKind) → Yields (LookFits i) (look_after i k)

@@ -21,10 +21,10 @@ use Rattle.ctt_draft.specs.declared.asked.Asked.{Asked}
 use Rattle.ctt_core.specs.declared.journal.JournalEntry.{JournalEntry}
 use Rattle.ctt_edits.specs.Fitting.{FaultFits, IsAmount, AreFew, IsShortReply, IsReply, ShortfallFits, PricedFits, OfferFits}
 use Rattle.ctt_draft.specs.Drafts.{AskedFits}
-use Rattle.ctt_script.specs.Entries.{IsAsked, IsEntry}
+use Rattle.ctt_script.specs.Entries.{IsAsked, CanBeWritten}
 use Rattle.ctt_script.specs.JournalWords.{label, mark_or}
-use Rattle.ctt_script.specs.ReplyPlaces.{fault_after, fault_form, lecture, lectures, count, amount, costs, reply_after, reply_form, shortfall, shortfalls, priced, priced_edits, refusal_after, refusal, offer_after, offer_form, offers}
-use Rattle.ctt_script.specs.JournalPlaces.{asked_form, entry_form, journal_form}
+use Rattle.ctt_script.specs.Replies.{fault_after, fault_form, lecture, lectures, count, amount_form, costs_form, reply_after, reply_form, shortfall_form, shortfalls, priced_form, priced_edits, refusal_after, refusal, offer_after, offer_form, offers_form}
+use Rattle.ctt_script.specs.Journals.{asked_form, entry_form, journal_form}
 use Rattle.ctt_text.proofs.FormLaws.{Yields, yields_done, yields_bind, yields_list}
 use Rattle.ctt_script.proofs.CallLemmas.{when, yields_meaning, yields_any, yields_course, yields_room, yields_slot, yields_below, yields_call, yields_edit}
 
@@ -70,8 +70,8 @@ price_choice w o h = by (bytes_eq w (codes "-")) (price_of w) refl h
     by false None k h = cc
     by false (Some p) k h = let same : Some p ≡ o = cc in subst IsAmountIfGiven same (price_small w p k)
 
-yields_amount : Yields IsAmount amount
-unfolding amount
+yields_amount : Yields IsAmount amount_form
+unfolding amount_form
 yields_amount = yields_meaning IsAmount amount_of 0 (λ w n h. amount_small w n h)
 
 yields_count : Yields (λ n. n ≤ 999999999) count
@@ -87,8 +87,8 @@ yields_label text = yields_any _ _
 abbrev CostFits : Cost → Type 0
 CostFits c = IsAmount c.capacity × IsAmount c.days × IsAmount c.compactness × IsAmount c.stability
 
-yields_costs : Yields CostFits costs
-unfolding costs
+yields_costs : Yields CostFits costs_form
+unfolding costs_form
 yields_costs =
     yields_bind IsAmount CostFits _ _ yields_amount (λ a fa. yields_bind IsAmount CostFits _ _ yields_amount (λ b fb.
     yields_bind IsAmount CostFits _ _ yields_amount (λ c fc. yields_bind IsAmount CostFits _ _ yields_amount (λ d fd.
@@ -124,18 +124,18 @@ module _ (i : Problem) (is : IsProblem i) where
       let r = yields_list (lecture i) (Fits i) yields_lecture n words ls fills in
       (r.0, subst (λ k. k ≤ 999999999) (sym r.1) few))
 
-  yields_shortfall : Yields (ShortfallFits i) (shortfall i)
-  unfolding shortfall
+  yields_shortfall : Yields (ShortfallFits i) (shortfall_form i)
+  unfolding shortfall_form
   yields_shortfall = yields_bind _ (ShortfallFits i) _ _ (yields_course i is) (λ c fc. yields_bind _ (ShortfallFits i) _ _ yields_count (λ n few. yields_done JournalFault (ShortfallFits i) _ (fc, few)))
 
   yields_shortfalls : Yields (λ xs. Each (ShortfallFits i) xs × AreFew xs) (shortfalls i)
   unfolding shortfalls
   yields_shortfalls = yields_bind _ (λ xs. Each (ShortfallFits i) xs × AreFew xs) _ _ yields_count (λ n few words xs fills.
-      let r = yields_list (shortfall i) (ShortfallFits i) yields_shortfall n words xs fills in
+      let r = yields_list (shortfall_form i) (ShortfallFits i) yields_shortfall n words xs fills in
       (r.0, subst (λ k. k ≤ 999999999) (sym r.1) few))
 
-  yields_priced : Yields (PricedFits i) (priced i)
-  unfolding priced
+  yields_priced : Yields (PricedFits i) (priced_form i)
+  unfolding priced_form
   yields_priced =
       yields_bind _ (PricedFits i) _ _ (yields_meaning (λ p. IsAmount (unsigned_abs p)) price_of (pos 0) (λ w p h. price_small w p h)) (λ p fp. yields_bind _ (PricedFits i) _ _ (yields_edit i is) (λ e fe.
       yields_done JournalFault (PricedFits i) _ (fe, fp)))
@@ -143,7 +143,7 @@ module _ (i : Problem) (is : IsProblem i) where
   yields_priced_edits : Yields (λ xs. Each (PricedFits i) xs × AreFew xs) (priced_edits i)
   unfolding priced_edits
   yields_priced_edits = yields_bind _ (λ xs. Each (PricedFits i) xs × AreFew xs) _ _ yields_count (λ n few words xs fills.
-      let r = yields_list (priced i) (PricedFits i) yields_priced n words xs fills in
+      let r = yields_list (priced_form i) (PricedFits i) yields_priced n words xs fills in
       (r.0, subst (λ k. k ≤ 999999999) (sym r.1) few))
 
   -- what a slot offers
@@ -165,8 +165,8 @@ module _ (i : Problem) (is : IsProblem i) where
   unfolding offer_form
   yields_offer = yields_bind _ (OfferFits i) _ _ (yields_meaning IsAmountIfGiven (mark_or (codes "-") price_of) None (λ w o h. price_choice w o h)) (λ o f. yields_offer_after o f)
 
-  yields_offers : Yields (λ xs. Each (OfferFits i) xs × AreFew xs) (offers i)
-  unfolding offers
+  yields_offers : Yields (λ xs. Each (OfferFits i) xs × AreFew xs) (offers_form i)
+  unfolding offers_form
   yields_offers = yields_bind _ (λ xs. Each (OfferFits i) xs × AreFew xs) _ _ yields_count (λ n few words xs fills.
       let r = yields_list (offer_form i) (OfferFits i) yields_offer n words xs fills in
       (r.0, subst (λ k. k ≤ 999999999) (sym r.1) few))
@@ -196,19 +196,19 @@ module _ (i : Problem) (is : IsProblem i) where
   all_short : (ss : List Asked) → Each (IsAsked i) ss → Each (λ s. IsShortReply s.reply) ss
   all_short ss each = Each-map (IsAsked i) (λ s. IsShortReply s.reply) (λ s f. f.1) ss each
 
-  pub yields_entry : Yields (IsEntry i) (entry_form i)
+  pub yields_entry : Yields (CanBeWritten i) (entry_form i)
   unfolding entry_form
   yields_entry =
-      yields_bind _ (IsEntry i) _ _ (yields_label _) (λ start t. yields_bind _ (IsEntry i) _ _ (yields_below i is 1000) (λ p fp. yields_bind _ (IsEntry i) _ _ yields_count (λ n few.
-      yields_bind _ (IsEntry i) _ _ (yields_list (asked_form i) (IsAsked i) yields_asked n) (λ asked f. yields_done JournalFault (IsEntry i) _ ((fp, all_fit asked f.0), (subst (λ k. k ≤ 999999999) (sym f.1) few, all_short asked f.0))))))
+      yields_bind _ (CanBeWritten i) _ _ (yields_label _) (λ start t. yields_bind _ (CanBeWritten i) _ _ (yields_below i is 1000) (λ p fp. yields_bind _ (CanBeWritten i) _ _ yields_count (λ n few.
+      yields_bind _ (CanBeWritten i) _ _ (yields_list (asked_form i) (IsAsked i) yields_asked n) (λ asked f. yields_done JournalFault (CanBeWritten i) _ ((fp, all_fit asked f.0), (subst (λ k. k ≤ 999999999) (sym f.1) few, all_short asked f.0))))))
 
   -- entries that can be written
   abbrev pub AreEntries : List JournalEntry → Type 0
-  AreEntries es = Each (IsEntry i) es × AreFew es
+  AreEntries es = Each (CanBeWritten i) es × AreFew es
 
   pub yields_journal : Yields AreEntries (journal_form i)
   unfolding journal_form
   yields_journal =
       yields_bind _ AreEntries _ _ (yields_label _) (λ start t. yields_bind _ AreEntries _ _ yields_count (λ n few.
-      yields_bind _ AreEntries _ _ (yields_list (entry_form i) (IsEntry i) yields_entry n) (λ es f.
+      yields_bind _ AreEntries _ _ (yields_list (entry_form i) (CanBeWritten i) yields_entry n) (λ es f.
       yields_bind _ AreEntries _ _ (yields_label _) (λ end v. yields_done JournalFault AreEntries es (f.0, subst (λ k. k ≤ 999999999) (sym f.1) few)))))

@@ -17,9 +17,9 @@ use Rattle.ctt_script.specs.declared.script.Start.TheVariants as begin
 use Rattle.ctt_script.specs.declared.script.OwnStart.{OwnStart}
 use Rattle.ctt_script.specs.declared.script.OwnStart.TheVariants as own
 use Rattle.ctt_script.specs.Amounts.{number_below}
-use Rattle.ctt_script.specs.CallPlaces.{look_form}
-use Rattle.ctt_script.specs.ScriptPlaces.{first_of, step_after, event_after, event_form, own_after, own_form}
-use Rattle.ctt_script.specs.JournalWords.{missing}
+use Rattle.ctt_script.specs.Calls.{look_form}
+use Rattle.ctt_script.specs.Events.{first_of, step_after, event_after, event_form, own_after, own_form}
+use Rattle.ctt_script.specs.JournalWords.{missing_word}
 use Rattle.ctt_script.specs.ScriptText.{item_by, item, own_event, own_item}
 use Rattle.ctt_text.proofs.FormLaws.{Yields, yields_done, yields_bind}
 use Rattle.ctt_script.proofs.CallLemmas.{is_below, yields_meaning, yields_any, yields_call_after, yields_look}
@@ -84,5 +84,5 @@ module _ (i : Problem) (is : IsProblem i) where
 
   -- an event in one planner's own script fits the instance and the number of planners
   pub own_event_fits : (n p : ℕ) → p < n → (ws : List (List ℕ)) (r : Result Event ℕ) → r ≡ own_event i p ws → IfOk r (EventFits i n)
-  own_event_fits n p lt ws (Ok e) h = yields_own n p lt ws e (asked_fills (own_form i p) ws e (word_or_none e (read missing (own_form i p) ws 1) (sym h)))
+  own_event_fits n p lt ws (Ok e) h = yields_own n p lt ws e (asked_fills (own_form i p) ws e (word_or_none e (read missing_word (own_form i p) ws 1) (sym h)))
   own_event_fits n p lt ws (Err k) h = tt

@@ -33,3 +33,5 @@ same_all k xs ys same len le =
     let whole_ys : take k ys ≡ ys = grind (arith, common_steps, le) in
     let all : xs ≡ ys = sym whole_xs ∙ same ∙ whole_ys in
     sym (rw all (same_bytes ys))
+
+pub ruleset compared = (other_length, other_at, same_all, same_more)

@@ -19,9 +19,9 @@ use Rattle.ctt_text.specs.Places.{one, known}
 use Rattle.ctt_text.proofs.FormLaws.{read_fills}
 use Rattle.ctt_script.specs.declared.journal_fault.JournalFault.{JournalFault}
 use Rattle.ctt_core.specs.declared.event.Event.{Event}
-use Rattle.ctt_script.specs.JournalWords.{missing, reads}
-use Rattle.ctt_script.specs.ScriptPlaces.{event_form, own_form}
-use Rattle.ctt_script.specs.ScriptText.{whole, whole_or_word, or_left, if_none_left, asked_by, item_by, item, own_item, has_words, lines_of, items_of}
+use Rattle.ctt_script.specs.JournalWords.{missing_word, parses}
+use Rattle.ctt_script.specs.Events.{event_form, own_form}
+use Rattle.ctt_script.specs.ScriptText.{all_parsed, whole_or_word, or_left, if_none_left, asked_by, item_by, item, own_item, has_words, lines_of, items_of}
 
 -- what was parsed to the end has nothing left
 abbrev IsWhole : {A : Type 0} → A → Result (A × Left) JournalFault → Type 0
@@ -33,7 +33,7 @@ whole_by a b left [] e h =
     (left, ap (λ q. Ok (q, left)) same, e)
 whole_by a b left (w ∷ ws) e h = cc
 
-whole_is : {A : Type 0} (a : A) (r : Result (A × Left) JournalFault) → whole r ≡ Some a → IsWhole a r
+whole_is : {A : Type 0} (a : A) (r : Result (A × Left) JournalFault) → all_parsed r ≡ Some a → IsWhole a r
 whole_is a (Ok x) h = whole_by a x.0 x.1 x.1.words refl h
 whole_is a (Err e) h = cc
 
@@ -42,15 +42,15 @@ or_left_is a b [] n h = let same : b ≡ a = cc in ap Some same
 or_left_is a b (w ∷ ws) n h = cc
 
 -- a full parse is the same with the number of the first word that is not allowed and without
-pub word_or_none : {A : Type 0} (a : A) (r : Result (A × Left) JournalFault) → whole_or_word r ≡ Ok a → whole r ≡ Some a
+pub word_or_none : {A : Type 0} (a : A) (r : Result (A × Left) JournalFault) → whole_or_word r ≡ Ok a → all_parsed r ≡ Some a
 word_or_none a (Ok x) h = or_left_is a x.0 x.1.words x.1.next h
 word_or_none a (Err e) h = cc
 
 -- words are an event if and only if they match the grammar with it
 pub asked_fills : (form : Form JournalFault Event) (ws : List (List ℕ)) (e : Event) → asked_by form ws ≡ Some e → Fills form ws e
 asked_fills form ws e h =
-    let w = whole_is e (read missing form ws 1) h in
-    let r = read_fills missing form ws 1 (e, w.0) w.1 in
+    let w = whole_is e (read missing_word form ws 1) h in
+    let r = read_fills missing_word form ws 1 (e, w.0) w.1 in
     subst (λ q. Fills form q e) (sym (r.all ∙ ap (λ q. r.front ++ q) w.2 ∙ append-nil r.front)) r.fills
 
 -- the event of a line matches the grammar
@@ -70,10 +70,10 @@ bad_text form line not = by (is_utf8 line) refl
     by false e = refl
 
 -- a UTF-8 line is the event of its words
-pub text_asks : (form : Form JournalFault Event) (line text : List ℕ) (left : Left) (o : Option Event) → IsUtf8 line → text ≡ line → left ≡ record { words = words text; next = 1 } → o ≡ whole (reads form left) → o ≡ item_by form line
+pub text_asks : (form : Form JournalFault Event) (line text : List ℕ) (left : Left) (o : Option Event) → IsUtf8 line → text ≡ line → left ≡ record { words = words text; next = 1 } → o ≡ all_parsed (parses form left) → o ≡ item_by form line
 text_asks form line text left o utf8 same all is =
     let start : left ≡ record { words = words line; next = 1 } = all ∙ ap (λ bs. record { words = words bs; next = 1 }) same in
-    rw (is_utf8-from_IsUtf8 line utf8) (is ∙ ap (λ l. whole (reads form l)) start)
+    rw (is_utf8-from_IsUtf8 line utf8) (is ∙ ap (λ l. all_parsed (parses form l)) start)
 
 -- a line that is an event has words, if the empty list of words is not an event
 asks_words : (form : Form JournalFault Event) → asked_by form [] ≡ None → (line : List ℕ) (e : Event) → item_by form line ≡ Some e → has_words line ≡ true
@@ -152,3 +152,5 @@ pub only_line : (text : List ℕ) → position (λ b. b == 10) text ≡ None →
 only_line text h =
     let none = position_none ends_line text h in
     slice_split_none ends_line text (λ k e m. let at = fails_before_first ends_line text k e in grind (arith, common_steps, none, at))
+
+pub ruleset first_or_only = (first_line, only_line)

@@ -14,11 +14,11 @@ use Rattle.ctt_core.specs.declared.event.Event.{Event}
 use Rattle.ctt_core.specs.Runs.{Turn, RunFits, Right, accepted_of}
 use Rattle.ctt_core.specs.Desks.{DeskValue}
 use Rattle.ctt_core.specs.Laws.{Stands}
-use Rattle.ctt_script.specs.AnswerText.{answered, answers_after, run_after, answer_text, script_run}
+use Rattle.ctt_script.specs.AnswerText.{next_turn, answers_after, run_after, answer_text, script_run}
 use Rattle.ctt_script.specs.Answering.{Wrote, WroteFront}
 use Rattle.ctt_edits.specs.Fitting.{AreFew}
 use Rattle.ctt_core.specs.Entries.{EntryFits}
-use Rattle.ctt_script.specs.Entries.{IsShort, IsEntry, IsWritable}
+use Rattle.ctt_script.specs.Entries.{IsShort, CanBeWritten, IsWritable}
 use Rattle.ctt_files.specs.Output.{AppendsFront}
 use Rattle.ctt_script.specs.ScriptText.{script, lines_of, item, has_words}
 use Rattle.ctt_script.proofs.AnswersFit.{journal_is}
@@ -28,7 +28,7 @@ use Rattle.ctt_board.proofs.LawfulLemmas.{length-filter_le}
 run_length : (i : Problem) (t0 : List Placed) (past : List Turn) (items : List (Option Event)) → length (run_after i t0 past items) ≤ length past + length items
 run_length i t0 past [] = omega arith
 run_length i t0 past (None ∷ items) = omega (arith, run_length i t0 past items)
-run_length i t0 past (Some e ∷ items) = omega (arith, run_length i t0 (answered i t0 past e ∷ past) items)
+run_length i t0 past (Some e ∷ items) = omega (arith, run_length i t0 (next_turn i t0 past e ∷ past) items)
 
 -- a text has at most one item more than it has bytes
 few_items : (i : Problem) (text : List ℕ) → length (script i text) ≤ length text + 1
@@ -85,9 +85,9 @@ journal_can v w i read text before after is same lawful planners stands whole h 
     let fit : RunFits i 64 past = subst (λ n. RunFits i n past) count (subst (λ j. RunFits j (length w.drafts) past) problem at.fit) in
     let right : Right i v.opening past = subst (λ t. Right i t past) h.answered.same.opening (subst (λ j. Right j w.opening past) problem at.right) in
     let few : length past ≤ 999999999 = omega (arith, run_length v.problem v.opening [] (script i text), few_items i text, ap length whole, short) in
-    let entries : Each (IsEntry i) (accepted_of past) × AreFew (accepted_of past) = journal_is i v.opening 64 past is (subst (λ j. Lawful j v.opening) same lawful) fit right (omega arith) few in
+    let entries : Each (CanBeWritten i) (accepted_of past) × AreFew (accepted_of past) = journal_is i v.opening 64 past is (subst (λ j. Lawful j v.opening) same lawful) fit right (omega arith) few in
     subst (IsWritable i) (sym at.at.journal) (record {
-      fit = Each-map (IsEntry i) (EntryFits i) (λ e f. f.0) (accepted_of past) entries.0;
+      fit = Each-map (CanBeWritten i) (EntryFits i) (λ e f. f.0) (accepted_of past) entries.0;
       few = entries.1;
-      short = Each-map (IsEntry i) IsShort (λ e f. f.1) (accepted_of past) entries.0;
+      short = Each-map (CanBeWritten i) IsShort (λ e f. f.1) (accepted_of past) entries.0;
     })

@@ -43,8 +43,8 @@ use Rattle.ctt_script.specs.Amounts.{amount_of, price_of, negated, number_below}
 use Rattle.ctt_script.specs.Kinds.{edit_kind, pattern_kind, slot_pattern_kind, look_kind, call_kind}
 use Rattle.ctt_edits.specs.Fitting.{IsAmount}
 use Rattle.ctt_script.specs.JournalWords.{word, mark_or, label}
-use Rattle.ctt_script.specs.CallPlaces.{course, room, teacher, curriculum, slot, edit_after, edit_form, any_or, room_choice, slot_after, slot_choice, pattern_after, pattern_form, any_slot, slot_pattern_after, slot_pattern_form, look_after, look_form, call_after, call_form}
-use Rattle.ctt_script.specs.ReplyPlaces.{count, amount}
+use Rattle.ctt_script.specs.Calls.{course_form, room_form, teacher, curriculum_form, slot, edit_after, edit_form, any_or, room_choice, slot_after, slot_choice, pattern_after, pattern_form, any_slot, anywhere_after, anywhere_form, look_after, look_form, call_after, call_form}
+use Rattle.ctt_script.specs.Replies.{count, amount_form}
 use Rattle.ctt_script.specs.WrittenWords.{course_word, room_word, day_word, period_word, edit_words, room_choice_word, day_choice_word, period_choice_word, pattern_words, look_words, call_words}
 use Rattle.ctt_text.proofs.PlaceLaws.{then_fills}
 use Rattle.ctt_problem.proofs.ListLaws.{bytes_sound}
@@ -95,8 +95,8 @@ pub count_then : {B : Type 0} (g : ℕ → Form JournalFault B) (n : ℕ) (ws : 
 unfolding count number
 count_then g n ws b h k = word_then number_of 0 g (decimal n) ws n b (count_says n h) k
 
-pub amount_then : {B : Type 0} (g : ℕ → Form JournalFault B) (n : ℕ) (ws : List (List ℕ)) (b : B) → IsAmount n → Fills (g n) ws b → Fills (amount >>= g) (decimal n ∷ ws) b
-unfolding amount
+pub amount_then : {B : Type 0} (g : ℕ → Form JournalFault B) (n : ℕ) (ws : List (List ℕ)) (b : B) → IsAmount n → Fills (g n) ws b → Fills (amount_form >>= g) (decimal n ∷ ws) b
+unfolding amount_form
 amount_then g n ws b h k = word_then amount_of 0 g (decimal n) ws n b (amount_says n h) k
 
 -- a grammar, and what is made of its value
@@ -131,20 +131,20 @@ module _ (i : Problem) (is : IsProblem i) (named : IsNamed i) where
     room_choice_then g None ws b f k = word_then (any_or (number_in i.room_names)) None g (codes "*") ws None b refl k
     room_choice_then g (Some r) ws b f k = word_then (any_or (number_in i.room_names)) None g (room_word i r) ws (Some r) b (not_mark (codes "*") (number_in i.room_names) (room_word i r) r f.1 (name_says i.room_names r named.rooms.0 (subst (λ n. r < n) (sym is.rooms_named) f.0))) k
 
-    pub course_then : (g : ℕ → Form JournalFault B) (c : ℕ) (ws : List (List ℕ)) (b : B) → c < course_count i → Fills (g c) ws b → Fills (course i >>= g) (course_word i c ∷ ws) b
-    unfolding course known_name
+    pub course_then : (g : ℕ → Form JournalFault B) (c : ℕ) (ws : List (List ℕ)) (b : B) → c < course_count i → Fills (g c) ws b → Fills (course_form i >>= g) (course_word i c ∷ ws) b
+    unfolding course_form known_name
     course_then g c ws b lt k = word_then (number_in i.course_names) 0 g (course_word i c) ws c b (name_says i.course_names c named.courses.0 (subst (λ n. c < n) (sym is.courses_named) lt)) k
 
-    pub room_then : (g : ℕ → Form JournalFault B) (r : ℕ) (ws : List (List ℕ)) (b : B) → r < room_count i → Fills (g r) ws b → Fills (room i >>= g) (room_word i r ∷ ws) b
-    unfolding room known_name
+    pub room_then : (g : ℕ → Form JournalFault B) (r : ℕ) (ws : List (List ℕ)) (b : B) → r < room_count i → Fills (g r) ws b → Fills (room_form i >>= g) (room_word i r ∷ ws) b
+    unfolding room_form known_name
     room_then g r ws b lt k = word_then (number_in i.room_names) 0 g (room_word i r) ws r b (name_says i.room_names r named.rooms.0 (subst (λ n. r < n) (sym is.rooms_named) lt)) k
 
     teacher_then : (g : ℕ → Form JournalFault B) (h : ℕ) (ws : List (List ℕ)) (b : B) → h < teacher_count i → Fills (g h) ws b → Fills (teacher i >>= g) (slice_index_or i.teacher_names h [] ∷ ws) b
     unfolding teacher known_name
     teacher_then g h ws b lt k = word_then (number_in i.teacher_names) 0 g (slice_index_or i.teacher_names h []) ws h b (name_says i.teacher_names h named.teachers.0 lt) k
 
-    curriculum_then : (g : ℕ → Form JournalFault B) (q : ℕ) (ws : List (List ℕ)) (b : B) → q < curriculum_count i → Fills (g q) ws b → Fills (curriculum i >>= g) (slice_index_or i.curriculum_names q [] ∷ ws) b
-    unfolding curriculum known_name
+    curriculum_then : (g : ℕ → Form JournalFault B) (q : ℕ) (ws : List (List ℕ)) (b : B) → q < curriculum_count i → Fills (g q) ws b → Fills (curriculum_form i >>= g) (slice_index_or i.curriculum_names q [] ∷ ws) b
+    unfolding curriculum_form known_name
     curriculum_then g q ws b lt k = word_then (number_in i.curriculum_names) 0 g (slice_index_or i.curriculum_names q []) ws q b (name_says i.curriculum_names q named.curricula.0 (subst (λ n. q < n) (sym is.curricula_named) lt)) k
 
   slot_fills : (s : ℕ) → s < slot_count i → Fills (slot i) (day_word i s ∷ period_word i s ∷ []) s
@@ -188,8 +188,8 @@ module _ (i : Problem) (is : IsProblem i) (named : IsNamed i) where
   any_slot_then : {B : Type 0} (g : Unit {0} → Form JournalFault B) (ws : List (List ℕ)) (b : B) → Fills (g tt) ws b → Fills (any_slot >>= g) (codes "*" ∷ codes "*" ∷ ws) b
   any_slot_then g ws b k = fills_both any_slot g (codes "*" ∷ codes "*" ∷ []) ws tt b any_slot_fills k
 
-  slot_pattern_fills : (p : SlotPattern) → PatternFits i (pattern_of p) → Fills (slot_pattern_form i) (pattern_words i (pattern_of p)) p
-  unfolding slot_pattern_form slot_pattern_after slot_pattern_kind
+  slot_pattern_fills : (p : SlotPattern) → PatternFits i (pattern_of p) → Fills (anywhere_form i) (pattern_words i (pattern_of p)) p
+  unfolding anywhere_form anywhere_after slot_pattern_kind
   slot_pattern_fills (ToAnyPlace c r) f = word_then slot_pattern_kind _ _ _ _ _ _ refl (course_then _ c _ _ f.0 (room_choice_then _ r _ _ f.2 (any_slot_then _ [] _ refl)))
   slot_pattern_fills (ToAnyMove c s r) f = word_then slot_pattern_kind _ _ _ _ _ _ refl (course_then _ c _ _ f.0 (slot_then _ s _ _ f.1 (room_choice_then _ r _ _ f.3 (any_slot_then _ [] _ refl))))
   slot_pattern_fills (ToAnySwap c s) f = word_then slot_pattern_kind _ _ _ _ _ _ refl (course_then _ c _ _ f.0 (slot_then _ s _ _ f.1 (label_then (codes "*") _ _ _ refl (any_slot_then _ [] _ refl))))
@@ -205,7 +205,7 @@ module _ (i : Problem) (is : IsProblem i) (named : IsNamed i) where
   look_fills (Price e) f = word_then look_kind _ _ _ _ _ _ refl (fills_map (edit_form i) Price (edit_words i e) e (edit_fills e f))
   look_fills Missing f = word_then look_kind _ _ _ _ _ _ refl refl
   look_fills (Cheapest n p) f = word_then look_kind _ _ _ _ _ _ refl (word_then (number_below 1001) 0 _ (decimal n) _ n _ (below_says 1001 n (omega (arith, f.0)) (omega (arith, f.0))) (fills_map (pattern_form i) (λ q. Cheapest n q) (pattern_words i p) p (pattern_fills p f.1)))
-  look_fills (Slots p) f = word_then look_kind _ _ _ _ _ _ refl (fills_map (slot_pattern_form i) Slots (pattern_words i (pattern_of p)) p (slot_pattern_fills p f))
+  look_fills (Slots p) f = word_then look_kind _ _ _ _ _ _ refl (fills_map (anywhere_form i) Slots (pattern_words i (pattern_of p)) p (slot_pattern_fills p f))
 
   -- an edit or a look, as a call
   call_edit : (k : EditKind) (w : List ℕ) (ws : List (List ℕ)) (e : Edit) → edit_kind w ≡ Some k → call_kind w ≡ Some (kind.Edit k) → Fills (edit_form i) (w ∷ ws) e → Fills (call_form i) (w ∷ ws) (Edits e)

@@ -37,11 +37,11 @@ use Rattle.ctt_core.specs.declared.journal.JournalEntry.{JournalEntry}
 use Rattle.ctt_edits.specs.Fitting.{FaultFits, IsAmount, ShortfallFits, PricedFits, OfferFits, ReplyFits, AreFew, IsShortReply}
 use Rattle.ctt_draft.specs.Drafts.{AskedFits}
 use Rattle.ctt_core.specs.Entries.{EntryFits}
-use Rattle.ctt_script.specs.Entries.{IsShort, IsAsked, IsEntry}
+use Rattle.ctt_script.specs.Entries.{IsShort, IsAsked, CanBeWritten}
 use Rattle.ctt_script.specs.JournalText.{JournalSpells}
 use Rattle.ctt_script.specs.WrittenWords.{course_word, room_word, day_word, period_word, edit_words, room_choice_word, day_choice_word, period_choice_word, pattern_words, look_words, call_words, fault_words, lecture_words, shortfall_words, priced_words, offer_words, reply_words, asked_words, entry_words, journal_words}
 use Rattle.ctt_line.specs.Lines.{line, rest_of_line, words_part}
-use Rattle.ctt_script.specs.WrittenText.{asked_text, entry_text, journal_text}
+use Rattle.ctt_script.specs.WrittenText.{asked_text, entry_text, joined, journal_text}
 use Rattle.ctt_script.proofs.WrittenWords.{journal_fills}
 
 -- words, each of them
@@ -104,6 +104,44 @@ two_words a b us vs rest h k = ap (λ bs. words bs) (append_assoc a b rest) ∙ 
 rest_part : (ws vs : List (List ℕ)) → rest_of_line (ws ++ vs) ≡ words_part ws ++ rest_of_line vs
 rest_part [] vs = refl
 rest_part (w ∷ ws) vs = ap (λ x. 32 ∷ (w ++ x)) (rest_part ws vs) ∙ ap (λ x. 32 ∷ x) (sym (append_assoc w (words_part ws) (rest_of_line vs)))
+
+-- the end of a line is its words and a line feed
+pub rest_joined : (ws : List (List ℕ)) → rest_of_line ws ≡ words_part ws ++ codes "\n"
+rest_joined [] = refl
+rest_joined (w ∷ ws) = ap (λ x. 32 ∷ (w ++ x)) (rest_joined ws) ∙ ap (λ x. 32 ∷ x) (sym (append_assoc w (words_part ws) (codes "\n")))
+
+-- so is a whole line
+pub joined_line : (ws : List (List ℕ)) → line ws ≡ joined ws ++ codes "\n"
+joined_line [] = refl
+joined_line (w ∷ ws) = ap (λ x. w ++ x) (rest_joined ws) ∙ sym (append_assoc w (words_part ws) (codes "\n"))
+
+-- words after a blank
+pub edit_joined : (i : Problem) (e : Edit) → words_part (edit_words i e) ≡ codes " " ++ joined (edit_words i e)
+edit_joined i (Place c s r) = refl
+edit_joined i (Move c s s2 r) = refl
+edit_joined i (Swap c s d s2) = refl
+edit_joined i (Reroom c s r) = refl
+edit_joined i (Drop c s) = refl
+
+pub pattern_joined : (i : Problem) (p : Pattern) → words_part (pattern_words i p) ≡ codes " " ++ joined (pattern_words i p)
+pattern_joined i (AnyPlace c s r) = refl
+pattern_joined i (AnyMove c s s2 r) = refl
+pattern_joined i (AnySwap c s) = refl
+pattern_joined i (AnyReroom c s r) = refl
+
+pub fault_joined : (i : Problem) (f : EditFault) → words_part (fault_words i f) ≡ codes " " ++ joined (fault_words i f)
+fault_joined i NotPlaced = refl
+fault_joined i SameSlot = refl
+fault_joined i SameCourse = refl
+fault_joined i AlreadyThere = refl
+fault_joined i CourseFull = refl
+fault_joined i Unavailable = refl
+fault_joined i Barred = refl
+fault_joined i Blocked = refl
+fault_joined i (Clash c) = refl
+fault_joined i (RoomTaken c) = refl
+
+pub ruleset after_blank = (rest_joined, edit_joined, pattern_joined, fault_joined)
 
 -- the words of several at the end of a line
 pub parts_end : {X : Type 0} (f : X → List (List ℕ)) (xs : List X) → rest_of_line (flat_map f xs) ≡ flat_map (λ x. words_part (f x)) xs ++ codes "\n"
@@ -298,7 +336,7 @@ module _ (i : Problem) (is : IsProblem i) (named : IsNamed i) where
   asked_are [] f short = tt
   asked_are (s ∷ ss) f short = ((f.0, short.0), asked_are ss f.1 short.1)
 
-  pub entry_part : (e : JournalEntry) → IsEntry i e → (rest : List ℕ) → words (entry_text i e ++ rest) ≡ entry_words i e ++ words rest
+  pub entry_part : (e : JournalEntry) → CanBeWritten i e → (rest : List ℕ) → words (entry_text i e ++ rest) ≡ entry_words i e ++ words rest
   unfolding is_blank solid
   entry_part e f rest =
       let head : List (List ℕ) = codes "entry" ∷ decimal e.planner ∷ decimal (length e.asked) ∷ [] in
@@ -306,7 +344,7 @@ module _ (i : Problem) (is : IsProblem i) (named : IsNamed i) where
       (λ r. line_words (codes "entry") (decimal e.planner ∷ decimal (length e.asked) ∷ []) r (is_solid (codes "entry") refl, (count_word e.planner (omega (arith, f.0.0)), (count_word (length e.asked) f.1.0, tt))))
       (λ r. parts_words (IsAsked i) (asked_text i) (asked_words i) asked_part e.asked (asked_are e.asked f.0.1 f.1.1) r)
 
-  entries_are : (es : List JournalEntry) → Each (EntryFits i) es → Each IsShort es → Each (IsEntry i) es
+  entries_are : (es : List JournalEntry) → Each (EntryFits i) es → Each IsShort es → Each (CanBeWritten i) es
   entries_are [] f short = tt
   entries_are (e ∷ es) f short = ((f.0, short.0), entries_are es f.1 short.1)
 
@@ -319,7 +357,7 @@ module _ (i : Problem) (is : IsProblem i) (named : IsNamed i) where
       two_words (line head) (flat_map (entry_text i) es ++ line end) head (flat_map (entry_words i) es ++ end) rest
       (λ r. line_words (codes "journal") (decimal (length es) ∷ []) r (is_solid (codes "journal") refl, (count_word (length es) few, tt)))
       (λ r. two_words (flat_map (entry_text i) es) (line end) (flat_map (entry_words i) es) end r
-      (λ q. parts_words (IsEntry i) (entry_text i) (entry_words i) entry_part es (entries_are es f short) q)
+      (λ q. parts_words (CanBeWritten i) (entry_text i) (entry_words i) entry_part es (entries_are es f short) q)
       (λ q. line_words (codes "END.") [] q (is_solid (codes "END.") refl, tt)))
 
   -- parsing what is written returns the same entries, whatever follows it

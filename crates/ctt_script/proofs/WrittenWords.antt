@@ -27,11 +27,11 @@ use Rattle.ctt_core.specs.declared.journal.JournalEntry.{JournalEntry}
 use Rattle.ctt_edits.specs.Fitting.{FaultFits, ShortfallFits, PricedFits, OfferFits, ReplyFits, AreFew, IsShortReply}
 use Rattle.ctt_draft.specs.Drafts.{AskedFits}
 use Rattle.ctt_core.specs.Entries.{EntryFits}
-use Rattle.ctt_script.specs.Entries.{IsShort, IsAsked, IsEntry}
+use Rattle.ctt_script.specs.Entries.{IsShort, IsAsked, CanBeWritten}
 use Rattle.ctt_script.specs.JournalWords.{mark_or}
-use Rattle.ctt_script.specs.CallPlaces.{edit_form, call_form}
-use Rattle.ctt_script.specs.ReplyPlaces.{fault_after, fault_form, lecture, lectures, costs, shortfall, shortfalls, priced, priced_edits, refusal_after, refusal, offer_after, offer_form, offers, reply_after, reply_form}
-use Rattle.ctt_script.specs.JournalPlaces.{asked_form, entry_form, journal_form}
+use Rattle.ctt_script.specs.Calls.{edit_form, call_form}
+use Rattle.ctt_script.specs.Replies.{fault_after, fault_form, lecture, lectures, costs_form, shortfall_form, shortfalls, priced_form, priced_edits, refusal_after, refusal, offer_after, offer_form, offers_form, reply_after, reply_form}
+use Rattle.ctt_script.specs.Journals.{asked_form, entry_form, journal_form}
 use Rattle.ctt_script.specs.WrittenWords.{edit_words, call_words, fault_words, lecture_words, shortfall_words, priced_words, offer_words, reply_words, asked_words, entry_words, journal_words}
 use Rattle.ctt_script.proofs.WrittenCalls.{word_then, label_then, count_then, amount_then, fills_map, after_word, has_meaning, price_says, below_says, course_then, room_then, slot_then, edit_fills, call_fills}
 
@@ -57,25 +57,25 @@ module _ (i : Problem) (is : IsProblem i) (named : IsNamed i) where
   unfolding lectures
   lectures_fills ls few f = count_then _ (length ls) _ ls few (list_fills (lecture i) (Fits i) (lecture_words i) lecture_fills ls f)
 
-  costs_fills : (c : Cost_) → ReplyFits i (Costs c) → Fills costs (decimal c.capacity ∷ decimal c.days ∷ decimal c.compactness ∷ decimal c.stability ∷ []) c
-  unfolding costs
+  costs_fills : (c : Cost_) → ReplyFits i (Costs c) → Fills costs_form (decimal c.capacity ∷ decimal c.days ∷ decimal c.compactness ∷ decimal c.stability ∷ []) c
+  unfolding costs_form
   costs_fills c f = amount_then _ c.capacity _ _ f.0 (amount_then _ c.days _ _ f.1 (amount_then _ c.compactness _ _ f.2 (amount_then _ c.stability _ _ f.3 refl)))
 
-  shortfall_fills : (s : Shortfall) → ShortfallFits i s → Fills (shortfall i) (shortfall_words i s) s
-  unfolding shortfall
+  shortfall_fills : (s : Shortfall) → ShortfallFits i s → Fills (shortfall_form i) (shortfall_words i s) s
+  unfolding shortfall_form
   shortfall_fills s f = course_then i is named _ s.course _ _ f.0 (count_then _ s.missing _ _ f.1 refl)
 
   shortfalls_fills : (xs : List Shortfall) → AreFew xs → Each (ShortfallFits i) xs → Fills (shortfalls i) (decimal (length xs) ∷ flat_map (shortfall_words i) xs) xs
   unfolding shortfalls
-  shortfalls_fills xs few f = count_then _ (length xs) _ xs few (list_fills (shortfall i) (ShortfallFits i) (shortfall_words i) shortfall_fills xs f)
+  shortfalls_fills xs few f = count_then _ (length xs) _ xs few (list_fills (shortfall_form i) (ShortfallFits i) (shortfall_words i) shortfall_fills xs f)
 
-  priced_fills : (p : PricedEdit) → PricedFits i p → Fills (priced i) (priced_words i p) p
-  unfolding priced
+  priced_fills : (p : PricedEdit) → PricedFits i p → Fills (priced_form i) (priced_words i p) p
+  unfolding priced_form
   priced_fills p f = word_then price_of _ _ (signed_decimal p.price) _ p.price p (price_says p.price f.1) (fills_map (edit_form i) (λ e. record { edit = e; price = p.price }) (edit_words i p.edit) p.edit (edit_fills i is named p.edit f.0))
 
   priced_edits_fills : (xs : List PricedEdit) → AreFew xs → Each (PricedFits i) xs → Fills (priced_edits i) (decimal (length xs) ∷ flat_map (priced_words i) xs) xs
   unfolding priced_edits
-  priced_edits_fills xs few f = count_then _ (length xs) _ xs few (list_fills (priced i) (PricedFits i) (priced_words i) priced_fills xs f)
+  priced_edits_fills xs few f = count_then _ (length xs) _ xs few (list_fills (priced_form i) (PricedFits i) (priced_words i) priced_fills xs f)
 
   -- a fault after `-`
   refusal_by : (k : FaultKind) (w : List ℕ) (ws : List (List ℕ)) (x : EditFault) → fault_kind w ≡ Some k → fault_kind (codes "none") ≡ None → Fills (fault_form i) (w ∷ ws) x → Fills (refusal i) (w ∷ ws) (offer.Refused x)
@@ -107,8 +107,8 @@ module _ (i : Problem) (is : IsProblem i) (named : IsNamed i) where
   offer_fills (offer.Refused x) f = word_then (mark_or (codes "-") price_of) None _ (codes "-") _ None _ refl (refusal_fills x f)
   offer_fills offer.Nothing f = word_then (mark_or (codes "-") price_of) None _ (codes "-") _ None _ refl none_fills
 
-  offers_fills : (xs : List Offer) → AreFew xs → Each (OfferFits i) xs → Fills (offers i) (decimal (length xs) ∷ flat_map (offer_words i) xs) xs
-  unfolding offers
+  offers_fills : (xs : List Offer) → AreFew xs → Each (OfferFits i) xs → Fills (offers_form i) (decimal (length xs) ∷ flat_map (offer_words i) xs) xs
+  unfolding offers_form
   offers_fills xs few f = count_then _ (length xs) _ xs few (list_fills (offer_form i) (OfferFits i) (offer_words i) offer_fills xs f)
 
   pub reply_fills : (t : Reply) → IsShortReply t → ReplyFits i t → Fills (reply_form i) (reply_words i t) t
@@ -116,11 +116,11 @@ module _ (i : Problem) (is : IsProblem i) (named : IsNamed i) where
   reply_fills Done short f = word_then reply_kind _ _ _ _ _ _ refl refl
   reply_fills (Refused x) short f = word_then reply_kind _ _ _ _ _ _ refl (fills_map (fault_form i) Refused (fault_words i x) x (fault_fills x f))
   reply_fills (Lectures ls) short f = word_then reply_kind _ _ _ _ _ _ refl (fills_map (lectures i) Lectures _ ls (lectures_fills ls short f))
-  reply_fills (Costs c) short f = word_then reply_kind _ _ _ _ _ _ refl (fills_map costs Costs _ c (costs_fills c f))
+  reply_fills (Costs c) short f = word_then reply_kind _ _ _ _ _ _ refl (fills_map costs_form Costs _ c (costs_fills c f))
   reply_fills (Priced p) short f = word_then reply_kind _ _ _ _ _ _ refl (word_then price_of _ _ (signed_decimal p) [] p _ (price_says p f) refl)
   reply_fills (AreMissing xs) short f = word_then reply_kind _ _ _ _ _ _ refl (fills_map (shortfalls i) AreMissing _ xs (shortfalls_fills xs short f))
   reply_fills (AreCheapest xs) short f = word_then reply_kind _ _ _ _ _ _ refl (fills_map (priced_edits i) AreCheapest _ xs (priced_edits_fills xs short f))
-  reply_fills (AreOffers xs) short f = word_then reply_kind _ _ _ _ _ _ refl (fills_map (offers i) AreOffers _ xs (offers_fills xs short f))
+  reply_fills (AreOffers xs) short f = word_then reply_kind _ _ _ _ _ _ refl (fills_map (offers_form i) AreOffers _ xs (offers_fills xs short f))
 
   asked_fills : (s : Asked) → IsAsked i s → Fills (asked_form i) (asked_words i s) s
   unfolding asked_form
@@ -131,7 +131,7 @@ module _ (i : Problem) (is : IsProblem i) (named : IsNamed i) where
   asked_are [] f short = tt
   asked_are (s ∷ ss) f short = ((f.0, short.0), asked_are ss f.1 short.1)
 
-  pub entry_fills : (e : JournalEntry) → IsEntry i e → Fills (entry_form i) (entry_words i e) e
+  pub entry_fills : (e : JournalEntry) → CanBeWritten i e → Fills (entry_form i) (entry_words i e) e
   unfolding entry_form
   entry_fills e f =
       label_then (codes "entry") _ _ e refl
@@ -140,7 +140,7 @@ module _ (i : Problem) (is : IsProblem i) (named : IsNamed i) where
       (fills_map (list_of (asked_form i) (length e.asked)) (λ asked. record { planner = e.planner; asked = asked }) _ e.asked
       (list_fills (asked_form i) (IsAsked i) (asked_words i) asked_fills e.asked (asked_are e.asked f.0.1 f.1.1)))))
 
-  entries_are : (es : List JournalEntry) → Each (EntryFits i) es → Each IsShort es → Each (IsEntry i) es
+  entries_are : (es : List JournalEntry) → Each (EntryFits i) es → Each IsShort es → Each (CanBeWritten i) es
   entries_are [] f short = tt
   entries_are (e ∷ es) f short = ((f.0, short.0), entries_are es f.1 short.1)
 
@@ -151,5 +151,5 @@ module _ (i : Problem) (is : IsProblem i) (named : IsNamed i) where
       label_then (codes "journal") _ _ es refl
       (count_then _ (length es) _ es few
       (fills_both (list_of (entry_form i) (length es)) _ (flat_map (entry_words i) es) (codes "END." ∷ []) es es
-      (list_fills (entry_form i) (IsEntry i) (entry_words i) entry_fills es (entries_are es f short))
+      (list_fills (entry_form i) (CanBeWritten i) (entry_words i) entry_fills es (entries_are es f short))
       (label_then (codes "END.") _ [] es refl refl)))

@@ -14,7 +14,7 @@ abbrev pub IsAtRun : DeskValue → Type 0
 IsAtRun v = (past : List Turn) × Stands v past
 
 -- by answering these items the desk v became the desk w; the text has grown by the answers
-pub record Answered (v w : DeskValue) (old new : List ℕ) (items : List (Option Event)) : Type 0 where
+pub record PlaysItems (v w : DeskValue) (old new : List ℕ) (items : List (Option Event)) : Type 0 where
   pub same : SameDesk v w
   pub goes_on : (past : List Turn) → Stands v past → Stands w (run_after v.problem v.opening past items)
   pub grown : (past : List Turn) → Stands v past → new ≡ old ++ answers_after v.problem v.opening past items
@@ -25,14 +25,14 @@ pub record Answering (v w : DeskValue) (all left : List (List ℕ)) (before afte
   pub done : List (Option Event)
   pub written : List ℕ
   pub lines : items_of v.problem all ≡ done ++ items_of v.problem left
-  pub answered : Answered v w [] (written ++ kept) done
+  pub answered : PlaysItems v w [] (written ++ kept) done
   pub taken : Appends before after written
 
 -- by answering these items the desk v became the desk w; all answers are written
 pub record Wrote (v w : DeskValue) (items : List (Option Event)) (before after : Option (List ℕ)) : Type 0 where
   pub text : List ℕ
   pub taken : Appends before after text
-  pub answered : Answered v w [] text items
+  pub answered : PlaysItems v w [] text items
 
 -- a prefix of the answers to these items is written
 abbrev pub WroteFront : DeskValue → List (Option Event) → Option (List ℕ) → Option (List ℕ) → Type 0

@@ -21,8 +21,8 @@ abbrev pub IsAsked : Problem → Asked → Type 0
 IsAsked i a = AskedFits i a × IsShortReply a.reply
 
 -- an entry that can be written
-abbrev pub IsEntry : Problem → JournalEntry → Type 0
-IsEntry i e = EntryFits i e × IsShort e
+abbrev pub CanBeWritten : Problem → JournalEntry → Type 0
+CanBeWritten i e = EntryFits i e × IsShort e
 
 -- the number of the row is in range for the instance
 abbrev pub RowFits : Problem → Row → Type 0

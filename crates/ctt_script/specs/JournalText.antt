@@ -8,8 +8,8 @@ use Rattle.ctt_text.specs.Forms.{Fills, BreaksAt, read, without_rest}
 use Rattle.ctt_script.specs.declared.journal_fault.JournalFault.{JournalFault}
 use Rattle.ctt_script.specs.declared.journal_fault.JournalFault.TheVariants.{NotText, NoMemory}
 use Rattle.ctt_core.specs.declared.journal.JournalEntry.{JournalEntry}
-use Rattle.ctt_script.specs.JournalWords.{missing}
-use Rattle.ctt_script.specs.JournalPlaces.{journal_form}
+use Rattle.ctt_script.specs.JournalWords.{missing_word}
+use Rattle.ctt_script.specs.Journals.{journal_form}
 
 -- A prefix of the words matches the grammar and gives the entries; what follows it is ignored.
 pub record JournalSpells (i : Problem) (words : List (List ℕ)) (entries : List JournalEntry) : Type 0 where
@@ -20,11 +20,11 @@ pub record JournalSpells (i : Problem) (words : List (List ℕ)) (entries : List
 
 -- The words before word k follow the grammar, and word k breaks it, or is missing, with this fault.
 abbrev pub JournalBreaksAt : Problem → List (List ℕ) → ℕ → JournalFault → Type 0
-JournalBreaksAt i words k fault = BreaksAt missing (journal_form i) words k fault
+JournalBreaksAt i words k fault = BreaksAt missing_word (journal_form i) words k fault
 
 -- what parsing the words returns
 abbrev pub journal_answer : Problem → List (List ℕ) → Result (List JournalEntry) JournalFault
-journal_answer i words = without_rest (read missing (journal_form i) words 1)
+journal_answer i words = without_rest (read missing_word (journal_form i) words 1)
 
 -- The cause of a fault: NotText gives the length of the longest valid UTF-8 prefix, NoMemory may
 -- come at any time, and any other fault is the one with which the words break the grammar.

@@ -26,21 +26,21 @@ abbrev pub label : List ℕ → Form JournalFault Unit
 label text = fixed BadWord text
 
 -- the fault of a missing word
-abbrev pub missing : ℕ → JournalFault
-missing k = Missing k
+abbrev pub missing_word : ℕ → JournalFault
+missing_word k = Missing k
 
 -- the fault is that memory ran out
-abbrev pub wants_memory : JournalFault → Bool
-wants_memory NoMemory = true
-wants_memory _ = false
+abbrev pub journal_wants_memory : JournalFault → Bool
+journal_wants_memory NoMemory = true
+journal_wants_memory _ = false
 
 -- parsing the rest of a journal's text
-abbrev pub reads : {A : Type 0} → Form JournalFault A → Left → Result (A × Left) JournalFault
-reads form left = reading missing form left
+abbrev pub parses : {A : Type 0} → Form JournalFault A → Left → Result (A × Left) JournalFault
+parses form left = reading missing_word form left
 
 -- A parser returned what the grammar of its part of the text gives, unless memory ran out.
-abbrev pub GivesRead : {X Y : Type 0} → (X → Y) → Result X JournalFault → Result Y JournalFault → Type 0
-GivesRead view result read = Gives wants_memory view result read
+abbrev pub GivesJournal : {X Y : Type 0} → (X → Y) → Result X JournalFault → Result Y JournalFault → Type 0
+GivesJournal view result read = Gives journal_wants_memory view result read
 
 -- A parser that allocates nothing returned exactly what the grammar gives, its fault included.
 abbrev pub IsRead : {X Y : Type 0} → (X → Y) → Result X JournalFault → Result Y JournalFault → Type 0

@@ -23,13 +23,13 @@ of_input input_fault.NoMemory = script_fault.NoMemory
 
 -- the cause of a fault: the opening cannot be placed, or the input, if its bytes are known, is too
 -- long; any other fault may come at any time
-abbrev pub IsCauseOf : Problem → List Placed → Option (List ℕ) → ScriptFault → Type 0
-IsCauseOf i lectures left (script_fault.Unlawful at fault) = opening i lectures ≡ Err (at, fault)
-IsCauseOf i lectures left script_fault.TooLong = IfSome left (λ text. 67108864 < length text)
-IsCauseOf i lectures left fault = Unit {0}
+abbrev pub IsRunCause : Problem → List Placed → Option (List ℕ) → ScriptFault → Type 0
+IsRunCause i lectures left (script_fault.Unlawful at fault) = opening i lectures ≡ Err (at, fault)
+IsRunCause i lectures left script_fault.TooLong = IfSome left (λ text. 67108864 < length text)
+IsRunCause i lectures left fault = Unit {0}
 
 -- the faults after which a part of the answers may have been written
-abbrev pub MayHaveWritten : ScriptFault → Type 0
-MayHaveWritten script_fault.Write = Unit {0}
-MayHaveWritten script_fault.NoMemory = Unit {0}
-MayHaveWritten fault = ⊥
+abbrev pub MayHavePrinted : ScriptFault → Type 0
+MayHavePrinted script_fault.Write = Unit {0}
+MayHavePrinted script_fault.NoMemory = Unit {0}
+MayHavePrinted fault = ⊥

@@ -9,8 +9,8 @@ use Rattle.ctt_text.specs.Forms.{Form, read}
 use Rattle.ctt_script.specs.declared.journal_fault.JournalFault.{JournalFault}
 use Rattle.ctt_script.specs.declared.journal_fault.JournalFault.TheVariants.{NotText, Missing, BadWord, NoMemory}
 use Rattle.ctt_core.specs.declared.event.Event.{Event}
-use Rattle.ctt_script.specs.JournalWords.{missing}
-use Rattle.ctt_script.specs.ScriptPlaces.{event_form, own_form}
+use Rattle.ctt_script.specs.JournalWords.{missing_word}
+use Rattle.ctt_script.specs.Events.{event_form, own_form}
 
 -- a value, if no word is left after it
 abbrev pub if_none_left : {A : Type 0} → A → List (List ℕ) → Option A
@@ -18,16 +18,16 @@ if_none_left a [] = Some a
 if_none_left a (word ∷ words) = None
 
 -- what was parsed, if no word is left
-abbrev pub whole : {A : Type 0} → Result (A × Left) JournalFault → Option A
-whole (Ok x) = if_none_left x.0 x.1.words
-whole (Err e) = None
+abbrev pub all_parsed : {A : Type 0} → Result (A × Left) JournalFault → Option A
+all_parsed (Ok x) = if_none_left x.0 x.1.words
+all_parsed (Err e) = None
 
 -- the number of the word at which parsing stopped
-abbrev pub word_of : JournalFault → ℕ
-word_of (NotText k) = k
-word_of (Missing k) = k
-word_of (BadWord k) = k
-word_of NoMemory = 0
+abbrev pub word_of_fault : JournalFault → ℕ
+word_of_fault (NotText k) = k
+word_of_fault (Missing k) = k
+word_of_fault (BadWord k) = k
+word_of_fault NoMemory = 0
 
 -- a value, or the number of the first word that is left after it
 abbrev pub or_left : {A : Type 0} → A → List (List ℕ) → ℕ → Result A ℕ
@@ -38,16 +38,16 @@ or_left a (word ∷ words) next = Err next
 -- the one at which parsing stopped
 abbrev pub whole_or_word : {A : Type 0} → Result (A × Left) JournalFault → Result A ℕ
 whole_or_word (Ok x) = or_left x.0 x.1.words x.1.next
-whole_or_word (Err e) = Err (word_of e)
+whole_or_word (Err e) = Err (word_of_fault e)
 
 -- the words as an event in the own script of planner p, or the number of the first word that is not
 -- allowed
 abbrev pub own_event : Problem → ℕ → List (List ℕ) → Result Event ℕ
-own_event i p ws = whole_or_word (read missing (own_form i p) ws 1)
+own_event i p ws = whole_or_word (read missing_word (own_form i p) ws 1)
 
 -- the words as an event by this grammar; none if they do not match it
 abbrev pub asked_by : Form JournalFault Event → List (List ℕ) → Option Event
-asked_by form words = whole (read missing form words 1)
+asked_by form words = all_parsed (read missing_word form words 1)
 
 -- the line as an event by this grammar; none for a bad line, such as one that is not UTF-8
 abbrev pub item_by : Form JournalFault Event → List ℕ → Option Event

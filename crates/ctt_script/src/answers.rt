@@ -9,9 +9,8 @@ ghost use Rattle.ctt_script.specs.AnswerText.{answer_words, bad_line};
 ghost use Rattle.ctt_script.specs.Entries.{AnswerFits};
 ghost use Rattle.ctt_script.specs.WrittenWords.{reply_words};
 
-use crate::call_words::{after, one, two};
 use crate::items::Item;
-use crate::reply_words::{words_of_costs, words_of_fault, words_of_stale, words_of_standing};
+use crate::reply_words::{push_fault, write_costs, write_stale, write_status};
 use ctt_core::Answer;
 use ctt_edits::Reply;
 use ctt_line::{Word, push_line, push_words};
@@ -31,14 +30,15 @@ fn write_items<T: Item>(
         ∷ decimal (length items.now) ∷ flat_map (T.words instance.now) items.now)) }
 {
     text.push_str(kind)?;
-    push_words(text, one(Word::number(items.len() as u64)).as_slice())?;
+    push_words(text, &[Word::number(items.len() as u64)])?;
     for item in items {
-        push_words(text, item.words(instance).as_slice())?;
+        item.push(text, instance)?;
     }
     text.push('\n')
 }
 
 /// Adds the line of a reply.
+#[tactic(auto, using(crate::proofs::WrittenText::after_blank))]
 pub(crate) fn write_reply(
     text: &mut String,
     instance: &Instance,
@@ -49,14 +49,15 @@ pub(crate) fn write_reply(
         ≡ string_bytes text.old ++ line (reply_words instance.now reply.now)) }
 {
     match reply {
-        Reply::Done => push_line(text, one(Word::text("done")).as_slice()),
+        Reply::Done => text.push_str("done\n"),
         Reply::Refused(fault) => {
-            let words = after(Word::text("refused"), words_of_fault(instance, fault));
-            push_line(text, words.as_slice())
+            text.push_str("refused ")?;
+            push_fault(text, instance, fault)?;
+            text.push('\n')
         }
         Reply::Lectures(lectures) => write_items(text, "lectures", instance, lectures.as_slice()),
-        Reply::Costs(cost) => push_line(text, words_of_costs(cost).as_slice()),
-        Reply::Price(price) => push_line(text, two("price", Word::amount(*price)).as_slice()),
+        Reply::Costs(cost) => write_costs(text, cost),
+        Reply::Price(price) => push_line(text, &[Word::text("price"), Word::amount(*price)]),
         Reply::Missing(courses) => write_items(text, "missing", instance, courses.as_slice()),
         Reply::Edits(edits) => write_items(text, "prices", instance, edits.as_slice()),
         Reply::Slots(offers) => write_items(text, "slots", instance, offers.as_slice()),
@@ -74,20 +75,18 @@ pub fn write_answer(
         ≡ string_bytes text.old ++ line (answer_words instance.now answer.now)) }
 {
     match answer {
-        Answer::Opened => push_line(text, one(Word::text("opened")).as_slice()),
-        Answer::AlreadyOpen => push_line(text, two("already", Word::text("open")).as_slice()),
-        Answer::NoDraft => push_line(text, two("no", Word::text("draft")).as_slice()),
+        Answer::Opened => text.push_str("opened\n"),
+        Answer::AlreadyOpen => text.push_str("already open\n"),
+        Answer::NoDraft => text.push_str("no draft\n"),
         Answer::Replied(reply) => write_reply(text, instance, reply),
-        Answer::Draft(standing) => {
-            push_line(text, words_of_standing(instance, standing).as_slice())
-        }
+        Answer::Draft(status) => write_status(text, instance, status),
         Answer::Committed(number) => {
-            push_line(text, two("committed", Word::number(*number)).as_slice())
+            push_line(text, &[Word::text("committed"), Word::number(*number)])
         }
-        Answer::Refreshed => push_line(text, one(Word::text("refreshed")).as_slice()),
-        Answer::Stale(row) => push_line(text, words_of_stale(instance, row).as_slice()),
-        Answer::Abandoned => push_line(text, one(Word::text("abandoned")).as_slice()),
-        Answer::NoMemory => push_line(text, two("no", Word::text("memory")).as_slice()),
+        Answer::Refreshed => text.push_str("refreshed\n"),
+        Answer::Stale(row) => write_stale(text, instance, row),
+        Answer::Abandoned => text.push_str("abandoned\n"),
+        Answer::NoMemory => text.push_str("no memory\n"),
     }
 }
 
@@ -95,5 +94,5 @@ pub fn write_answer(
 pub fn write_bad_line(text: &mut String) -> Result<(), AllocError>
     ensures { OnOk result (string_bytes text.new ≡ string_bytes text.old ++ bad_line) }
 {
-    push_line(text, two("bad", Word::text("line")).as_slice())
+    text.push_str("bad line\n")
 }

@@ -1,21 +1,19 @@
-//! The words in which calls are written.
+//! Writing the words of calls.
 
-ghost use Rattle.std.specs.Prelude.{◌≡◌, ◌<◌, ◌≤◌, ◌+◌, ◌∷◌, [], codes};
-ghost use Rattle.arrayvec.specs.ArrayVec.{array_vec_len};
+ghost use Rattle.std.specs.Prelude.{◌≡◌, ◌<◌, ◌++◌, ◌∷◌, [], OnOk, codes, string_bytes};
 ghost use Rattle.ctt_problem.specs.Problem.{course_count, room_count, slot_count};
 ghost use Rattle.ctt_edits.specs.Edits.{EditFits};
 ghost use Rattle.ctt_edits.specs.Looks.{LookFits};
 ghost use Rattle.ctt_edits.specs.Patterns.{FitsIfGiven, PatternFits};
 ghost use Rattle.ctt_edits.specs.Calls.{CallFits};
+ghost use Rattle.ctt_line.specs.Lines.{line, words_part};
+ghost use Rattle.ctt_script.specs.WrittenText.{joined};
 ghost use Rattle.ctt_script.specs.WrittenWords.{course_word, room_word, day_word, period_word, room_choice_word, day_choice_word, period_choice_word, edit_words, pattern_words, look_words, call_words};
 
-use arrayvec::ArrayVec;
 use ctt_edits::{Call, Edit, Look, Pattern};
-use ctt_line::Word;
+use ctt_line::{Word, push_line, push_words};
 use ctt_text::{CourseNo, Instance, RoomNo, SlotNo};
-
-/// The words of a line without a list, or of a part of one: at most nine.
-pub type Words<'i> = ArrayVec<Word<'i>, 9>;
+use std::alloc::AllocError;
 
 /// Returns the name of a course.
 pub(crate) fn course<'i>(instance: &'i Instance, number: CourseNo) -> Word<'i>
@@ -47,79 +45,6 @@ pub(crate) fn period<'i>(instance: &'i Instance, slot: SlotNo) -> Word<'i>
     ensures { result ≡ period_word instance.now slot }
 {
     Word::number(u64::from(instance.period_of(slot)))
-}
-
-/// Returns a keyword, a course, and the day and period of a slot.
-fn of_course_and_slot<'i>(
-    kind: &'i str,
-    instance: &'i Instance,
-    number: CourseNo,
-    slot: SlotNo,
-) -> Words<'i>
-    requires course { number < course_count instance.now }
-    requires slot { slot < slot_count instance.now }
-    ensures words { result.items ≡ kind.now ∷ course_word instance.now number
-        ∷ day_word instance.now slot ∷ period_word instance.now slot ∷ [] }
-    ensures few { array_vec_len result ≡ 4 }
-{
-    let mut words = ArrayVec::new();
-    words.push(Word::text(kind));
-    words.push(course(instance, number));
-    words.push(day(instance, slot));
-    words.push(period(instance, slot));
-    words
-}
-
-/// Returns a keyword, a course, a room, and the day and period of a slot.
-fn of_lecture<'i>(
-    kind: &'i str,
-    instance: &'i Instance,
-    number: CourseNo,
-    slot: SlotNo,
-    place: RoomNo,
-) -> Words<'i>
-    requires course { number < course_count instance.now }
-    requires slot { slot < slot_count instance.now }
-    requires room { place < room_count instance.now }
-    ensures words { result.items ≡ kind.now ∷ course_word instance.now number
-        ∷ room_word instance.now place
-        ∷ day_word instance.now slot ∷ period_word instance.now slot ∷ [] }
-    ensures few { array_vec_len result ≡ 5 }
-{
-    let mut words = ArrayVec::new();
-    words.push(Word::text(kind));
-    words.push(course(instance, number));
-    words.push(room(instance, place));
-    words.push(day(instance, slot));
-    words.push(period(instance, slot));
-    words
-}
-
-/// Returns the words of an edit, beginning with its keyword.
-pub fn words_of_edit<'i>(instance: &'i Instance, edit: &Edit) -> Words<'i>
-    requires { EditFits instance.now edit.now }
-    ensures words { result.items ≡ edit_words instance.now edit.now }
-    ensures few { array_vec_len result ≤ 7 }
-{
-    match *edit {
-        Edit::Place(course, slot, room) => of_lecture("place", instance, course, slot, room),
-        Edit::Reroom(course, slot, room) => of_lecture("reroom", instance, course, slot, room),
-        Edit::Drop(course, slot) => of_course_and_slot("drop", instance, course, slot),
-        Edit::Move(number, slot, target, place) => {
-            let mut words = of_course_and_slot("move", instance, number, slot);
-            words.push(room(instance, place));
-            words.push(day(instance, target));
-            words.push(period(instance, target));
-            words
-        }
-        Edit::Swap(number, slot, other, other_slot) => {
-            let mut words = of_course_and_slot("swap", instance, number, slot);
-            words.push(course(instance, other));
-            words.push(day(instance, other_slot));
-            words.push(period(instance, other_slot));
-            words
-        }
-    }
 }
 
 /// Returns `*`, which stands for any room, day, period or course.
@@ -162,128 +87,191 @@ fn period_choice<'i>(instance: &'i Instance, choice: &Option<SlotNo>) -> Word<'i
     }
 }
 
-/// Returns the words of an edit pattern, with `*` for what it leaves open.
-fn words_of_pattern<'i>(instance: &'i Instance, pattern: &Pattern) -> Words<'i>
-    requires { PatternFits instance.now pattern.now }
-    ensures words { result.items ≡ pattern_words instance.now pattern.now }
-    ensures few { array_vec_len result ≤ 7 }
+/// Appends a keyword, and a course with its slot.
+fn push_taught(
+    text: &mut String,
+    kind: &str,
+    instance: &Instance,
+    number: CourseNo,
+    slot: SlotNo,
+) -> Result<(), AllocError>
+    requires course { number < course_count instance.now }
+    requires slot { slot < slot_count instance.now }
+    ensures { OnOk result (string_bytes text.new ≡ string_bytes text.old
+        ++ joined (kind.now ∷ course_word instance.now number
+        ∷ day_word instance.now slot ∷ period_word instance.now slot ∷ [])) }
 {
-    match pattern {
+    text.push_str(kind)?;
+    push_words(
+        text,
+        &[
+            course(instance, number),
+            day(instance, slot),
+            period(instance, slot),
+        ],
+    )
+}
+
+/// Appends a room and a slot, or `*` for what is not given, each word after a blank.
+fn push_target(
+    text: &mut String,
+    instance: &Instance,
+    slot: Option<SlotNo>,
+    place: Option<RoomNo>,
+) -> Result<(), AllocError>
+    requires slot { FitsIfGiven (slot_count instance.now) slot }
+    requires room { FitsIfGiven (room_count instance.now) place }
+    ensures { OnOk result (string_bytes text.new ≡ string_bytes text.old
+        ++ words_part (room_choice_word instance.now place
+        ∷ day_choice_word instance.now slot ∷ period_choice_word instance.now slot ∷ [])) }
+{
+    push_words(
+        text,
+        &[
+            room_choice(instance, &place),
+            day_choice(instance, &slot),
+            period_choice(instance, &slot),
+        ],
+    )
+}
+
+/// Appends a keyword, a course, a room and a slot, or `*` for what is not given.
+fn push_lecture(
+    text: &mut String,
+    kind: &str,
+    instance: &Instance,
+    number: CourseNo,
+    slot: Option<SlotNo>,
+    place: Option<RoomNo>,
+) -> Result<(), AllocError>
+    requires course { number < course_count instance.now }
+    requires slot { FitsIfGiven (slot_count instance.now) slot }
+    requires room { FitsIfGiven (room_count instance.now) place }
+    ensures { OnOk result (string_bytes text.new ≡ string_bytes text.old
+        ++ joined (kind.now ∷ course_word instance.now number ∷ room_choice_word instance.now place
+        ∷ day_choice_word instance.now slot ∷ period_choice_word instance.now slot ∷ [])) }
+{
+    text.push_str(kind)?;
+    push_words(text, &[course(instance, number)])?;
+    push_target(text, instance, slot, place)
+}
+
+/// Appends the words of an edit, beginning with its keyword.
+pub fn push_edit(text: &mut String, instance: &Instance, edit: &Edit) -> Result<(), AllocError>
+    requires { EditFits instance.now edit.now }
+    ensures { OnOk result (string_bytes text.new
+        ≡ string_bytes text.old ++ joined (edit_words instance.now edit.now)) }
+{
+    match *edit {
+        Edit::Place(number, slot, place) => {
+            push_lecture(text, "place", instance, number, Some(slot), Some(place))
+        }
+        Edit::Reroom(number, slot, place) => {
+            push_lecture(text, "reroom", instance, number, Some(slot), Some(place))
+        }
+        Edit::Drop(number, slot) => push_taught(text, "drop", instance, number, slot),
+        Edit::Move(number, slot, target, place) => {
+            push_taught(text, "move", instance, number, slot)?;
+            push_target(text, instance, Some(target), Some(place))
+        }
+        Edit::Swap(number, slot, other, other_slot) => {
+            push_taught(text, "swap", instance, number, slot)?;
+            let (day, period) = (day(instance, other_slot), period(instance, other_slot));
+            push_words(text, &[course(instance, other), day, period])
+        }
+    }
+}
+
+/// Appends the words of an edit pattern, with `*` for what it leaves open.
+fn push_pattern(text: &mut String, instance: &Instance, pattern: &Pattern) -> Result<(), AllocError>
+    requires { PatternFits instance.now pattern.now }
+    ensures { OnOk result (string_bytes text.new
+        ≡ string_bytes text.old ++ joined (pattern_words instance.now pattern.now)) }
+{
+    match *pattern {
         Pattern::Place(number, slot, place) => {
-            let mut words = ArrayVec::new();
-            words.push(Word::text("place"));
-            words.push(course(instance, *number));
-            words.push(room_choice(instance, place));
-            words.push(day_choice(instance, slot));
-            words.push(period_choice(instance, slot));
-            words
-        }
-        Pattern::Move(number, slot, target, place) => {
-            let mut words = of_course_and_slot("move", instance, *number, *slot);
-            words.push(room_choice(instance, place));
-            words.push(day_choice(instance, target));
-            words.push(period_choice(instance, target));
-            words
-        }
-        Pattern::Swap(number, slot) => {
-            let mut words = of_course_and_slot("swap", instance, *number, *slot);
-            words.push(any());
-            words.push(any());
-            words.push(any());
-            words
+            push_lecture(text, "place", instance, number, slot, place)
         }
         Pattern::Reroom(number, slot, place) => {
-            let mut words = ArrayVec::new();
-            words.push(Word::text("reroom"));
-            words.push(course(instance, *number));
-            words.push(room_choice(instance, place));
-            words.push(day(instance, *slot));
-            words.push(period(instance, *slot));
-            words
+            push_lecture(text, "reroom", instance, number, Some(slot), place)
+        }
+        Pattern::Move(number, slot, target, place) => {
+            push_taught(text, "move", instance, number, slot)?;
+            push_target(text, instance, target, place)
+        }
+        Pattern::Swap(number, slot) => {
+            push_taught(text, "swap", instance, number, slot)?;
+            text.push_str(" * * *")
         }
     }
 }
 
-/// Returns one word alone.
-pub(crate) fn one<'i>(word: Word<'i>) -> Words<'i>
-    ensures words { result.items ≡ word.entry ∷ [] }
-    ensures few { array_vec_len result ≡ 1 }
+/// Adds the line of a keyword and a name.
+fn write_named(text: &mut String, kind: &str, name: &str) -> Result<(), AllocError>
+    ensures { OnOk result (string_bytes text.new
+        ≡ string_bytes text.old ++ line (kind.now ∷ name.now ∷ [])) }
 {
-    let mut words = ArrayVec::new();
-    words.push(word);
-    words
+    push_line(text, &[Word::text(kind), Word::text(name)])
 }
 
-/// Returns a keyword and one more word.
-pub(crate) fn two<'i>(kind: &'i str, word: Word<'i>) -> Words<'i>
-    ensures words { result.items ≡ kind.now ∷ word.entry ∷ [] }
-    ensures few { array_vec_len result ≡ 2 }
-{
-    let mut words = one(Word::text(kind));
-    words.push(word);
-    words
-}
-
-/// Returns a keyword, and the day and period of a slot.
-pub(crate) fn words_of_slot<'i>(kind: &'i str, instance: &'i Instance, slot: SlotNo) -> Words<'i>
-    requires { slot < slot_count instance.now }
-    ensures words { result.items ≡ kind.now ∷ day_word instance.now slot
-        ∷ period_word instance.now slot ∷ [] }
-    ensures few { array_vec_len result ≡ 3 }
-{
-    let mut words = two(kind, day(instance, slot));
-    words.push(period(instance, slot));
-    words
-}
-
-/// Puts a word in front of others.
-pub(crate) fn after<'i>(first: Word<'i>, words: Words<'i>) -> Words<'i>
-    requires { array_vec_len words ≤ 8 }
-    ensures words { result.items ≡ first.entry ∷ words.entry.items }
-    ensures few { array_vec_len result ≡ array_vec_len words.entry + 1 }
-{
-    let mut words = words;
-    words.insert(0, first);
-    words
-}
-
-/// Returns the words of a look, beginning with its keyword.
-fn words_of_look<'i>(instance: &'i Instance, look: &Look) -> Words<'i>
+/// Adds the line of a look.
+#[tactic(auto, using(crate::proofs::WrittenText::after_blank))]
+fn write_look(text: &mut String, instance: &Instance, look: &Look) -> Result<(), AllocError>
     requires { LookFits instance.now look.now }
-    ensures { result.items ≡ look_words instance.now look.now }
+    ensures { OnOk result (string_bytes text.new
+        ≡ string_bytes text.old ++ line (look_words instance.now look.now)) }
 {
     match look {
-        Look::Course(number) => two("course", course(instance, *number)),
-        Look::Slot(slot) => words_of_slot("slot", instance, *slot),
-        Look::Teacher(number) => two("teacher", Word::text(instance.teacher_name(*number))),
+        Look::Course(number) => write_named(text, "course", instance.course_name(*number)),
+        Look::Slot(slot) => {
+            let (day, period) = (day(instance, *slot), period(instance, *slot));
+            push_line(text, &[Word::text("slot"), day, period])
+        }
+        Look::Teacher(number) => write_named(text, "teacher", instance.teacher_name(*number)),
         Look::Curriculum(number) => {
-            two("curriculum", Word::text(instance.curriculum_name(*number)))
+            write_named(text, "curriculum", instance.curriculum_name(*number))
         }
-        Look::CourseCost(number) => two("coursecost", course(instance, *number)),
-        Look::Cost => one(Word::text("cost")),
-        Look::Price(edit) => after(Word::text("price"), words_of_edit(instance, edit)),
-        Look::Missing => one(Word::text("missing")),
+        Look::CourseCost(number) => {
+            write_named(text, "coursecost", instance.course_name(*number))
+        }
+        Look::Cost => text.push_str("cost\n"),
+        Look::Price(edit) => {
+            text.push_str("price ")?;
+            push_edit(text, instance, edit)?;
+            text.push('\n')
+        }
+        Look::Missing => text.push_str("missing\n"),
         Look::Cheapest(count, pattern) => {
-            let words = after(
-                Word::number(u64::from(*count)),
-                words_of_pattern(instance, pattern),
-            );
-            after(Word::text("cheapest"), words)
+            text.push_str("cheapest")?;
+            push_words(text, &[Word::number(u64::from(*count))])?;
+            text.push(' ')?;
+            push_pattern(text, instance, pattern)?;
+            text.push('\n')
         }
-        Look::Slots(pattern) => after(
-            Word::text("slots"),
-            words_of_pattern(instance, &pattern.pattern()),
-        ),
+        Look::Slots(pattern) => {
+            text.push_str("slots ")?;
+            push_pattern(text, instance, &pattern.pattern())?;
+            text.push('\n')
+        }
     }
 }
 
-/// Returns the words of a call, beginning with its keyword.
-pub fn words_of_call<'i>(instance: &'i Instance, call: &Call) -> Words<'i>
+/// Adds the line of a call.
+#[tactic(auto, using(crate::proofs::WrittenText::joined_line))]
+pub(crate) fn write_call(
+    text: &mut String,
+    instance: &Instance,
+    call: &Call,
+) -> Result<(), AllocError>
     requires { CallFits instance.now call.now }
-    ensures { result.items ≡ call_words instance.now call.now }
+    ensures { OnOk result (string_bytes text.new
+        ≡ string_bytes text.old ++ line (call_words instance.now call.now)) }
 {
     match call {
-        Call::Look(look) => words_of_look(instance, look),
-        Call::Edit(edit) => words_of_edit(instance, edit),
+        Call::Look(look) => write_look(text, instance, look),
+        Call::Edit(edit) => {
+            push_edit(text, instance, edit)?;
+            text.push('\n')
+        }
     }
 }

@@ -1,6 +1,6 @@
 //! Running a script.
 
-ghost use Rattle.std.specs.Prelude.{◌≡◌, ◌⊎◌, ◌↔◌, ℕ, ◌+◌, ◌++◌, ◌∷◌, [], ◌<◌, ◌≤◌, List, length, true, false, Ok, Err, IfOk, IfErr, OnOk, OnErr, IfSome, Some, string_bytes};
+ghost use Rattle.std.specs.Prelude.{◌≡◌, ◌⊎◌, ◌↔◌, ℕ, ◌+◌, ◌∷◌, [], ◌≤◌, List, length, true, false, Ok, Err, IfOk, IfErr, OnOk, OnErr, IfSome, Some, string_bytes};
 ghost use Rattle.std.specs.List.{AllByRecursion as Each};
 ghost use Rattle.std.specs.Io.KnownBytes.{Appends};
 ghost use Rattle.ctt_problem.specs.Timetable.{Fits};
@@ -9,12 +9,11 @@ ghost use Rattle.ctt_edits.specs.declared.fault.EditFault.{EditFault};
 ghost use Rattle.ctt_core.specs.Runs.{EventFits};
 ghost use Rattle.ctt_core.specs.Laws.{Stands};
 ghost use Rattle.ctt_edits.specs.Openings.{opening};
-ghost use Rattle.ctt_core.specs.declared.desk_fault.DeskFault.TheVariants as desk_fault;
 ghost use Rattle.ctt_script.specs.AnswerText.{answer_text, script_run};
-ghost use Rattle.ctt_script.specs.Answering.{Answered, IsAtRun, Wrote, WroteFront};
+ghost use Rattle.ctt_script.specs.Answering.{PlaysItems, IsAtRun, Wrote, WroteFront};
 ghost use Rattle.ctt_script.specs.Entries.{IsWritable};
 ghost use Rattle.ctt_files.specs.Output.{AppendsFront};
-ghost use Rattle.ctt_script.specs.RunFaults.{IsCauseOf, MayHaveWritten};
+ghost use Rattle.ctt_script.specs.RunFaults.{IsRunCause, MayHavePrinted};
 ghost use Rattle.ctt_script.specs.ScriptText.{items_of, script};
 ghost use Rattle.ctt_script.specs.declared.script_fault.ScriptFault.TheVariants as script_fault;
 
@@ -26,7 +25,7 @@ use ctt_board::Sheet;
 use ctt_core::{Answer, Desk, Event};
 use ctt_files::{INPUT_LIMIT, Sink, Source, put_long, put_whole, read_all};
 use ctt_grid::GridSheet;
-use ctt_text::{Instance, NoMemory, Placed, let_go};
+use ctt_text::{Instance, NoMemory, Placed, drop_whole};
 use std::alloc::Global;
 
 /// Answers an event, and adds the line of the answer.
@@ -41,7 +40,7 @@ fn answer_event<'i, S: Sheet<'i>>(
     requires fits { EventFits instance.now 64 event.now }
     requires stands { IsAtRun desk.old }
     ensures { OnOk result
-        (Answered desk.old desk.new (string_bytes answers.old) (string_bytes answers.new)
+        (PlaysItems desk.old desk.new (string_bytes answers.old) (string_bytes answers.new)
         (Some event.now ∷ [])) }
 {
     instance.limits_hold();
@@ -65,7 +64,7 @@ fn answer_line<'i, S: Sheet<'i>>(
     requires planners { length desk.old.drafts ≡ 64 }
     requires stands { IsAtRun desk.old }
     ensures { OnOk result
-        (Answered desk.old desk.new (string_bytes answers.old) (string_bytes answers.new)
+        (PlaysItems desk.old desk.new (string_bytes answers.old) (string_bytes answers.new)
         (items_of instance.now (line.now ∷ []))) }
 {
     match read_line(instance, line) {
@@ -139,7 +138,7 @@ pub fn run_script<'i, R: Source, W: Sink>(
     ensures short { OnOk result (IfSome (R.left reader.old) (λ text. length text ≤ 67108864)) }
 
     ensures cause { IfErr result (λ fault.
-        IsCauseOf instance.now lectures.now (R.left reader.old) fault) }
+        IsRunCause instance.now lectures.now (R.left reader.old) fault) }
     ensures refused { (at : ℕ) (fault : EditFault)
         → opening instance.now lectures.now ≡ Err (at, fault)
         → (result ≡ Err (script_fault.Unlawful at fault)) ⊎ (result ≡ Err script_fault.NoMemory) }
@@ -151,7 +150,7 @@ pub fn run_script<'i, R: Source, W: Sink>(
     ensures once { R.retries reader.new ≡ R.retries reader.old }
     ensures fewer { IfSome (R.left reader.old) (λ old. IfSome (R.left reader.new) (λ new.
         R.pulls reader.new + length new ≤ R.pulls reader.old + length old + 1)) }
-    ensures unwritten { IfErr result (λ fault. MayHaveWritten fault ⊎ (writer.new ≡ writer.old)) }
+    ensures unwritten { IfErr result (λ fault. MayHavePrinted fault ⊎ (writer.new ≡ writer.old)) }
     ensures failed { (result ≡ Err script_fault.Write) → W.has_failed writer.new ≡ true }
     ensures unmarked { (result ≡ Err script_fault.Write)
         ⊎ (W.has_failed writer.new ≡ W.has_failed writer.old) }
@@ -165,16 +164,16 @@ pub fn run_script<'i, R: Source, W: Sink>(
     let text = match read_all(alloc, reader, INPUT_LIMIT) {
         Ok(text) => text,
         Err(fault) => {
-            let_go(desk);
+            drop_whole(desk);
             return Err(ScriptFault::from(fault));
         }
     };
     let answered = answer_lines(alloc, &mut desk, instance, &text, writer);
-    let_go(text);
+    drop_whole(text);
     match answered {
         Ok(()) => Ok(desk),
         Err(fault) => {
-            let_go(desk);
+            drop_whole(desk);
             Err(fault)
         }
     }

@@ -1,16 +1,17 @@
 //! The items of the lists in replies.
 
-use crate::call_words::{Words, after, course, day, period, room, two, words_of_edit};
-use crate::reply_words::words_of_fault;
-use arrayvec::ArrayVec;
+use crate::call_words::{course, day, period, push_edit, room};
+use crate::reply_words::push_fault;
 use ctt_edits::{Offer, PricedEdit, Shortfall};
-use ctt_line::Word;
+use ctt_line::{Word, push_words};
 use ctt_text::{Instance, Placed};
+use std::alloc::AllocError;
 
 /// An item of a list in a reply: a lecture, a shortfall, a priced edit, or what a slot offers.
 pub(crate) trait Item {
-    ghost use Rattle.std.specs.Prelude.{◌≡◌, List, ℕ};
+    ghost use Rattle.std.specs.Prelude.{◌≡◌, ◌++◌, List, OnOk, string_bytes, ℕ};
     ghost use Rattle.ctt_problem.specs.Problem.{Problem};
+    ghost use Rattle.ctt_line.specs.Lines.{words_part};
 
     /// The item fits the instance: its numbers are in range.
     ghost fits: { Problem → Self → Type 0 };
@@ -18,10 +19,11 @@ pub(crate) trait Item {
     /// The words of the item on a line.
     ghost words: { Problem → Self → List (List ℕ) };
 
-    /// Returns the words of the item on a line.
-    fn words<'i>(&self, instance: &'i Instance) -> Words<'i>
+    /// Appends the words of the item, with a blank before each.
+    fn push(&self, text: &mut String, instance: &Instance) -> Result<(), AllocError>
         requires { fits instance.now self.now }
-        ensures { result.items ≡ words instance.now self.now };
+        ensures { OnOk result (string_bytes text.new
+            ≡ string_bytes text.old ++ words_part (words instance.now self.now)) };
 }
 
 impl Item for Placed {
@@ -32,13 +34,17 @@ impl Item for Placed {
 
     ghost words = { lecture_words };
 
-    fn words<'i>(&self, instance: &'i Instance) -> Words<'i> {
-        let mut words = ArrayVec::new();
-        words.push(course(instance, self.course));
-        words.push(room(instance, self.room));
-        words.push(day(instance, self.slot));
-        words.push(period(instance, self.slot));
-        words
+    fn push(&self, text: &mut String, instance: &Instance) -> Result<(), AllocError> {
+        let (day, period) = (day(instance, self.slot), period(instance, self.slot));
+        push_words(
+            text,
+            &[
+                course(instance, self.course),
+                room(instance, self.room),
+                day,
+                period,
+            ],
+        )
     }
 }
 
@@ -50,11 +56,9 @@ impl Item for Shortfall {
 
     ghost words = { shortfall_words };
 
-    fn words<'i>(&self, instance: &'i Instance) -> Words<'i> {
-        two(
-            instance.course_name(self.course),
-            Word::number(u64::from(self.missing)),
-        )
+    fn push(&self, text: &mut String, instance: &Instance) -> Result<(), AllocError> {
+        let missing = Word::number(u64::from(self.missing));
+        push_words(text, &[course(instance, self.course), missing])
     }
 }
 
@@ -66,11 +70,11 @@ impl Item for PricedEdit {
 
     ghost words = { priced_words };
 
-    fn words<'i>(&self, instance: &'i Instance) -> Words<'i> {
-        after(
-            Word::amount(self.price),
-            words_of_edit(instance, &self.edit),
-        )
+    #[tactic(auto, using(crate::proofs::WrittenText::after_blank))]
+    fn push(&self, text: &mut String, instance: &Instance) -> Result<(), AllocError> {
+        push_words(text, &[Word::amount(self.price)])?;
+        text.push(' ')?;
+        push_edit(text, instance, &self.edit)
     }
 }
 
@@ -82,11 +86,15 @@ impl Item for Offer {
 
     ghost words = { offer_words };
 
-    fn words<'i>(&self, instance: &'i Instance) -> Words<'i> {
+    #[tactic(auto, using(crate::proofs::WrittenText::after_blank))]
+    fn push(&self, text: &mut String, instance: &Instance) -> Result<(), AllocError> {
         match self {
-            Offer::Priced(priced) => priced.words(instance),
-            Offer::Refused(fault) => after(Word::text("-"), words_of_fault(instance, fault)),
-            Offer::Nothing => two("-", Word::text("none")),
+            Offer::Priced(priced) => priced.push(text, instance),
+            Offer::Refused(fault) => {
+                text.push_str(" - ")?;
+                push_fault(text, instance, fault)
+            }
+            Offer::Nothing => text.push_str(" - none"),
         }
     }
 }

@@ -11,30 +11,30 @@ ghost use Rattle.ctt_edits.specs.Fitting.{AreFew};
 ghost use Rattle.ctt_core.specs.Entries.{EntryFits};
 ghost use Rattle.ctt_script.specs.Entries.{IsShort};
 ghost use Rattle.ctt_text.specs.Forms.{list_of, one_more};
-ghost use Rattle.ctt_script.specs.JournalWords.{reads, GivesRead, wants_memory};
-ghost use Rattle.ctt_script.specs.JournalPlaces.{asked_form, entry_form, journal_form};
+ghost use Rattle.ctt_script.specs.JournalWords.{parses, GivesJournal, journal_wants_memory};
+ghost use Rattle.ctt_script.specs.Journals.{asked_form, entry_form, journal_form};
 ghost use Rattle.ctt_script.specs.JournalText.{journal_answer, JournalSpells, JournalBreaksAt, IsJournalCauseOf};
 ghost use Rattle.ctt_script.specs.declared.journal_fault.JournalFault.{JournalFault};
 ghost use Rattle.ctt_script.specs.declared.journal_fault.JournalFault.TheVariants.{NotText, NoMemory};
 
 use crate::calls::read_call;
 use crate::journal_fault::JournalFault;
-use crate::places::{read_count, read_label, read_number_below};
 use crate::replies::read_reply;
+use crate::single_words::{read_count, read_label, read_number_below};
 use ctt_core::{JournalEntry, PlannerNo};
 use ctt_draft::{Asked, AskedCalls};
 use ctt_text::{Instance, Reader};
 use std::alloc::Global;
 
 /// Parses a call and its reply.
-#[tactic(auto, using(crate::proofs::JournalSteps::read_bind, crate::proofs::JournalSteps::read_done), unfolding(crate::specs::JournalPlaces::asked_form))]
+#[tactic(auto, using(crate::proofs::Steps::row), unfolding(crate::specs::Journals::asked_form))]
 fn read_asked(
     alloc: Global,
     reader: &mut Reader,
     instance: &Instance,
 ) -> Result<Asked, JournalFault>
-    ensures { GivesRead (λ asked. (asked, reader.new)) result
-        (reads (asked_form instance.now) reader.old) }
+    ensures { GivesJournal (λ asked. (asked, reader.new)) result
+        (parses (asked_form instance.now) reader.old) }
 {
     let call = read_call(reader, instance)?;
     let reply = read_reply(alloc, reader, instance)?;
@@ -42,15 +42,15 @@ fn read_asked(
 }
 
 /// Parses a call and its reply, and adds them to the list.
-#[tactic(auto, using(crate::proofs::JournalSteps::read_one_more))]
+#[tactic(auto, using(crate::proofs::Steps::read_one_more))]
 fn read_one_asked(
     alloc: Global,
     reader: &mut Reader,
     instance: &Instance,
     asked: &mut Vec<Asked>,
 ) -> Result<(), JournalFault>
-    ensures { GivesRead (λ _. (asked.new.items, reader.new)) result
-        (reads (one_more (asked_form instance.now) asked.old.items) reader.old) }
+    ensures { GivesJournal (λ _. (asked.new.items, reader.new)) result
+        (parses (one_more (asked_form instance.now) asked.old.items) reader.old) }
 {
     let one = read_asked(alloc, reader, instance)?;
     asked.push(one)?;
@@ -64,8 +64,8 @@ fn read_so_many_asked(
     instance: &Instance,
     count: u32,
 ) -> Result<Vec<Asked>, JournalFault>
-    ensures { GivesRead (λ asked. (asked.items, reader.new)) result
-        (reads (list_of (asked_form instance.now) count) reader.old) }
+    ensures { GivesJournal (λ asked. (asked.items, reader.new)) result
+        (parses (list_of (asked_form instance.now) count) reader.old) }
 {
     let mut asked = Vec::with_capacity(alloc, (count as usize).min(16))?;
     for _ in 0..count {
@@ -78,14 +78,14 @@ fn read_so_many_asked(
 ///
 /// A fault other than [`JournalFault::NoMemory`] names the first word that the grammar does not
 /// allow after the earlier ones, or that is missing.
-#[tactic(auto, using(crate::proofs::JournalSteps::read_bind, crate::proofs::JournalSteps::read_done), unfolding(crate::specs::JournalPlaces::entry_form))]
+#[tactic(auto, using(crate::proofs::Steps::row), unfolding(crate::specs::Journals::entry_form))]
 pub fn read_entry(
     alloc: Global,
     reader: &mut Reader,
     instance: &Instance,
 ) -> Result<JournalEntry, JournalFault>
-    ensures { GivesRead (λ entry. (entry, reader.new)) result
-        (reads (entry_form instance.now) reader.old) }
+    ensures { GivesJournal (λ entry. (entry, reader.new)) result
+        (parses (entry_form instance.now) reader.old) }
 {
     read_label(reader, "entry")?;
     let planner = read_number_below(reader, 1000)?;
@@ -98,15 +98,15 @@ pub fn read_entry(
 }
 
 /// Parses an entry, and adds it to the list.
-#[tactic(auto, using(crate::proofs::JournalSteps::read_one_more))]
+#[tactic(auto, using(crate::proofs::Steps::read_one_more))]
 fn read_one_entry(
     alloc: Global,
     reader: &mut Reader,
     instance: &Instance,
     entries: &mut Vec<JournalEntry>,
 ) -> Result<(), JournalFault>
-    ensures { GivesRead (λ _. (entries.new.items, reader.new)) result
-        (reads (one_more (entry_form instance.now) entries.old.items) reader.old) }
+    ensures { GivesJournal (λ _. (entries.new.items, reader.new)) result
+        (parses (one_more (entry_form instance.now) entries.old.items) reader.old) }
 {
     let entry = read_entry(alloc, reader, instance)?;
     entries.push(entry)?;
@@ -120,8 +120,8 @@ fn read_so_many_entries(
     instance: &Instance,
     count: u32,
 ) -> Result<Vec<JournalEntry>, JournalFault>
-    ensures { GivesRead (λ entries. (entries.items, reader.new)) result
-        (reads (list_of (entry_form instance.now) count) reader.old) }
+    ensures { GivesJournal (λ entries. (entries.items, reader.new)) result
+        (parses (list_of (entry_form instance.now) count) reader.old) }
 {
     let mut entries = Vec::new(alloc);
     for _ in 0..count {
@@ -131,14 +131,14 @@ fn read_so_many_entries(
 }
 
 /// Parses a journal, from `journal` to `END.`.
-#[tactic(auto, using(crate::proofs::JournalSteps::read_bind, crate::proofs::JournalSteps::read_done), unfolding(crate::specs::JournalPlaces::journal_form))]
+#[tactic(auto, using(crate::proofs::Steps::row), unfolding(crate::specs::Journals::journal_form))]
 fn read_entries(
     alloc: Global,
     reader: &mut Reader,
     instance: &Instance,
 ) -> Result<Vec<JournalEntry>, JournalFault>
-    ensures { GivesRead (λ entries. (entries.items, reader.new)) result
-        (reads (journal_form instance.now) reader.old) }
+    ensures { GivesJournal (λ entries. (entries.items, reader.new)) result
+        (parses (journal_form instance.now) reader.old) }
 {
     read_label(reader, "journal")?;
     let count = read_count(reader)?;
@@ -153,7 +153,7 @@ fn read_text(
     instance: &Instance,
     text: &str,
 ) -> Result<Vec<JournalEntry>, JournalFault>
-    ensures { Gives wants_memory (λ list.
+    ensures { Gives journal_wants_memory (λ list.
         list.items) result (journal_answer instance.now (words text.now)) }
 {
     let mut reader = Reader::new(text);

@@ -1,10 +1,13 @@
 //! Why a journal could not be parsed.
 
-ghost use Rattle.std.specs.Prelude.{◌≡◌};
+ghost use Rattle.std.specs.Prelude.{◌≡◌, IfOk};
+ghost use Rattle.std.specs.String.{string_bytes};
+ghost use Rattle.ctt_script.specs.JournalFaults.{fault_of_word, journal_point, journal_sentence};
 ghost use Rattle.ctt_script.specs.declared.journal_fault.JournalFault.TheVariants as journal_fault;
+ghost use Rattle.ctt_text.specs.Words.{words};
 
-use ctt_text::{FixedFault, NoMemory, PlaceFault, RoomFault, SlotFault};
-use std::alloc::{AllocError, AllocFailed};
+use ctt_text::{NoMemory, TextFault, WordFault, about, byte_point, word_point};
+use std::alloc::{AllocError, AllocFailed, Global};
 use thiserror::Error;
 
 /// Why a journal could not be parsed. Words are counted from 1.
@@ -22,6 +25,38 @@ pub enum JournalFault {
     /// There is not enough memory.
     #[error("no memory")]
     NoMemory,
+}
+
+impl JournalFault {
+    /// Returns what is wrong with the word.
+    fn sentence(&self, alloc: Global, text: &[u8]) -> Result<String, AllocError>
+        ensures { IfOk result (λ sentence. string_bytes sentence
+            ≡ journal_sentence (words text.now) self.now) }
+    {
+        match self {
+            JournalFault::Missing(_) => String::from_str(alloc, "the words end before END."),
+            JournalFault::BadWord(at) => about(alloc, "not valid here: ", text, *at),
+            JournalFault::NotText(_) | JournalFault::NoMemory => {
+                String::from_str(alloc, "no memory")
+            }
+        }
+    }
+
+    /// Returns the line that says where and why the journal or the minutes in this file are
+    /// refused: `FILE:LINE:COLUMN: CODE: SENTENCE`.
+    pub fn point(&self, alloc: Global, file: &str, text: &[u8]) -> Result<String, AllocError>
+        ensures { IfOk result (λ line. string_bytes line
+            ≡ journal_point file.now text.now self.now) }
+    {
+        let (code, at) = match self {
+            JournalFault::NotText(at) => return byte_point(alloc, file, text, "J1", *at),
+            JournalFault::Missing(at) => ("J2", *at),
+            JournalFault::BadWord(at) => ("J3", *at),
+            JournalFault::NoMemory => ("memory", 0),
+        };
+        let sentence = self.sentence(alloc, text)?;
+        word_point(alloc, file, text, code, at, &sentence)
+    }
 }
 
 impl From<AllocError> for JournalFault {
@@ -48,52 +83,13 @@ impl<T: Drop> From<AllocFailed<T>> for JournalFault {
     }
 }
 
-impl PlaceFault for JournalFault {
-    ghost missing = { journal_fault.Missing };
+impl TextFault for JournalFault {
+    ghost of_word = { fault_of_word };
 
-    ghost bad_number = { journal_fault.BadWord };
-
-    ghost unknown_course = { journal_fault.BadWord };
-
-    fn missing(at: u64) -> JournalFault {
-        JournalFault::Missing(at)
-    }
-
-    fn bad_number(at: u64) -> JournalFault {
-        JournalFault::BadWord(at)
-    }
-
-    fn unknown_course(at: u64) -> JournalFault {
-        JournalFault::BadWord(at)
-    }
-}
-
-impl SlotFault for JournalFault {
-    ghost day_out = { journal_fault.BadWord };
-
-    ghost period_out = { journal_fault.BadWord };
-
-    fn day_out(at: u64) -> JournalFault {
-        JournalFault::BadWord(at)
-    }
-
-    fn period_out(at: u64) -> JournalFault {
-        JournalFault::BadWord(at)
-    }
-}
-
-impl FixedFault for JournalFault {
-    ghost other_word = { journal_fault.BadWord };
-
-    fn other_word(at: u64) -> JournalFault {
-        JournalFault::BadWord(at)
-    }
-}
-
-impl RoomFault for JournalFault {
-    ghost unknown_room = { journal_fault.BadWord };
-
-    fn unknown_room(at: u64) -> JournalFault {
-        JournalFault::BadWord(at)
+    fn of_word(fault: WordFault, at: u64) -> JournalFault {
+        match fault {
+            WordFault::Missing => JournalFault::Missing(at),
+            _ => JournalFault::BadWord(at),
+        }
     }
 }

@@ -96,7 +96,7 @@ pub(crate) enum FaultKind {
 /// Returns whether a word equals a text. Callers pass a literal, so that once inlined its bytes are
 /// compared in place, without a call.
 #[inline(always)]
-#[tactic(auto, using(crate::proofs::KindLemmas::other_length, crate::proofs::KindLemmas::other_at, crate::proofs::KindLemmas::same_all, crate::proofs::KindLemmas::same_more))]
+#[tactic(auto, using(crate::proofs::KindLemmas::compared))]
 pub fn is_word(word: &str, text: &str) -> bool
     ensures { result ≡ bytes_eq word.now text.now }
 {

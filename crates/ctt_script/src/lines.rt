@@ -50,7 +50,7 @@ impl<'a> Iterator for Lines<'a> {
 
     ghost remaining = { item_count (λ left. left) };
 
-    #[tactic(auto, using(crate::proofs::ScriptLaws::first_line, crate::proofs::ScriptLaws::only_line))]
+    #[tactic(auto, using(crate::proofs::ScriptLaws::first_or_only))]
     fn next(&mut self) -> Option<&'a [u8]> {
         if self.is_done {
             return None;

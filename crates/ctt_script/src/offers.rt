@@ -4,15 +4,15 @@ ghost use Rattle.std.specs.Prelude.{◌≡◌, None, codes};
 ghost use Rattle.ctt_text.specs.Forms.{list_of, one_more};
 ghost use Rattle.ctt_script.specs.Amounts.{price_of};
 ghost use Rattle.ctt_script.specs.Kinds.{fault_kind};
-ghost use Rattle.ctt_script.specs.JournalWords.{word, mark_or, reads, IsRead, GivesRead};
-ghost use Rattle.ctt_script.specs.ReplyPlaces.{offer_form, offers};
+ghost use Rattle.ctt_script.specs.JournalWords.{word, mark_or, parses, IsRead, GivesJournal};
+ghost use Rattle.ctt_script.specs.Replies.{offer_form, offers_form};
 
 use crate::amounts::price;
 use crate::calls::read_edit;
 use crate::journal_fault::JournalFault;
 use crate::kinds::{FaultKind, fault_kind, is_word};
-use crate::places::{read_count, read_word};
 use crate::replies::read_fault_after;
+use crate::single_words::{read_count, read_word};
 use ctt_edits::{Offer, Offers, PricedEdit};
 use ctt_text::{Instance, Reader};
 use std::alloc::Global;
@@ -29,10 +29,10 @@ fn fault_or_none(word: &str) -> Option<Option<FaultKind>>
 }
 
 /// Parses the keyword of a fault, or `none`.
-#[tactic(auto, using(crate::proofs::JournalSteps::read_word))]
+#[tactic(auto, using(crate::proofs::Steps::read_word))]
 fn read_fault_or_none(reader: &mut Reader) -> Result<Option<FaultKind>, JournalFault>
     ensures { IsRead (λ kind. (kind, reader.new)) result
-        (reads (word (mark_or (codes "none") fault_kind) None) reader.old) }
+        (parses (word (mark_or (codes "none") fault_kind) None) reader.old) }
 {
     let at = reader.next();
     let word = read_word(reader)?;
@@ -51,10 +51,10 @@ fn price_or_dash(word: &str) -> Option<Option<i64>>
 }
 
 /// Parses a price, or `-`.
-#[tactic(auto, using(crate::proofs::JournalSteps::read_word))]
+#[tactic(auto, using(crate::proofs::Steps::read_word))]
 fn read_price_or_dash(reader: &mut Reader) -> Result<Option<i64>, JournalFault>
     ensures { IsRead (λ price. (price, reader.new)) result
-        (reads (word (mark_or (codes "-") price_of) None) reader.old) }
+        (parses (word (mark_or (codes "-") price_of) None) reader.old) }
 {
     let at = reader.next();
     let word = read_word(reader)?;
@@ -63,14 +63,14 @@ fn read_price_or_dash(reader: &mut Reader) -> Result<Option<i64>, JournalFault>
 
 /// Parses what a slot offers, and adds it to the list: a price and its edit, or `-` and a fault or
 /// `none`.
-#[tactic(auto, using(crate::proofs::JournalSteps::read_one_offer))]
+#[tactic(auto, using(crate::proofs::Steps::read_one_offer))]
 fn read_one_offer(
     reader: &mut Reader,
     instance: &Instance,
     list: &mut Offers,
 ) -> Result<(), JournalFault>
-    ensures { GivesRead (λ _. (list.new, reader.new)) result
-        (reads (one_more (offer_form instance.now) list.old) reader.old) }
+    ensures { GivesJournal (λ _. (list.new, reader.new)) result
+        (parses (one_more (offer_form instance.now) list.old) reader.old) }
 {
     match read_price_or_dash(reader)? {
         Some(price) => {
@@ -95,8 +95,8 @@ fn read_so_many_offers(
     instance: &Instance,
     count: u32,
 ) -> Result<Offers, JournalFault>
-    ensures { GivesRead (λ list. (list, reader.new)) result
-        (reads (list_of (offer_form instance.now) count) reader.old) }
+    ensures { GivesJournal (λ list. (list, reader.new)) result
+        (parses (list_of (offer_form instance.now) count) reader.old) }
 {
     let mut list = Offers::none(alloc);
     for _ in 0..count {
@@ -106,14 +106,14 @@ fn read_so_many_offers(
 }
 
 /// Parses a count, and what each of that many slots offers.
-#[tactic(auto, using(crate::proofs::JournalSteps::read_bind), unfolding(crate::specs::ReplyPlaces::offers))]
+#[tactic(auto, using(crate::proofs::Steps::read_bind), unfolding(crate::specs::Replies::offers_form))]
 pub(crate) fn read_offers(
     alloc: Global,
     reader: &mut Reader,
     instance: &Instance,
 ) -> Result<Offers, JournalFault>
-    ensures { GivesRead (λ list. (list, reader.new)) result
-        (reads (offers instance.now) reader.old) }
+    ensures { GivesJournal (λ list. (list, reader.new)) result
+        (parses (offers_form instance.now) reader.old) }
 {
     let count = read_count(reader)?;
     read_so_many_offers(alloc, reader, instance, count)

@@ -1,17 +1,17 @@
 //! Parsing edit patterns.
 
-ghost use Rattle.std.specs.Prelude.{◌≡◌, ◌<◌, IfOk, IfSome, None, codes};
+ghost use Rattle.std.specs.Prelude.{◌≡◌, ◌<◌, IfOk, IfSome, None};
 ghost use Rattle.ctt_problem.specs.Problem.{number_in};
 ghost use Rattle.ctt_script.specs.Amounts.{number_below};
-ghost use Rattle.ctt_script.specs.JournalWords.{word, label, reads, IsRead};
-ghost use Rattle.ctt_script.specs.CallPlaces.{any_or, room_choice, slot_after, slot_choice, pattern_after, pattern_form, any_slot, slot_pattern_after, slot_pattern_form};
+ghost use Rattle.ctt_script.specs.JournalWords.{word, parses, IsRead};
+ghost use Rattle.ctt_script.specs.Calls.{any_or, room_choice, slot_after, slot_choice, pattern_after, pattern_form, any_slot, anywhere_after, anywhere_form};
 ghost use Rattle.ctt_script.specs.declared.kinds.PatternKind.TheVariants as pattern;
 ghost use Rattle.ctt_script.specs.declared.kinds.SlotPatternKind.TheVariants as to_any;
 
 use crate::amounts::number_below;
 use crate::journal_fault::JournalFault;
 use crate::kinds::{PatternKind, SlotPatternKind, is_word};
-use crate::places::{
+use crate::single_words::{
     read_course, read_label, read_number_below, read_pattern_kind, read_slot,
     read_slot_pattern_kind, read_word,
 };
@@ -30,13 +30,13 @@ fn room_or_any(instance: &Instance, word: &str) -> Option<Option<RoomNo>>
 }
 
 /// Parses the name of a room, or `*` for any.
-#[tactic(auto, using(crate::proofs::JournalSteps::read_word), unfolding(crate::specs::CallPlaces::room_choice))]
+#[tactic(auto, using(crate::proofs::Steps::read_word), unfolding(crate::specs::Calls::room_choice))]
 fn read_room_choice(
     reader: &mut Reader,
     instance: &Instance,
 ) -> Result<Option<RoomNo>, JournalFault>
     ensures { IsRead (λ room. (room, reader.new)) result
-        (reads (room_choice instance.now) reader.old) }
+        (parses (room_choice instance.now) reader.old) }
 {
     let at = reader.next();
     let word = read_word(reader)?;
@@ -56,11 +56,11 @@ fn below_or_any(word: &str, limit: u16) -> Option<Option<u16>>
 }
 
 /// Parses a number less than `limit`, or `*` for any.
-#[tactic(auto, using(crate::proofs::JournalSteps::read_word))]
+#[tactic(auto, using(crate::proofs::Steps::read_word))]
 fn read_below_or_any(reader: &mut Reader, limit: u16) -> Result<Option<u16>, JournalFault>
     ensures limit { IfOk result (λ number. IfSome number (λ n. n < limit)) }
     ensures exact { IsRead (λ number. (number, reader.new)) result
-        (reads (word (any_or (number_below limit)) None) reader.old) }
+        (parses (word (any_or (number_below limit)) None) reader.old) }
 {
     let at = reader.next();
     let word = read_word(reader)?;
@@ -68,7 +68,7 @@ fn read_below_or_any(reader: &mut Reader, limit: u16) -> Result<Option<u16>, Jou
 }
 
 /// Parses what follows the day of a slot: its period or, if the day was `*`, a second `*`.
-#[tactic(auto, using(crate::proofs::JournalSteps::read_bind, crate::proofs::JournalSteps::read_done), unfolding(crate::specs::CallPlaces::slot_after))]
+#[tactic(auto, using(crate::proofs::Steps::row), unfolding(crate::specs::Calls::slot_after))]
 fn read_slot_after(
     reader: &mut Reader,
     instance: &Instance,
@@ -76,7 +76,7 @@ fn read_slot_after(
 ) -> Result<Option<SlotNo>, JournalFault>
     requires { IfSome day (λ d. d < instance.now.days) }
     ensures { IsRead (λ slot. (slot, reader.new)) result
-        (reads (slot_after instance.now day) reader.old) }
+        (parses (slot_after instance.now day) reader.old) }
 {
     match day {
         None => {
@@ -91,23 +91,23 @@ fn read_slot_after(
 }
 
 /// Parses a day and a period as their slot, or `* *` for any slot.
-#[tactic(auto, using(crate::proofs::JournalSteps::read_bind), unfolding(crate::specs::CallPlaces::slot_choice))]
+#[tactic(auto, using(crate::proofs::Steps::read_bind), unfolding(crate::specs::Calls::slot_choice))]
 fn read_slot_choice(
     reader: &mut Reader,
     instance: &Instance,
 ) -> Result<Option<SlotNo>, JournalFault>
     ensures { IsRead (λ slot. (slot, reader.new)) result
-        (reads (slot_choice instance.now) reader.old) }
+        (parses (slot_choice instance.now) reader.old) }
 {
     let day = read_below_or_any(reader, instance.days())?;
     read_slot_after(reader, instance, day)
 }
 
 /// Parses what follows `place`: a course, a room or `*`, and a slot or `* *`.
-#[tactic(auto, using(crate::proofs::JournalSteps::read_bind, crate::proofs::JournalSteps::read_done), unfolding(crate::specs::CallPlaces::pattern_after))]
+#[tactic(auto, using(crate::proofs::Steps::row), unfolding(crate::specs::Calls::pattern_after))]
 fn read_place(reader: &mut Reader, instance: &Instance) -> Result<Pattern, JournalFault>
     ensures { IsRead (λ pattern. (pattern, reader.new)) result
-        (reads (pattern_after instance.now pattern.Place) reader.old) }
+        (parses (pattern_after instance.now pattern.Place) reader.old) }
 {
     let course = read_course(reader, instance)?;
     let room = read_room_choice(reader, instance)?;
@@ -116,10 +116,10 @@ fn read_place(reader: &mut Reader, instance: &Instance) -> Result<Pattern, Journ
 }
 
 /// Parses what follows `move`: a course, its slot, a room or `*`, and a target slot or `* *`.
-#[tactic(auto, using(crate::proofs::JournalSteps::read_bind, crate::proofs::JournalSteps::read_done), unfolding(crate::specs::CallPlaces::pattern_after))]
+#[tactic(auto, using(crate::proofs::Steps::row), unfolding(crate::specs::Calls::pattern_after))]
 fn read_move(reader: &mut Reader, instance: &Instance) -> Result<Pattern, JournalFault>
     ensures { IsRead (λ pattern. (pattern, reader.new)) result
-        (reads (pattern_after instance.now pattern.Move) reader.old) }
+        (parses (pattern_after instance.now pattern.Move) reader.old) }
 {
     let course = read_course(reader, instance)?;
     let slot = read_slot(reader, instance)?;
@@ -129,10 +129,10 @@ fn read_move(reader: &mut Reader, instance: &Instance) -> Result<Pattern, Journa
 }
 
 /// Parses what follows `swap`: a course, its slot, and `* * *` for any other lecture.
-#[tactic(auto, using(crate::proofs::JournalSteps::read_bind, crate::proofs::JournalSteps::read_done), unfolding(crate::specs::CallPlaces::pattern_after))]
+#[tactic(auto, using(crate::proofs::Steps::row), unfolding(crate::specs::Calls::pattern_after))]
 fn read_swap(reader: &mut Reader, instance: &Instance) -> Result<Pattern, JournalFault>
     ensures { IsRead (λ pattern. (pattern, reader.new)) result
-        (reads (pattern_after instance.now pattern.Swap) reader.old) }
+        (parses (pattern_after instance.now pattern.Swap) reader.old) }
 {
     let course = read_course(reader, instance)?;
     let slot = read_slot(reader, instance)?;
@@ -143,10 +143,10 @@ fn read_swap(reader: &mut Reader, instance: &Instance) -> Result<Pattern, Journa
 }
 
 /// Parses what follows `reroom`: a course, a room or `*`, and a slot.
-#[tactic(auto, using(crate::proofs::JournalSteps::read_bind, crate::proofs::JournalSteps::read_done), unfolding(crate::specs::CallPlaces::pattern_after))]
+#[tactic(auto, using(crate::proofs::Steps::row), unfolding(crate::specs::Calls::pattern_after))]
 fn read_reroom(reader: &mut Reader, instance: &Instance) -> Result<Pattern, JournalFault>
     ensures { IsRead (λ pattern. (pattern, reader.new)) result
-        (reads (pattern_after instance.now pattern.Reroom) reader.old) }
+        (parses (pattern_after instance.now pattern.Reroom) reader.old) }
 {
     let course = read_course(reader, instance)?;
     let room = read_room_choice(reader, instance)?;
@@ -161,7 +161,7 @@ fn read_pattern_after(
     kind: PatternKind,
 ) -> Result<Pattern, JournalFault>
     ensures { IsRead (λ pattern. (pattern, reader.new)) result
-        (reads (pattern_after instance.now kind) reader.old) }
+        (parses (pattern_after instance.now kind) reader.old) }
 {
     match kind {
         PatternKind::Place => read_place(reader, instance),
@@ -172,35 +172,35 @@ fn read_pattern_after(
 }
 
 /// Parses an edit pattern.
-#[tactic(auto, using(crate::proofs::JournalSteps::read_bind), unfolding(crate::specs::CallPlaces::pattern_form))]
+#[tactic(auto, using(crate::proofs::Steps::row), unfolding(crate::specs::Calls::pattern_form))]
 pub(crate) fn read_pattern(
     reader: &mut Reader,
     instance: &Instance,
 ) -> Result<Pattern, JournalFault>
     ensures { IsRead (λ pattern. (pattern, reader.new)) result
-        (reads (pattern_form instance.now) reader.old) }
+        (parses (pattern_form instance.now) reader.old) }
 {
     let kind = read_pattern_kind(reader)?;
     read_pattern_after(reader, instance, kind)
 }
 
 /// Parses `* *`, which stands for any slot.
-#[tactic(auto, using(crate::proofs::JournalSteps::read_bind), unfolding(crate::specs::CallPlaces::any_slot))]
+#[tactic(auto, using(crate::proofs::Steps::read_bind), unfolding(crate::specs::Calls::any_slot))]
 fn read_any_slot(reader: &mut Reader) -> Result<(), JournalFault>
-    ensures { IsRead (λ _. (tt, reader.new)) result (reads any_slot reader.old) }
+    ensures { IsRead (λ _. (tt, reader.new)) result (parses any_slot reader.old) }
 {
     read_label(reader, "*")?;
     read_label(reader, "*")
 }
 
 /// Parses what follows `place` in a pattern to any slot: a course, a room or `*`, and `* *`.
-#[tactic(auto, using(crate::proofs::JournalSteps::read_bind, crate::proofs::JournalSteps::read_done), unfolding(crate::specs::CallPlaces::slot_pattern_after))]
+#[tactic(auto, using(crate::proofs::Steps::row), unfolding(crate::specs::Calls::anywhere_after))]
 fn read_place_anywhere(
     reader: &mut Reader,
     instance: &Instance,
 ) -> Result<SlotPattern, JournalFault>
     ensures { IsRead (λ pattern. (pattern, reader.new)) result
-        (reads (slot_pattern_after instance.now to_any.Place) reader.old) }
+        (parses (anywhere_after instance.now to_any.Place) reader.old) }
 {
     let course = read_course(reader, instance)?;
     let room = read_room_choice(reader, instance)?;
@@ -210,10 +210,10 @@ fn read_place_anywhere(
 
 /// Parses what follows `move` in a pattern to any slot: a course, its slot, a room or `*`, and
 /// `* *`.
-#[tactic(auto, using(crate::proofs::JournalSteps::read_bind, crate::proofs::JournalSteps::read_done), unfolding(crate::specs::CallPlaces::slot_pattern_after))]
+#[tactic(auto, using(crate::proofs::Steps::row), unfolding(crate::specs::Calls::anywhere_after))]
 fn read_move_anywhere(reader: &mut Reader, instance: &Instance) -> Result<SlotPattern, JournalFault>
     ensures { IsRead (λ pattern. (pattern, reader.new)) result
-        (reads (slot_pattern_after instance.now to_any.Move) reader.old) }
+        (parses (anywhere_after instance.now to_any.Move) reader.old) }
 {
     let course = read_course(reader, instance)?;
     let slot = read_slot(reader, instance)?;
@@ -223,10 +223,10 @@ fn read_move_anywhere(reader: &mut Reader, instance: &Instance) -> Result<SlotPa
 }
 
 /// Parses what follows `swap` in a pattern to any slot: a course, its slot, and `* * *`.
-#[tactic(auto, using(crate::proofs::JournalSteps::read_bind, crate::proofs::JournalSteps::read_done), unfolding(crate::specs::CallPlaces::slot_pattern_after))]
+#[tactic(auto, using(crate::proofs::Steps::row), unfolding(crate::specs::Calls::anywhere_after))]
 fn read_swap_anywhere(reader: &mut Reader, instance: &Instance) -> Result<SlotPattern, JournalFault>
     ensures { IsRead (λ pattern. (pattern, reader.new)) result
-        (reads (slot_pattern_after instance.now to_any.Swap) reader.old) }
+        (parses (anywhere_after instance.now to_any.Swap) reader.old) }
 {
     let course = read_course(reader, instance)?;
     let slot = read_slot(reader, instance)?;
@@ -242,7 +242,7 @@ fn read_slot_pattern_after(
     kind: SlotPatternKind,
 ) -> Result<SlotPattern, JournalFault>
     ensures { IsRead (λ pattern. (pattern, reader.new)) result
-        (reads (slot_pattern_after instance.now kind) reader.old) }
+        (parses (anywhere_after instance.now kind) reader.old) }
 {
     match kind {
         SlotPatternKind::Place => read_place_anywhere(reader, instance),
@@ -252,13 +252,13 @@ fn read_slot_pattern_after(
 }
 
 /// Parses an edit pattern that leads to any slot.
-#[tactic(auto, using(crate::proofs::JournalSteps::read_bind), unfolding(crate::specs::CallPlaces::slot_pattern_form))]
+#[tactic(auto, using(crate::proofs::Steps::row), unfolding(crate::specs::Calls::anywhere_form))]
 pub(crate) fn read_slot_pattern(
     reader: &mut Reader,
     instance: &Instance,
 ) -> Result<SlotPattern, JournalFault>
     ensures { IsRead (λ pattern. (pattern, reader.new)) result
-        (reads (slot_pattern_form instance.now) reader.old) }
+        (parses (anywhere_form instance.now) reader.old) }
 {
     let kind = read_slot_pattern_kind(reader)?;
     read_slot_pattern_after(reader, instance, kind)

@@ -1,14 +1,14 @@
 //! Parsing replies.
 
 ghost use Rattle.ctt_text.specs.Forms.{list_of, one_more};
-ghost use Rattle.ctt_script.specs.JournalWords.{reads, IsRead, GivesRead};
-ghost use Rattle.ctt_script.specs.ReplyPlaces.{fault_after, fault_form, lecture, lectures, costs, shortfall, shortfalls, priced, priced_edits, reply_after, reply_form};
+ghost use Rattle.ctt_script.specs.JournalWords.{parses, IsRead, GivesJournal};
+ghost use Rattle.ctt_script.specs.Replies.{fault_after, fault_form, lecture, lectures, costs_form, shortfall_form, shortfalls, priced_form, priced_edits, reply_after, reply_form};
 
 use crate::calls::read_edit;
 use crate::journal_fault::JournalFault;
 use crate::kinds::{FaultKind, ReplyKind};
 use crate::offers::read_offers;
-use crate::places::{
+use crate::single_words::{
     read_amount, read_count, read_course, read_fault_kind, read_price, read_reply_kind, read_room,
     read_slot,
 };
@@ -18,14 +18,14 @@ use ctt_text::{Instance, Placed, Reader};
 use std::alloc::Global;
 
 /// Parses what follows the keyword of a fault.
-#[tactic(auto, using(crate::proofs::JournalSteps::read_bind, crate::proofs::JournalSteps::read_done), unfolding(crate::specs::ReplyPlaces::fault_after))]
+#[tactic(auto, using(crate::proofs::Steps::row), unfolding(crate::specs::Replies::fault_after))]
 pub(crate) fn read_fault_after(
     reader: &mut Reader,
     instance: &Instance,
     kind: FaultKind,
 ) -> Result<EditFault, JournalFault>
     ensures { IsRead (λ fault. (fault, reader.new)) result
-        (reads (fault_after instance.now kind) reader.old) }
+        (parses (fault_after instance.now kind) reader.old) }
 {
     match kind {
         FaultKind::NotPlaced => Ok(EditFault::NotPlaced),
@@ -42,20 +42,20 @@ pub(crate) fn read_fault_after(
 }
 
 /// Parses a fault.
-#[tactic(auto, using(crate::proofs::JournalSteps::read_bind), unfolding(crate::specs::ReplyPlaces::fault_form))]
+#[tactic(auto, using(crate::proofs::Steps::row), unfolding(crate::specs::Replies::fault_form))]
 fn read_fault(reader: &mut Reader, instance: &Instance) -> Result<EditFault, JournalFault>
     ensures { IsRead (λ fault. (fault, reader.new)) result
-        (reads (fault_form instance.now) reader.old) }
+        (parses (fault_form instance.now) reader.old) }
 {
     let kind = read_fault_kind(reader)?;
     read_fault_after(reader, instance, kind)
 }
 
 /// Parses a lecture: a course, a room and a slot.
-#[tactic(auto, using(crate::proofs::JournalSteps::read_bind, crate::proofs::JournalSteps::read_done), unfolding(crate::specs::ReplyPlaces::lecture))]
+#[tactic(auto, using(crate::proofs::Steps::row), unfolding(crate::specs::Replies::lecture))]
 fn read_lecture(reader: &mut Reader, instance: &Instance) -> Result<Placed, JournalFault>
     ensures { IsRead (λ lecture. (lecture, reader.new)) result
-        (reads (lecture instance.now) reader.old) }
+        (parses (lecture instance.now) reader.old) }
 {
     let course = read_course(reader, instance)?;
     let room = read_room(reader, instance)?;
@@ -64,14 +64,14 @@ fn read_lecture(reader: &mut Reader, instance: &Instance) -> Result<Placed, Jour
 }
 
 /// Parses a lecture, and adds it to the list.
-#[tactic(auto, using(crate::proofs::JournalSteps::read_one_more))]
+#[tactic(auto, using(crate::proofs::Steps::read_one_more))]
 fn read_one_lecture(
     reader: &mut Reader,
     instance: &Instance,
     lectures: &mut Vec<Placed>,
 ) -> Result<(), JournalFault>
-    ensures { GivesRead (λ _. (lectures.new.items, reader.new)) result
-        (reads (one_more (lecture instance.now) lectures.old.items) reader.old) }
+    ensures { GivesJournal (λ _. (lectures.new.items, reader.new)) result
+        (parses (one_more (lecture instance.now) lectures.old.items) reader.old) }
 {
     let lecture = read_lecture(reader, instance)?;
     lectures.push(lecture)?;
@@ -85,8 +85,8 @@ fn read_so_many_lectures(
     instance: &Instance,
     count: u32,
 ) -> Result<Vec<Placed>, JournalFault>
-    ensures { GivesRead (λ lectures. (lectures.items, reader.new)) result
-        (reads (list_of (lecture instance.now) count) reader.old) }
+    ensures { GivesJournal (λ lectures. (lectures.items, reader.new)) result
+        (parses (list_of (lecture instance.now) count) reader.old) }
 {
     let mut lectures = Vec::with_capacity(alloc, (count as usize).min(16))?;
     for _ in 0..count {
@@ -96,23 +96,23 @@ fn read_so_many_lectures(
 }
 
 /// Parses a count, and that many lectures.
-#[tactic(auto, using(crate::proofs::JournalSteps::read_bind), unfolding(crate::specs::ReplyPlaces::lectures))]
+#[tactic(auto, using(crate::proofs::Steps::read_bind), unfolding(crate::specs::Replies::lectures))]
 fn read_lectures(
     alloc: Global,
     reader: &mut Reader,
     instance: &Instance,
 ) -> Result<Vec<Placed>, JournalFault>
-    ensures { GivesRead (λ lectures. (lectures.items, reader.new)) result
-        (reads (lectures instance.now) reader.old) }
+    ensures { GivesJournal (λ lectures. (lectures.items, reader.new)) result
+        (parses (lectures instance.now) reader.old) }
 {
     let count = read_count(reader)?;
     read_so_many_lectures(alloc, reader, instance, count)
 }
 
 /// Parses the costs for capacity, days, compactness and stability, in this order.
-#[tactic(auto, using(crate::proofs::JournalSteps::read_bind, crate::proofs::JournalSteps::read_done), unfolding(crate::specs::ReplyPlaces::costs))]
+#[tactic(auto, using(crate::proofs::Steps::row), unfolding(crate::specs::Replies::costs_form))]
 fn read_costs(reader: &mut Reader) -> Result<Cost, JournalFault>
-    ensures { IsRead (λ costs. (costs, reader.new)) result (reads costs reader.old) }
+    ensures { IsRead (λ costs. (costs, reader.new)) result (parses costs_form reader.old) }
 {
     let capacity = read_amount(reader)?;
     let days = read_amount(reader)?;
@@ -127,10 +127,10 @@ fn read_costs(reader: &mut Reader) -> Result<Cost, JournalFault>
 }
 
 /// Parses a course and the number of its missing lectures.
-#[tactic(auto, using(crate::proofs::JournalSteps::read_bind, crate::proofs::JournalSteps::read_done), unfolding(crate::specs::ReplyPlaces::shortfall))]
+#[tactic(auto, using(crate::proofs::Steps::row), unfolding(crate::specs::Replies::shortfall_form))]
 fn read_shortfall(reader: &mut Reader, instance: &Instance) -> Result<Shortfall, JournalFault>
     ensures { IsRead (λ short. (short, reader.new)) result
-        (reads (shortfall instance.now) reader.old) }
+        (parses (shortfall_form instance.now) reader.old) }
 {
     let course = read_course(reader, instance)?;
     let missing = read_count(reader)?;
@@ -138,14 +138,14 @@ fn read_shortfall(reader: &mut Reader, instance: &Instance) -> Result<Shortfall,
 }
 
 /// Parses a course with missing lectures, and adds it to the list.
-#[tactic(auto, using(crate::proofs::JournalSteps::read_one_more))]
+#[tactic(auto, using(crate::proofs::Steps::read_one_more))]
 fn read_one_shortfall(
     reader: &mut Reader,
     instance: &Instance,
     list: &mut Vec<Shortfall>,
 ) -> Result<(), JournalFault>
-    ensures { GivesRead (λ _. (list.new.items, reader.new)) result
-        (reads (one_more (shortfall instance.now) list.old.items) reader.old) }
+    ensures { GivesJournal (λ _. (list.new.items, reader.new)) result
+        (parses (one_more (shortfall_form instance.now) list.old.items) reader.old) }
 {
     let one = read_shortfall(reader, instance)?;
     list.push(one)?;
@@ -159,8 +159,8 @@ fn read_so_many_shortfall(
     instance: &Instance,
     count: u32,
 ) -> Result<Vec<Shortfall>, JournalFault>
-    ensures { GivesRead (λ list. (list.items, reader.new)) result
-        (reads (list_of (shortfall instance.now) count) reader.old) }
+    ensures { GivesJournal (λ list. (list.items, reader.new)) result
+        (parses (list_of (shortfall_form instance.now) count) reader.old) }
 {
     let mut list = Vec::with_capacity(alloc, (count as usize).min(16))?;
     for _ in 0..count {
@@ -170,28 +170,28 @@ fn read_so_many_shortfall(
 }
 
 /// Parses a count, and that many courses with missing lectures.
-#[tactic(auto, using(crate::proofs::JournalSteps::read_bind), unfolding(crate::specs::ReplyPlaces::shortfalls))]
+#[tactic(auto, using(crate::proofs::Steps::row), unfolding(crate::specs::Replies::shortfalls))]
 fn read_shortfalls(
     alloc: Global,
     reader: &mut Reader,
     instance: &Instance,
 ) -> Result<Vec<Shortfall>, JournalFault>
-    ensures { GivesRead (λ list. (list.items, reader.new)) result
-        (reads (shortfalls instance.now) reader.old) }
+    ensures { GivesJournal (λ list. (list.items, reader.new)) result
+        (parses (shortfalls instance.now) reader.old) }
 {
     let count = read_count(reader)?;
     read_so_many_shortfall(alloc, reader, instance, count)
 }
 
 /// Parses a price and its edit, and adds them to the list.
-#[tactic(auto, using(crate::proofs::JournalSteps::read_one_priced))]
+#[tactic(auto, using(crate::proofs::Steps::read_one_priced))]
 fn read_one_priced(
     reader: &mut Reader,
     instance: &Instance,
     list: &mut PricedEdits,
 ) -> Result<(), JournalFault>
-    ensures { GivesRead (λ _. (list.new, reader.new)) result
-        (reads (one_more (priced instance.now) list.old) reader.old) }
+    ensures { GivesJournal (λ _. (list.new, reader.new)) result
+        (parses (one_more (priced_form instance.now) list.old) reader.old) }
 {
     let price = read_price(reader)?;
     let edit = read_edit(reader, instance)?;
@@ -206,8 +206,8 @@ fn read_so_many_priced(
     instance: &Instance,
     count: u32,
 ) -> Result<PricedEdits, JournalFault>
-    ensures { GivesRead (λ list. (list, reader.new)) result
-        (reads (list_of (priced instance.now) count) reader.old) }
+    ensures { GivesJournal (λ list. (list, reader.new)) result
+        (parses (list_of (priced_form instance.now) count) reader.old) }
 {
     let mut list = PricedEdits::none(alloc);
     for _ in 0..count {
@@ -217,29 +217,29 @@ fn read_so_many_priced(
 }
 
 /// Parses a count, and that many edits with their prices.
-#[tactic(auto, using(crate::proofs::JournalSteps::read_bind), unfolding(crate::specs::ReplyPlaces::priced_edits))]
+#[tactic(auto, using(crate::proofs::Steps::row), unfolding(crate::specs::Replies::priced_edits))]
 fn read_priced_edits(
     alloc: Global,
     reader: &mut Reader,
     instance: &Instance,
 ) -> Result<PricedEdits, JournalFault>
-    ensures { GivesRead (λ list. (list, reader.new)) result
-        (reads (priced_edits instance.now) reader.old) }
+    ensures { GivesJournal (λ list. (list, reader.new)) result
+        (parses (priced_edits instance.now) reader.old) }
 {
     let count = read_count(reader)?;
     read_so_many_priced(alloc, reader, instance, count)
 }
 
 /// Parses what follows the keyword of a reply.
-#[tactic(auto, using(crate::proofs::JournalSteps::read_bind, crate::proofs::JournalSteps::read_done), unfolding(crate::specs::ReplyPlaces::reply_after))]
+#[tactic(auto, using(crate::proofs::Steps::row), unfolding(crate::specs::Replies::reply_after))]
 fn read_reply_after(
     alloc: Global,
     reader: &mut Reader,
     instance: &Instance,
     kind: ReplyKind,
 ) -> Result<Reply, JournalFault>
-    ensures { GivesRead (λ reply. (reply, reader.new)) result
-        (reads (reply_after instance.now kind) reader.old) }
+    ensures { GivesJournal (λ reply. (reply, reader.new)) result
+        (parses (reply_after instance.now kind) reader.old) }
 {
     match kind {
         ReplyKind::Done => Ok(Reply::Done),
@@ -258,14 +258,14 @@ fn read_reply_after(
 }
 
 /// Parses a reply.
-#[tactic(auto, using(crate::proofs::JournalSteps::read_bind), unfolding(crate::specs::ReplyPlaces::reply_form))]
+#[tactic(auto, using(crate::proofs::Steps::row), unfolding(crate::specs::Replies::reply_form))]
 pub(crate) fn read_reply(
     alloc: Global,
     reader: &mut Reader,
     instance: &Instance,
 ) -> Result<Reply, JournalFault>
-    ensures { GivesRead (λ reply. (reply, reader.new)) result
-        (reads (reply_form instance.now) reader.old) }
+    ensures { GivesJournal (λ reply. (reply, reader.new)) result
+        (parses (reply_form instance.now) reader.old) }
 {
     let kind = read_reply_kind(reader)?;
     read_reply_after(alloc, reader, instance, kind)

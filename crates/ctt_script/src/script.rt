@@ -6,10 +6,10 @@ ghost use Rattle.ctt_text.specs.Left.{Left};
 ghost use Rattle.ctt_text.specs.Words.{words};
 ghost use Rattle.ctt_core.specs.Runs.{EventFits};
 ghost use Rattle.ctt_core.specs.declared.event.Event.{Event};
-ghost use Rattle.ctt_script.specs.JournalWords.{word, reads, IsRead};
+ghost use Rattle.ctt_script.specs.JournalWords.{word, parses, IsRead};
 ghost use Rattle.ctt_script.specs.Kinds.{step_kind};
-ghost use Rattle.ctt_script.specs.ScriptPlaces.{first_of, step_after, event_after, event_form, own_first_of, own_after, own_form};
-ghost use Rattle.ctt_script.specs.ScriptText.{whole, whole_or_word, word_of, item, own_event, own_item, has_words};
+ghost use Rattle.ctt_script.specs.Events.{first_of, step_after, event_after, event_form, own_first_of, own_after, own_form};
+ghost use Rattle.ctt_script.specs.ScriptText.{all_parsed, whole_or_word, word_of_fault, item, own_event, own_item, has_words};
 ghost use Rattle.ctt_script.specs.declared.kinds.StepKind.TheVariants as step;
 ghost use Rattle.ctt_script.specs.declared.script.Start.TheVariants as begin;
 ghost use Rattle.ctt_script.specs.declared.script.OwnStart.TheVariants as own;
@@ -19,7 +19,7 @@ use crate::amounts::number_below;
 use crate::calls::{read_call_after, read_look};
 use crate::journal_fault::JournalFault;
 use crate::kinds::{StepKind, is_word, step_kind};
-use crate::places::read_word;
+use crate::single_words::read_word;
 use ctt_core::{Event, PlannerNo};
 use ctt_text::{Instance, Reader, Words};
 
@@ -34,7 +34,7 @@ pub(crate) enum Start {
 }
 
 /// Returns what the first word of a line means.
-#[tactic(auto, unfolding(crate::specs::ScriptPlaces::first_of))]
+#[tactic(auto, unfolding(crate::specs::Events::first_of))]
 fn first_of(word: &str) -> Option<Start>
     ensures { result ≡ first_of word.now }
 {
@@ -46,10 +46,10 @@ fn first_of(word: &str) -> Option<Start>
 }
 
 /// Parses the first word of a line.
-#[tactic(auto, using(crate::proofs::JournalSteps::read_word))]
+#[tactic(auto, using(crate::proofs::Steps::read_word))]
 fn read_start(reader: &mut Reader) -> Result<Start, JournalFault>
     ensures { IsRead (λ start. (start, reader.new)) result
-        (reads (word first_of begin.Show) reader.old) }
+        (parses (word first_of begin.Show) reader.old) }
 {
     let at = reader.next();
     let word = read_word(reader)?;
@@ -57,10 +57,10 @@ fn read_start(reader: &mut Reader) -> Result<Start, JournalFault>
 }
 
 /// Parses the keyword of a step.
-#[tactic(auto, using(crate::proofs::JournalSteps::read_word))]
+#[tactic(auto, using(crate::proofs::Steps::read_word))]
 fn read_step_kind(reader: &mut Reader) -> Result<StepKind, JournalFault>
     ensures { IsRead (λ kind. (kind, reader.new)) result
-        (reads (word step_kind step.Open) reader.old) }
+        (parses (word step_kind step.Open) reader.old) }
 {
     let at = reader.next();
     let word = read_word(reader)?;
@@ -69,7 +69,7 @@ fn read_step_kind(reader: &mut Reader) -> Result<StepKind, JournalFault>
 
 /// Parses what follows the keyword of a planner's step.
 #[inline(always)]
-#[tactic(auto, using(crate::proofs::JournalSteps::read_bind, crate::proofs::JournalSteps::read_done), unfolding(crate::specs::ScriptPlaces::step_after))]
+#[tactic(auto, using(crate::proofs::Steps::row), unfolding(crate::specs::Events::step_after))]
 fn read_step_after(
     reader: &mut Reader,
     instance: &Instance,
@@ -77,7 +77,7 @@ fn read_step_after(
     kind: StepKind,
 ) -> Result<Event, JournalFault>
     ensures { IsRead (λ event. (event, reader.new)) result
-        (reads (step_after instance.now planner kind) reader.old) }
+        (parses (step_after instance.now planner kind) reader.old) }
 {
     match kind {
         StepKind::Open => Ok(Event::Open(planner)),
@@ -91,14 +91,14 @@ fn read_step_after(
 }
 
 /// Parses what follows the first word of a line.
-#[tactic(auto, using(crate::proofs::JournalSteps::read_bind, crate::proofs::JournalSteps::read_done), unfolding(crate::specs::ScriptPlaces::event_after))]
+#[tactic(auto, using(crate::proofs::Steps::row), unfolding(crate::specs::Events::event_after))]
 fn read_event_after(
     reader: &mut Reader,
     instance: &Instance,
     start: Start,
 ) -> Result<Event, JournalFault>
     ensures { IsRead (λ event. (event, reader.new)) result
-        (reads (event_after instance.now start) reader.old) }
+        (parses (event_after instance.now start) reader.old) }
 {
     match start {
         Start::Show => Ok(Event::Show(read_look(reader, instance)?)),
@@ -110,10 +110,10 @@ fn read_event_after(
 }
 
 /// Parses an event.
-#[tactic(auto, using(crate::proofs::JournalSteps::read_bind), unfolding(crate::specs::ScriptPlaces::event_form))]
+#[tactic(auto, using(crate::proofs::Steps::read_bind), unfolding(crate::specs::Events::event_form))]
 fn read_event(reader: &mut Reader, instance: &Instance) -> Result<Event, JournalFault>
     ensures { IsRead (λ event. (event, reader.new)) result
-        (reads (event_form instance.now) reader.old) }
+        (parses (event_form instance.now) reader.old) }
 {
     let start = read_start(reader)?;
     read_event_after(reader, instance, start)
@@ -127,7 +127,7 @@ pub(crate) enum OwnStart {
 }
 
 /// Returns what the first word of a line means in one planner's own script.
-#[tactic(auto, unfolding(crate::specs::ScriptPlaces::own_first_of))]
+#[tactic(auto, unfolding(crate::specs::Events::own_first_of))]
 fn own_first_of(word: &str) -> Option<OwnStart>
     ensures { result ≡ own_first_of word.now }
 {
@@ -139,10 +139,10 @@ fn own_first_of(word: &str) -> Option<OwnStart>
 }
 
 /// Parses the first word of a line of one planner's own script.
-#[tactic(auto, using(crate::proofs::JournalSteps::read_word))]
+#[tactic(auto, using(crate::proofs::Steps::read_word))]
 fn read_own_start(reader: &mut Reader) -> Result<OwnStart, JournalFault>
     ensures { IsRead (λ start. (start, reader.new)) result
-        (reads (word own_first_of own.Show) reader.old) }
+        (parses (word own_first_of own.Show) reader.old) }
 {
     let at = reader.next();
     let word = read_word(reader)?;
@@ -150,7 +150,7 @@ fn read_own_start(reader: &mut Reader) -> Result<OwnStart, JournalFault>
 }
 
 /// Parses what follows the first word of a line of one planner's own script.
-#[tactic(auto, using(crate::proofs::JournalSteps::read_bind, crate::proofs::JournalSteps::read_done), unfolding(crate::specs::ScriptPlaces::own_after))]
+#[tactic(auto, using(crate::proofs::Steps::row), unfolding(crate::specs::Events::own_after))]
 fn read_own_after(
     reader: &mut Reader,
     instance: &Instance,
@@ -158,7 +158,7 @@ fn read_own_after(
     start: OwnStart,
 ) -> Result<Event, JournalFault>
     ensures { IsRead (λ event. (event, reader.new)) result
-        (reads (own_after instance.now planner start) reader.old) }
+        (parses (own_after instance.now planner start) reader.old) }
 {
     match start {
         OwnStart::Show => Ok(Event::Show(read_look(reader, instance)?)),
@@ -167,14 +167,14 @@ fn read_own_after(
 }
 
 /// Parses an event in one planner's own script.
-#[tactic(auto, using(crate::proofs::JournalSteps::read_bind), unfolding(crate::specs::ScriptPlaces::own_form))]
+#[tactic(auto, using(crate::proofs::Steps::read_bind), unfolding(crate::specs::Events::own_form))]
 fn read_own_event(
     reader: &mut Reader,
     instance: &Instance,
     planner: PlannerNo,
 ) -> Result<Event, JournalFault>
     ensures { IsRead (λ event. (event, reader.new)) result
-        (reads (own_form instance.now planner) reader.old) }
+        (parses (own_form instance.now planner) reader.old) }
 {
     let start = read_own_start(reader)?;
     read_own_after(reader, instance, planner, start)
@@ -183,7 +183,7 @@ fn read_own_event(
 /// Returns the event that was parsed, if no word is left after it.
 fn only_event(reader: &Reader, read: Result<Event, JournalFault>) -> Option<Event>
     ensures { (all : Result (Event × Left) JournalFault)
-        → IsRead (λ event. (event, reader.now)) read all → result ≡ whole all }
+        → IsRead (λ event. (event, reader.now)) read all → result ≡ all_parsed all }
 {
     match read {
         Ok(event) => {
@@ -236,7 +236,7 @@ pub fn read_own_line(instance: &Instance, planner: PlannerNo, line: &[u8]) -> Op
 
 /// Returns the number of the word at which parsing stopped.
 fn word_of(fault: JournalFault) -> u64
-    ensures { result ≡ word_of fault }
+    ensures { result ≡ word_of_fault fault }
 {
     match fault {
         JournalFault::NotText(at) | JournalFault::Missing(at) | JournalFault::BadWord(at) => at,

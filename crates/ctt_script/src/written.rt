@@ -14,7 +14,7 @@ ghost use Rattle.ctt_line.specs.Lines.{line};
 ghost use Rattle.ctt_script.specs.WrittenText.{asked_text, entry_text, journal_text};
 
 use crate::answers::write_reply;
-use crate::call_words::{two, words_of_call};
+use crate::call_words::write_call;
 use ctt_core::{JournalEntry, PlannerNo};
 use ctt_draft::Asked;
 use ctt_line::{Word, push_line};
@@ -27,7 +27,7 @@ fn write_asked(text: &mut String, instance: &Instance, asked: &Asked) -> Result<
     ensures { OnOk result (string_bytes text.new
         ≡ string_bytes text.old ++ asked_text instance.now asked.now) }
 {
-    push_line(text, words_of_call(instance, &asked.call).as_slice())?;
+    write_call(text, instance, &asked.call)?;
     write_reply(text, instance, &asked.reply)
 }
 
@@ -36,9 +36,8 @@ fn write_entry_head(text: &mut String, planner: PlannerNo, calls: u64) -> Result
     ensures { OnOk result (string_bytes text.new
         ≡ string_bytes text.old ++ line (codes "entry" ∷ decimal planner ∷ decimal calls ∷ [])) }
 {
-    let mut words = two("entry", Word::number(u64::from(planner.get())));
-    words.push(Word::number(calls));
-    push_line(text, words.as_slice())
+    let planner = Word::number(u64::from(planner.get()));
+    push_line(text, &[Word::text("entry"), planner, Word::number(calls)])
 }
 
 /// Adds the lines of an entry: its head line, then the lines of each call and its reply.
@@ -78,8 +77,10 @@ pub fn write_journal(
     instance.limits_hold();
     instance.names_are_words();
     let mut text = String::new(alloc);
-    let head = two("journal", Word::number(entries.len() as u64));
-    push_line(&mut text, head.as_slice())?;
+    push_line(
+        &mut text,
+        &[Word::text("journal"), Word::number(entries.len() as u64)],
+    )?;
     for entry in entries {
         write_entry(&mut text, instance, entry.planner, entry.asked.as_slice())?;
     }

@@ -9,8 +9,7 @@ use Rattle.ctt_core.specs.declared.journal.JournalEntry.{JournalEntry}
 use Rattle.ctt_desk.specs.Planners.{PlannerValue, new_planners}
 use Rattle.ctt_script.specs.ScriptText.{has_words, lines_of, own_item}
 use Rattle.ctt_seat.specs.CrewText.{closing_text}
-use Rattle.ctt_seat.specs.Seats.{AnswersLine}
-use Rattle.ctt_seat.specs.declared.seat.Seat.{Seat}
+use Rattle.ctt_seat.specs.Seats.{AnswersLine, SeatValue}
 use Rattle.ctt_seat.specs.declared.seat.Seat.TheVariants.{Free, Drafting}
 
 -- the items of a planner's script: for each line with words, the event that it asks for, if any
@@ -18,22 +17,22 @@ abbrev pub own_items : Problem → ℕ → List (List ℕ) → List (Option Even
 own_items i p lines = map (own_item i p) (filter has_words lines)
 
 -- the items are answered one after another, each at the seat that the previous one left
-abbrev pub AnswersItems : {X Y : Type 0} → Problem → List Placed → List (Option Event) → Seat X Y → Seat X Y → List ℕ → List ℕ → Type 0
+abbrev pub AnswersItems : Problem → List Placed → List (Option Event) → SeatValue → SeatValue → List ℕ → List ℕ → Type 0
 AnswersItems i t0 [] before after old new = (after ≡ before) × (new ≡ old)
-AnswersItems {X} {Y} i t0 (item ∷ items) before after old new = (next : Seat X Y) × (text : List ℕ) × AnswersLine i t0 item before next old text × AnswersItems i t0 items next after text new
+AnswersItems i t0 (item ∷ items) before after old new = (next : SeatValue) × (text : List ℕ) × AnswersLine i t0 item before next old text × AnswersItems i t0 items next after text new
 
 -- the planner who leaves a seat, abandoning an open draft
-abbrev pub leaver : {X Y : Type 0} → Seat X Y → PlannerValue
+abbrev pub leaver : SeatValue → PlannerValue
 leaver (Free p) = p
 leaver (Drafting d) = d.planner
 
 -- a planner follows his script from the seat before: text is the answers, and he leaves as q
-abbrev pub Attends : {X Y : Type 0} → Problem → List Placed → List ℕ → Seat X Y → PlannerValue → List ℕ → Type 0
-Attends {X} {Y} i t0 script before q text = (after : Seat X Y) × AnswersItems i t0 (own_items i (leaver before).number (lines_of script)) before after [] text × (q ≡ leaver after)
+abbrev pub Attends : Problem → List Placed → List ℕ → SeatValue → PlannerValue → List ℕ → Type 0
+Attends i t0 script before q text = (after : SeatValue) × AnswersItems i t0 (own_items i (leaver before).number (lines_of script)) before after [] text × (q ≡ leaver after)
 
 -- the planner, without an open draft, follows his script: text is the answers, and he leaves as q
 abbrev pub IsAttended : Problem → List Placed → PlannerValue × List ℕ → PlannerValue → List ℕ → Type 0
-IsAttended i t0 who q text = Attends {X = Unit {0}} {Y = Unit {0}} i t0 who.1 (Free who.0) q text
+IsAttended i t0 who q text = Attends i t0 who.1 (Free who.0) q text
 
 -- each planner follows his script; the planners as they leave and the answers have the same order
 abbrev pub AreAttended : Problem → List Placed → List (PlannerValue × List ℕ) → List PlannerValue → List (List ℕ) → Type 0
@@ -48,7 +47,7 @@ HoldsSeen planners history = All (λ (p : PlannerValue). IsPrefix p.front histor
 
 -- the report has these answers, the length of a legal history on the opening, and the costs of the
 -- opening after it; the history holds what the planners have seen
-pub record IsClosing (problem : Problem) (opening : List Placed) (planners : List PlannerValue) (answers : List (List ℕ)) (text : List ℕ) : Type 0 where
+pub record IsClosingReport (problem : Problem) (opening : List Placed) (planners : List PlannerValue) (answers : List (List ℕ)) (text : List ℕ) : Type 0 where
   pub history : List JournalEntry
   pub legal : Legal problem opening history
   pub holds : HoldsSeen planners history
@@ -60,4 +59,4 @@ pub record IsCrewText (problem : Problem) (opening : List Placed) (scripts : Lis
   pub planners : List PlannerValue
   pub answers : List (List ℕ)
   pub attended : AreAttended problem opening (zip (new_planners (length scripts)) scripts) planners answers
-  pub closes : IsClosing problem opening planners answers text
+  pub closes : IsClosingReport problem opening planners answers text

@@ -14,28 +14,28 @@ use Rattle.ctt_script.specs.AnswerText.{answer_words}
 use Rattle.ctt_script.specs.Entries.{AnswerFits}
 use Rattle.ctt_line.specs.Lines.{line}
 use Rattle.ctt_script.specs.WrittenWords.{cost_words}
-use Rattle.ctt_seat.specs.declared.seat.Told.{Told}
-use Rattle.ctt_seat.specs.declared.seat.Told.TheVariants.{Answer as Answered, NotYours, NoPlace, Stale}
+use Rattle.ctt_seat.specs.declared.seat.SeatAnswer.{SeatAnswer}
+use Rattle.ctt_seat.specs.declared.seat.SeatAnswer.TheVariants.{Answer as Answered, NotYours, NoPlace, Stale}
 
 -- an answer that can be written
-abbrev pub ToldFits : Problem → Told → Type 0
-ToldFits i (Answered answer) = AnswerFits i answer
-ToldFits i (Stale row asked) = AnswerFits i (StaleAnswer row)
-ToldFits i (NotYours n) = Unit {0}
-ToldFits i NoPlace = Unit {0}
+abbrev pub SeatAnswerFits : Problem → SeatAnswer → Type 0
+SeatAnswerFits i (Answered answer) = AnswerFits i answer
+SeatAnswerFits i (Stale row asked) = AnswerFits i (StaleAnswer row)
+SeatAnswerFits i (NotYours n) = Unit {0}
+SeatAnswerFits i NoPlace = Unit {0}
 
 -- the answer to a planner who could not read: that he got no place, or that memory ran out
-abbrev pub told_unread : SharedFault → Told
-told_unread (Unlawful at f) = Answered OutOfMemory
-told_unread Unplaced = NoPlace
-told_unread NoMemory = Answered OutOfMemory
+abbrev pub unread_answer : SharedFault → SeatAnswer
+unread_answer (Unlawful at f) = Answered OutOfMemory
+unread_answer Unplaced = NoPlace
+unread_answer NoMemory = Answered OutOfMemory
 
 -- the words of the line that answers a planner
-abbrev pub told_words : Problem → Told → List (List ℕ)
-told_words i (Answered answer) = answer_words i answer
-told_words i (Stale row asked) = answer_words i (StaleAnswer row)
-told_words i (NotYours n) = codes "not" ∷ codes "yours" ∷ decimal n ∷ []
-told_words i NoPlace = codes "no" ∷ codes "place" ∷ []
+abbrev pub seat_answer_words : Problem → SeatAnswer → List (List ℕ)
+seat_answer_words i (Answered answer) = answer_words i answer
+seat_answer_words i (Stale row asked) = answer_words i (StaleAnswer row)
+seat_answer_words i (NotYours n) = codes "not" ∷ codes "yours" ∷ decimal n ∷ []
+seat_answer_words i NoPlace = codes "no" ∷ codes "place" ∷ []
 
 -- the answers of the planners from number p on, each after a heading
 abbrev pub planners_text : ℕ → List (List ℕ) → List ℕ

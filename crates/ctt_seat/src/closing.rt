@@ -7,10 +7,9 @@ ghost use Rattle.ctt_seat.specs.CrewText.{closing_text, crew_text};
 
 use ctt_board::Timetable;
 use ctt_desk::{Closed, Naming, SharedDesk};
-use ctt_line::push_line;
 use ctt_problem::NoMemory;
 use ctt_rules::Cost;
-use ctt_script::words_of_costs;
+use ctt_script::write_costs;
 use std::alloc::Global;
 use std::fmt::Write;
 use std::sync::Wait;
@@ -45,7 +44,7 @@ fn crew_report(
         text.push_str(&lines)?;
     }
     writeln!(text, "journal {entries}")?;
-    push_line(&mut text, words_of_costs(cost).as_slice())?;
+    write_costs(&mut text, cost)?;
     Ok(text.into_bytes())
 }
 

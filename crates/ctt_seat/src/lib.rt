@@ -4,8 +4,8 @@
 
 mod closing;
 mod seat;
-mod told;
+mod seat_answer;
 
 pub use closing::{closing_report, end_desk};
-pub use seat::{Seat, Told};
-pub use told::write_told;
+pub use seat::{Seat, SeatAnswer};
+pub use seat_answer::write_seat_answer;

@@ -4,9 +4,9 @@ ghost use Rattle.std.specs.Prelude.{ℕ, ◌≡◌, ◌++◌, IfErr, OnOk, strin
 ghost use Rattle.ctt_edits.specs.Calls.{CallFits};
 ghost use Rattle.ctt_edits.specs.Looks.{LookFits};
 ghost use Rattle.ctt_core.specs.Runs.{EventFits};
-ghost use Rattle.ctt_seat.specs.CrewText.{ToldFits, told_unread};
+ghost use Rattle.ctt_seat.specs.CrewText.{SeatAnswerFits, unread_answer};
 ghost use Rattle.ctt_seat.specs.Attended.{leaver};
-ghost use Rattle.ctt_seat.specs.Seats.{Abandons, Asks, Commits, Opens, Peeks, Refreshes, Shows, States, Takes, Views, draft_text, open_entry, told_of};
+ghost use Rattle.ctt_seat.specs.Seats.{Abandons, Asks, Commits, OpensDraft, Peeks, Refreshes, ShowsPublished, States, Takes, Views, receipt_answer, draft_text, open_entry, seat_value};
 
 use ctt_board::{Sheet, Timetable};
 use ctt_core::{Answer, Event};
@@ -15,7 +15,7 @@ use ctt_desk::{
 };
 use ctt_draft::AskedCalls;
 use ctt_edits::{Call, Look, Row};
-use ctt_problem::{NoMemory, let_go};
+use ctt_problem::{NoMemory, drop_whole};
 use ctt_script::write_entry;
 use std::sync::Wait;
 
@@ -30,7 +30,7 @@ pub enum Seat<'i, S: Timetable, J: Naming> {
 
 /// The answer to a planner.
 #[derive(Drop)]
-pub enum Told {
+pub enum SeatAnswer {
     /// An answer that a single-threaded desk gives as well.
     Answer(Answer),
     /// The draft was refused because this row has changed. It has ended; its calls are returned
@@ -44,23 +44,23 @@ pub enum Told {
 }
 
 /// Returns the answer to a planner who could not read the published timetable.
-fn say_unread<J: Naming>(fault: SharedFault) -> Told
-    ensures fits { ToldFits J.problem result }
-    ensures told { result ≡ told_unread fault }
+fn unread_answer<J: Naming>(fault: SharedFault) -> SeatAnswer
+    ensures fits { SeatAnswerFits J.problem result }
+    ensures told { result ≡ unread_answer fault }
 {
     match fault {
-        SharedFault::NoPlace => Told::NoPlace,
-        _ => Told::Answer(Answer::NoMemory),
+        SharedFault::NoPlace => SeatAnswer::NoPlace,
+        _ => SeatAnswer::Answer(Answer::NoMemory),
     }
 }
 
 /// Returns the answer to a commit: how many drafts were then accepted, or why it was refused.
-fn told_of<J: Naming>(outcome: Result<Receipt<J>, Told>) -> Told
-    ensures fits { IfErr outcome (ToldFits J.problem) → ToldFits J.problem result }
-    ensures told { result ≡ told_of outcome }
+fn commit_answer<J: Naming>(outcome: Result<Receipt<J>, SeatAnswer>) -> SeatAnswer
+    ensures fits { IfErr outcome (SeatAnswerFits J.problem) → SeatAnswerFits J.problem result }
+    ensures told { result ≡ receipt_answer outcome }
 {
     match outcome {
-        Ok(receipt) => Told::Answer(Answer::Committed(receipt.number())),
+        Ok(receipt) => SeatAnswer::Answer(Answer::Committed(receipt.number())),
         Err(told) => told,
     }
 }
@@ -76,68 +76,73 @@ fn write_draft<'i, S: Sheet<'i>, J: Naming>(
     let instance = drafting.instance();
     let entry = drafting.entry()?;
     let written = write_entry(text, instance, entry.planner, entry.asked.as_slice());
-    let_go(entry);
+    drop_whole(entry);
     Ok(written?)
 }
 
 impl<'i, S: Sheet<'i>, J: Naming> Seat<'i, S, J> {
     /// Opens a draft.
-    fn open(self) -> (Self, Told)
-        ensures fits { ToldFits J.problem result.1 }
-        ensures opens { Opens J.problem J.opening self.entry result.0 result.1 }
+    fn open(self) -> (Self, SeatAnswer)
+        ensures fits { SeatAnswerFits J.problem result.1 }
+        ensures opens { OpensDraft J.problem J.opening (seat_value self.entry) (seat_value result.0)
+            result.1 }
     {
         match self {
             Seat::Free(planner) => match planner.open() {
-                Ok(drafting) => (Seat::Drafting(drafting), Told::Answer(Answer::Opened)),
-                Err((planner, fault)) => (Seat::Free(planner), say_unread::<J>(fault)),
+                Ok(drafting) => (Seat::Drafting(drafting), SeatAnswer::Answer(Answer::Opened)),
+                Err((planner, fault)) => (Seat::Free(planner), unread_answer::<J>(fault)),
             },
             Seat::Drafting(drafting) => {
-                (Seat::Drafting(drafting), Told::Answer(Answer::AlreadyOpen))
+                (
+                    Seat::Drafting(drafting),
+                    SeatAnswer::Answer(Answer::AlreadyOpen),
+                )
             }
         }
     }
 
     /// Makes a call in the draft. As the most frequent event, it changes the seat in place.
     #[inline(always)]
-    pub fn ask(&mut self, call: Call) -> Told
+    pub fn ask(&mut self, call: Call) -> SeatAnswer
         requires { CallFits J.problem call }
-        ensures fits { ToldFits J.problem result }
-        ensures asks { Asks J.problem call self.old self.new result }
+        ensures fits { SeatAnswerFits J.problem result }
+        ensures asks { Asks J.problem call (seat_value self.old) (seat_value self.new) result }
     {
         match self {
-            Seat::Free(_) => Told::Answer(Answer::NoDraft),
+            Seat::Free(_) => SeatAnswer::Answer(Answer::NoDraft),
             Seat::Drafting(drafting) => match drafting.call(call) {
-                Ok(reply) => Told::Answer(Answer::Replied(reply)),
-                Err(_) => Told::Answer(Answer::NoMemory),
+                Ok(reply) => SeatAnswer::Answer(Answer::Replied(reply)),
+                Err(_) => SeatAnswer::Answer(Answer::NoMemory),
             },
         }
     }
 
     /// Answers a look at the draft. A look is not a call: nothing of it is stored.
-    fn peek(&self, look: &Look) -> Told
+    fn peek(&self, look: &Look) -> SeatAnswer
         requires { LookFits J.problem look.now }
-        ensures fits { ToldFits J.problem result }
-        ensures peeks { Peeks J.problem look.now self.now result }
+        ensures fits { SeatAnswerFits J.problem result }
+        ensures peeks { Peeks J.problem look.now (seat_value self.now) result }
     {
         match self {
-            Seat::Free(_) => Told::Answer(Answer::NoDraft),
+            Seat::Free(_) => SeatAnswer::Answer(Answer::NoDraft),
             Seat::Drafting(drafting) => match drafting.peek(look) {
-                Ok(reply) => Told::Answer(Answer::Replied(reply)),
-                Err(_) => Told::Answer(Answer::NoMemory),
+                Ok(reply) => SeatAnswer::Answer(Answer::Replied(reply)),
+                Err(_) => SeatAnswer::Answer(Answer::NoMemory),
             },
         }
     }
 
     /// Returns how the draft stands. This is not a call: the draft is unchanged.
-    pub fn status(&mut self) -> Told
-        ensures fits { ToldFits J.problem result }
-        ensures states { States J.problem J.opening self.old self.new result }
+    pub fn status(&mut self) -> SeatAnswer
+        ensures fits { SeatAnswerFits J.problem result }
+        ensures states { States J.problem J.opening (seat_value self.old) (seat_value self.new)
+            result }
     {
         match self {
-            Seat::Free(_) => Told::Answer(Answer::NoDraft),
+            Seat::Free(_) => SeatAnswer::Answer(Answer::NoDraft),
             Seat::Drafting(drafting) => match drafting.status() {
-                Ok(standing) => Told::Answer(Answer::Draft(standing)),
-                Err(fault) => say_unread::<J>(fault),
+                Ok(status) => SeatAnswer::Answer(Answer::Draft(status)),
+                Err(fault) => unread_answer::<J>(fault),
             },
         }
     }
@@ -147,24 +152,28 @@ impl<'i, S: Sheet<'i>, J: Naming> Seat<'i, S, J> {
         self,
         rt: &R,
         desk: &SharedDesk<S, J>,
-    ) -> (Self, Result<Receipt<J>, Told>)
-        ensures fits { IfErr result.1 (ToldFits J.problem) }
-        ensures commits { Commits J.problem J.opening self.entry result.0 result.1 }
+    ) -> (Self, Result<Receipt<J>, SeatAnswer>)
+        ensures fits { IfErr result.1 (SeatAnswerFits J.problem) }
+        ensures commits { Commits J.problem J.opening (seat_value self.entry)
+            (seat_value result.0) result.1 }
     {
         match self {
-            Seat::Free(planner) => (Seat::Free(planner), Err(Told::Answer(Answer::NoDraft))),
+            Seat::Free(planner) => (
+                Seat::Free(planner),
+                Err(SeatAnswer::Answer(Answer::NoDraft)),
+            ),
             Seat::Drafting(drafting) => match drafting.commit(rt, desk) {
                 Ok((planner, receipt)) => (Seat::Free(planner), Ok(receipt)),
                 Err(Refusal::Stale(planner, row, asked)) => {
-                    (Seat::Free(planner), Err(Told::Stale(row, asked)))
+                    (Seat::Free(planner), Err(SeatAnswer::Stale(row, asked)))
                 }
                 Err(Refusal::NotYours(planner, count)) => {
-                    (Seat::Free(planner), Err(Told::NotYours(count)))
+                    (Seat::Free(planner), Err(SeatAnswer::NotYours(count)))
                 }
                 Err(Refusal::NoMemory(drafting)) => {
                     (
                         Seat::Drafting(drafting),
-                        Err(Told::Answer(Answer::NoMemory)),
+                        Err(SeatAnswer::Answer(Answer::NoMemory)),
                     )
                 }
             },
@@ -172,44 +181,55 @@ impl<'i, S: Sheet<'i>, J: Naming> Seat<'i, S, J> {
     }
 
     /// Refreshes the draft.
-    fn refresh(self) -> (Self, Told)
-        ensures fits { ToldFits J.problem result.1 }
-        ensures refreshes { Refreshes J.problem J.opening self.entry result.0 result.1 }
+    fn refresh(self) -> (Self, SeatAnswer)
+        ensures fits { SeatAnswerFits J.problem result.1 }
+        ensures refreshes { Refreshes J.problem J.opening (seat_value self.entry)
+            (seat_value result.0) result.1 }
     {
         match self {
-            Seat::Free(planner) => (Seat::Free(planner), Told::Answer(Answer::NoDraft)),
+            Seat::Free(planner) => (Seat::Free(planner), SeatAnswer::Answer(Answer::NoDraft)),
             Seat::Drafting(drafting) => match drafting.refresh() {
-                Ok(drafting) => (Seat::Drafting(drafting), Told::Answer(Answer::Refreshed)),
+                Ok(drafting) => (
+                    Seat::Drafting(drafting),
+                    SeatAnswer::Answer(Answer::Refreshed),
+                ),
                 Err(RefreshRefusal::Stale(planner, row, asked)) => {
-                    (Seat::Free(planner), Told::Stale(row, asked))
+                    (Seat::Free(planner), SeatAnswer::Stale(row, asked))
                 }
-                Err(RefreshRefusal::NoPlace(drafting)) => (Seat::Drafting(drafting), Told::NoPlace),
+                Err(RefreshRefusal::NoPlace(drafting)) => (
+                    Seat::Drafting(drafting),
+                    SeatAnswer::NoPlace,
+                ),
                 Err(RefreshRefusal::NoMemory(drafting)) => {
-                    (Seat::Drafting(drafting), Told::Answer(Answer::NoMemory))
+                    (
+                        Seat::Drafting(drafting),
+                        SeatAnswer::Answer(Answer::NoMemory),
+                    )
                 }
             },
         }
     }
 
     /// Abandons the draft.
-    fn abandon(self) -> (Self, Told)
-        ensures fits { ToldFits J.problem result.1 }
-        ensures abandons { Abandons self.entry result.0 result.1 }
+    fn abandon(self) -> (Self, SeatAnswer)
+        ensures fits { SeatAnswerFits J.problem result.1 }
+        ensures abandons { Abandons (seat_value self.entry) (seat_value result.0) result.1 }
     {
         match self {
-            Seat::Free(planner) => (Seat::Free(planner), Told::Answer(Answer::NoDraft)),
+            Seat::Free(planner) => (Seat::Free(planner), SeatAnswer::Answer(Answer::NoDraft)),
             Seat::Drafting(drafting) => (
                 Seat::Free(drafting.abandon()),
-                Told::Answer(Answer::Abandoned),
+                SeatAnswer::Answer(Answer::Abandoned),
             ),
         }
     }
 
     /// Looks at the latest published timetable, if no draft is open.
-    fn show(self, look: &Look) -> (Self, Told)
+    fn show(self, look: &Look) -> (Self, SeatAnswer)
         requires { LookFits J.problem look.now }
-        ensures fits { ToldFits J.problem result.1 }
-        ensures shows { Shows J.problem J.opening look.now self.entry result.0 result.1 }
+        ensures fits { SeatAnswerFits J.problem result.1 }
+        ensures shows { ShowsPublished J.problem J.opening look.now (seat_value self.entry)
+            (seat_value result.0) result.1 }
     {
         match self {
             Seat::Free(planner) => {
@@ -218,38 +238,43 @@ impl<'i, S: Sheet<'i>, J: Naming> Seat<'i, S, J> {
                 match shown {
                     Ok(reply) => {
                         let answer = Answer::Replied(reply);
-                        (Seat::Free(planner), Told::Answer(answer))
+                        (Seat::Free(planner), SeatAnswer::Answer(answer))
                     }
-                    Err(fault) => (Seat::Free(planner), say_unread::<J>(fault)),
+                    Err(fault) => (Seat::Free(planner), unread_answer::<J>(fault)),
                 }
             }
             Seat::Drafting(drafting) => {
-                (Seat::Drafting(drafting), Told::Answer(Answer::AlreadyOpen))
+                (
+                    Seat::Drafting(drafting),
+                    SeatAnswer::Answer(Answer::AlreadyOpen),
+                )
             }
         }
     }
 
     /// Looks at the latest published timetable. An open draft is unchanged.
-    pub fn view(&mut self, look: &Look) -> Told
+    pub fn view(&mut self, look: &Look) -> SeatAnswer
         requires { LookFits J.problem look.now }
-        ensures fits { ToldFits J.problem result }
-        ensures views { Views J.problem J.opening look.now self.old self.new result }
+        ensures fits { SeatAnswerFits J.problem result }
+        ensures views { Views J.problem J.opening look.now (seat_value self.old)
+            (seat_value self.new) result }
     {
         let seen = match self {
             Seat::Free(planner) => planner.view(look),
             Seat::Drafting(drafting) => drafting.view(look),
         };
         match seen {
-            Ok(reply) => Told::Answer(Answer::Replied(reply)),
-            Err(fault) => say_unread::<J>(fault),
+            Ok(reply) => SeatAnswer::Answer(Answer::Replied(reply)),
+            Err(fault) => unread_answer::<J>(fault),
         }
     }
 
     /// Handles an event, and returns the seat that it leaves with the answer.
-    pub fn take<R: Wait>(self, rt: &R, desk: &SharedDesk<S, J>, event: Event) -> (Self, Told)
+    pub fn take<R: Wait>(self, rt: &R, desk: &SharedDesk<S, J>, event: Event) -> (Self, SeatAnswer)
         requires fits { (n : ℕ) × EventFits J.problem n event }
-        ensures fits { ToldFits J.problem result.1 }
-        ensures takes { Takes J.problem J.opening event self.entry result.0 result.1 }
+        ensures fits { SeatAnswerFits J.problem result.1 }
+        ensures takes { Takes J.problem J.opening event (seat_value self.entry)
+            (seat_value result.0) result.1 }
     {
         match event {
             Event::Open(_) => self.open(),
@@ -269,7 +294,7 @@ impl<'i, S: Sheet<'i>, J: Naming> Seat<'i, S, J> {
             }
             Event::Commit(_) => {
                 let (seat, outcome) = self.commit(rt, desk);
-                (seat, told_of(outcome))
+                (seat, commit_answer(outcome))
             }
             Event::Refresh(_) => self.refresh(),
             Event::Abandon(_) => self.abandon(),
@@ -279,7 +304,7 @@ impl<'i, S: Sheet<'i>, J: Naming> Seat<'i, S, J> {
 
     /// Returns the planner, and abandons an open draft. Allocates nothing.
     pub fn leave(self) -> Planner<S, J>
-        ensures { result ≡ leaver self.entry }
+        ensures { result ≡ leaver (seat_value self.entry) }
     {
         match self {
             Seat::Free(planner) => planner,
@@ -292,7 +317,7 @@ impl<'i, S: Sheet<'i>, J: Naming> Seat<'i, S, J> {
     /// Appends the entry of the open draft, as written in a journal, if a draft is open.
     pub fn write_entry(&self, text: &mut String) -> Result<(), NoMemory>
         ensures { OnOk result (string_bytes text.new
-            ≡ string_bytes text.old ++ open_entry J.problem self.now) }
+            ≡ string_bytes text.old ++ open_entry J.problem (seat_value self.now)) }
     {
         match self {
             Seat::Free(_) => Ok(()),

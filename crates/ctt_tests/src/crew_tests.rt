@@ -5,7 +5,7 @@ use crate::small::small_instance;
 use crate::stopped::Stopped;
 use ctt_core::PlannerNo;
 use ctt_crew::{CrewFault, Gate, crew};
-use ctt_text::{Instance, let_go};
+use ctt_text::{Instance, drop_whole};
 use std::alloc::Global;
 use std::process::Abort;
 use std::sync::Wait;
@@ -82,7 +82,7 @@ fn expect_turns<R: Threads + Wait + Abort + Sync>(
         given_up: AtomicU64::new(0),
     };
     let answered = is_answered(rt, alloc, &small, &gate, scripts, answers);
-    let_go(small);
+    drop_whole(small);
     assert!(rt; answered == Ok(true));
     assert_eq!(rt; gate.came.load(Ordering::SeqCst), lines);
     assert_eq!(rt; gate.answered.load(Ordering::SeqCst), lines);
@@ -104,7 +104,8 @@ fn crew_of_two_of_whom_one_is_stale(rt: HostRuntime) -> Result<(), Stopped> {
     let places = "open\nplace geo A 0 1\ncommit\n";
     let looks = "open\nslot 0 1\ncommit\n";
     let answers =
-        "planner 0\nopened\ndone\ncommitted 1\nplanner 1\nopened\nlectures 0\nstale slot 0 1\njournal 1\ncosts 0 15 2 0\n";
+        "planner 0\nopened\ndone\ncommitted 1\nplanner 1\nopened\nlectures 0\nstale slot 0 1\n\
+        journal 1\ncosts 0 15 2 0\n";
     expect_turns(&rt, rt.alloc(), [places, looks], 6, answers)
 }
 
@@ -113,7 +114,7 @@ fn crew_of_two_of_whom_one_is_stale(rt: HostRuntime) -> Result<(), Stopped> {
 fn crew_of_two_of_whom_one_leaves_a_draft(rt: HostRuntime) -> Result<(), Stopped> {
     let leaves = "open\nplace geo A 0 1\nopen\n";
     let commits = "open\nplace geo A 0 1\ncommit\n";
-    let answers =
-        "planner 0\nopened\ndone\nalready open\nplanner 1\nopened\ndone\ncommitted 1\njournal 1\ncosts 0 15 2 0\n";
+    let answers = "planner 0\nopened\ndone\nalready open\nplanner 1\nopened\ndone\ncommitted 1\n\
+        journal 1\ncosts 0 15 2 0\n";
     expect_turns(&rt, rt.alloc(), [leaves, commits], 6, answers)
 }

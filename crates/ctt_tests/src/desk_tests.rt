@@ -1,18 +1,18 @@
 //! Two planners of one desk, on threads of their own, commit drafts. Each entry must be where its
 //! receipt says. A third planner may learn their last receipts; all must see what was placed.
 
-ghost use Rattle.ctt_desk.specs.Names.{IsNamed};
+ghost use Rattle.ctt_desk.specs.Names.{IsNameOf};
 
-use crate::desks::{accept, costs, draft_of, empty, expect_seen, is_entry, is_left, place};
+use crate::desks::{Committed, commit_edit, costs, empty, expect_seen, is_entry, is_left, place};
 use crate::small::{geo_second, small_instance, top_third};
 use crate::stopped::Stopped;
 use ctt_board::{Sheet, Timetable};
 use ctt_core::{JournalEntry, PlannerNo};
-use ctt_desk::{Closed, Named, Naming, Opened, Planner, Receipt, SharedDesk};
-use ctt_edits::{Call, Edit};
+use ctt_desk::{Closed, Named, Naming, Opened, Planner, SharedDesk};
+use ctt_edits::Edit;
 use ctt_grid::GridSheet;
 use ctt_rules::Cost;
-use ctt_text::{Instance, Placed, let_go};
+use ctt_text::{Instance, Placed, drop_whole};
 use std::alloc::Global;
 use std::marker::{Brand, PhantomData};
 use std::process::Abort;
@@ -32,31 +32,12 @@ struct Plan<'a> {
     costs: Cost,
 }
 
-/// A planner who has committed, with the last receipt.
-#[derive(Drop)]
-struct Committed<S: Timetable, J: Naming> {
-    planner: Planner<S, J>,
-    receipt: Receipt<J>,
-}
-
-/// The numbers of a planner's receipts, in order, and the lecture that the drafts place and drop.
+/// A planner's receipts by number, in order, and the lecture that the drafts place and drop.
 #[derive(Drop)]
 struct Numbers {
     planner: PlannerNo,
     lecture: Placed,
     list: Vec<u64>,
-}
-
-/// Commits a draft of one edit.
-fn commit_edit<'i, S: Sheet<'i>, J: Naming, R: Wait>(
-    rt: &R,
-    desk: &SharedDesk<S, J>,
-    planner: Planner<S, J>,
-    edit: Edit,
-) -> Option<Committed<S, J>> {
-    let (drafting, _reply) = draft_of(planner, Call::Edit(edit))?;
-    let (planner, receipt) = accept(rt, desk, drafting)?;
-    Some(Committed { planner, receipt })
 }
 
 /// Returns the edit of a turn: placing and dropping alternate.
@@ -284,7 +265,7 @@ fn play<'i, J: Naming + Send + Sync, R: Threads + Wait + Abort + Sync>(
     count: u16,
     plan: &Plan,
 ) -> Result<(), Stopped>
-    requires { IsNamed J.problem J.opening J.planners J.book opened count }
+    requires { IsNameOf J.problem J.opening J.planners J.book opened count }
 {
     let named = Named {
         opened,
@@ -299,7 +280,7 @@ fn play<'i, J: Naming + Send + Sync, R: Threads + Wait + Abort + Sync>(
     let seen = all_see_on_grid(rt, &mut planners, done.into_inner(), plan);
     let handed = planners.len();
     let closed = desk.close(rt, planners.as_mut_slice());
-    let_go(planners);
+    drop_whole(planners);
     assert_eq!(rt; handed, usize::from(count));
     let left = expect_both::<GridSheet, J>(rt, closed, numbers, plan);
     seen.ok_or(Stopped::TurnRefused).and(left)
@@ -323,7 +304,7 @@ fn expect_played<R: Threads + Wait + Abort + Sync>(
 ) -> Result<(), Stopped> {
     let small = small_instance(alloc)?;
     let played = played_on_grid(rt, alloc, &small, plan);
-    let_go(small);
+    drop_whole(small);
     played
 }
 

@@ -14,6 +14,13 @@ use std::alloc::Global;
 use std::process::Abort;
 use std::sync::Wait;
 
+/// A planner who has committed, with the last receipt.
+#[derive(Drop)]
+pub(crate) struct Committed<S: Timetable, J: Naming> {
+    pub(crate) planner: Planner<S, J>,
+    pub(crate) receipt: Receipt<J>,
+}
+
 /// Returns the edit that places a lecture.
 pub(crate) fn place(lecture: &Placed) -> Edit {
     Edit::Place(lecture.course, lecture.slot, lecture.room)
@@ -140,4 +147,16 @@ pub(crate) fn expect_seen<'i, S: Sheet<'i>, J: Naming, R: Abort>(
     let mut planner = drafting.abandon();
     expect_viewed(rt, small, &mut planner, lecture)?;
     Some(planner)
+}
+
+/// Commits a draft of one edit.
+pub(crate) fn commit_edit<'i, S: Sheet<'i>, J: Naming, R: Wait>(
+    rt: &R,
+    desk: &SharedDesk<S, J>,
+    planner: Planner<S, J>,
+    edit: Edit,
+) -> Option<Committed<S, J>> {
+    let (drafting, _reply) = draft_of(planner, Call::Edit(edit))?;
+    let (planner, receipt) = accept(rt, desk, drafting)?;
+    Some(Committed { planner, receipt })
 }

@@ -9,7 +9,7 @@ use crate::stopped::Stopped;
 use ctt_edits::EditFault;
 use ctt_files::{Count, Failed, Sink, Source};
 use ctt_script::{ScriptFault, run_script};
-use ctt_text::{CourseNo, Instance, Placed, let_go};
+use ctt_text::{CourseNo, Instance, Placed, drop_whole};
 use std::alloc::Global;
 
 /// Planner 0 looks at a slot that planner 1 then fills, so the first draft is stale.
@@ -208,7 +208,7 @@ fn play(
     let end = match run_script(alloc, small, lectures, &mut reader, &mut writer) {
         Ok(desk) => {
             let entries = desk.journal().len();
-            let_go(desk);
+            drop_whole(desk);
             Ok(entries)
         }
         Err(fault) => Err(fault),
@@ -301,7 +301,7 @@ fn failing_devices_leave_a_front_of_the_answers(rt: HostRuntime) -> Result<(), S
     let is_whole = play(rt.alloc(), &small, &[], usize::MAX, Failing::Write, room) == whole();
     let is_cut = is_cut_each_time(rt.alloc(), &small);
     let is_unread = is_unread_each_time(rt.alloc(), &small);
-    let_go(small);
+    drop_whole(small);
     assert!(rt; is_whole);
     assert!(rt; is_cut);
     assert!(rt; is_unread);

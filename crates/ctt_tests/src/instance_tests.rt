@@ -3,7 +3,7 @@
 use crate::small::{SMALL_LATER, SMALL_SPACED, small_instance};
 use crate::stopped::Stopped;
 use ctt_text::{
-    CourseNo, CurriculumNo, Instance, RoomNo, SlotNo, TeacherNo, let_go, read_instance,
+    CourseNo, CurriculumNo, Instance, RoomNo, SlotNo, TeacherNo, drop_whole, read_instance,
 };
 use std::alloc::Global;
 
@@ -92,7 +92,7 @@ fn are_same(one: &Instance, other: &Instance) -> bool {
 fn spells(alloc: Global, text: &str, wanted: &Instance) -> Result<bool, Stopped> {
     let read = read_instance(alloc, text.as_bytes()).or(Err(Stopped::TextRefused))?;
     let is_same = are_same(&read, wanted);
-    let_go(read);
+    drop_whole(read);
     Ok(is_same)
 }
 
@@ -101,7 +101,7 @@ fn layout_is_not_part_of_an_instance(rt: HostRuntime) -> Result<(), Stopped> {
     let small = small_instance(rt.alloc())?;
     let spaced = spells(rt.alloc(), SMALL_SPACED, &small);
     let later = spells(rt.alloc(), SMALL_LATER, &small);
-    let_go(small);
+    drop_whole(small);
     assert!(rt; spaced?);
     assert!(rt; !later?);
     Ok(())

@@ -2,7 +2,7 @@
 //! it. Both then see what was placed.
 
 ghost use Rattle.std.specs.Prelude.{◌≡◌, ◌↔◌, IsTrue};
-ghost use Rattle.ctt_desk.specs.Names.{IsNamed};
+ghost use Rattle.ctt_desk.specs.Names.{IsNameOf};
 ghost use Rattle.ctt_edits.specs.Looks.{LookFits};
 
 use crate::desks::{accept, costs, draft_of, empty, is_left, place, shows};
@@ -12,7 +12,7 @@ use ctt_board::{Sheet, Timetable};
 use ctt_desk::{Closed, Named, Naming, Opened, Planner, Receipt, SharedDesk};
 use ctt_edits::{Call, Look};
 use ctt_grid::GridSheet;
-use ctt_text::{Instance, Placed, let_go};
+use ctt_text::{Instance, Placed, drop_whole};
 use std::alloc::Global;
 use std::marker::{Brand, PhantomData};
 use std::process::Abort;
@@ -129,8 +129,8 @@ fn learns<'i, J: Naming, R: Wait>(
     is_there
 }
 
-/// The second planner: waits for the receipt, learns it, and sees what was placed. He gives up after
-/// ten million checks.
+/// The second planner: waits for the receipt, learns it, and sees what was placed. He gives up
+/// after ten million checks.
 fn learn_and_see<'a, 'i, J: Naming, R: Wait>(rt: &R, meeting: Meeting<'a, 'i, J>) -> Option<()> {
     let Meeting {
         desk: _,
@@ -192,7 +192,7 @@ fn play<'i, J: Naming + Send + Sync, R: Threads + Wait + Abort + Sync>(
     opened: Opened<GridSheet<'i>>,
     count: u16,
 ) -> Result<(), Stopped>
-    requires { IsNamed J.problem J.opening J.planners J.book opened count }
+    requires { IsNameOf J.problem J.opening J.planners J.book opened count }
 {
     let named = Named {
         opened,
@@ -210,7 +210,7 @@ fn play<'i, J: Naming + Send + Sync, R: Threads + Wait + Abort + Sync>(
     let mut planners = passed.into_inner().planners;
     let closed = desk.close(rt, planners.as_mut_slice());
     let handed = planners.len();
-    let_go(planners);
+    drop_whole(planners);
     assert_eq!(rt; handed, 2);
     match closed {
         Ok(closed) => {
@@ -234,6 +234,6 @@ fn played_on_grid<'i, R: Threads + Wait + Abort + Sync>(
 fn receipt_is_learnt_on_another_thread(rt: HostRuntime) -> Result<(), Stopped> {
     let small = small_instance(rt.alloc())?;
     let played = played_on_grid(&rt, rt.alloc(), &small);
-    let_go(small);
+    drop_whole(small);
     played
 }

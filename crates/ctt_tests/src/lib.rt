@@ -1,6 +1,6 @@
-//! Tests that neither contracts nor runs of the program nor the trials cover: of planners on threads,
-//! of scripts with failing devices, and of one instance in two layouts. They are a crate of their
-//! own so that no other crate is proved a second time for its tests.
+//! Tests that neither contracts nor runs of the program nor the trials cover: of planners on
+//! threads, of scripts with failing devices, and of one instance in two layouts. They are a crate
+//! of their own so that no other crate is proved a second time for its tests.
 #![tactic(auto)]
 
 #[cfg(test)]

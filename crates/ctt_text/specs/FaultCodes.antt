@@ -9,98 +9,74 @@ use Rattle.ctt_text.specs.declared.fault.ReadFault.TheVariants as instance
 use Rattle.ctt_text.specs.declared.fault.SolutionFault.{SolutionFault}
 use Rattle.ctt_text.specs.declared.fault.SolutionFault.TheVariants as solution
 
--- the code of a fault of an instance
+-- the code of a fault of an instance, and the word or byte that it carries
+abbrev pub instance_told : ReadFault → List ℕ × ℕ
+instance_told (instance.NotText at) = (codes "I1", at)
+instance_told (instance.Missing at) = (codes "I2", at)
+instance_told (instance.Expected at) = (codes "I3", at)
+instance_told (instance.BadNumber at) = (codes "I4", at)
+instance_told (instance.TooLarge at) = (codes "I5", at)
+instance_told (instance.RepeatedName at) = (codes "I6", at)
+instance_told (instance.UnknownCourse at) = (codes "I7", at)
+instance_told (instance.DayOut at) = (codes "I8", at)
+instance_told (instance.PeriodOut at) = (codes "I9", at)
+instance_told instance.NoMemory = (codes "memory", 0)
+
 abbrev pub instance_code : ReadFault → List ℕ
-instance_code (instance.NotText at) = codes "I1"
-instance_code (instance.Missing at) = codes "I2"
-instance_code (instance.Expected at) = codes "I3"
-instance_code (instance.BadNumber at) = codes "I4"
-instance_code (instance.TooLarge at) = codes "I5"
-instance_code (instance.RepeatedName at) = codes "I6"
-instance_code (instance.UnknownCourse at) = codes "I7"
-instance_code (instance.DayOut at) = codes "I8"
-instance_code (instance.PeriodOut at) = codes "I9"
-instance_code instance.NoMemory = codes "memory"
+instance_code fault = (instance_told fault).0
 
--- the number that a fault of an instance carries
 abbrev pub instance_at : ReadFault → ℕ
-instance_at (instance.NotText at) = at
-instance_at (instance.Missing at) = at
-instance_at (instance.Expected at) = at
-instance_at (instance.BadNumber at) = at
-instance_at (instance.TooLarge at) = at
-instance_at (instance.RepeatedName at) = at
-instance_at (instance.UnknownCourse at) = at
-instance_at (instance.DayOut at) = at
-instance_at (instance.PeriodOut at) = at
-instance_at instance.NoMemory = 0
+instance_at fault = (instance_told fault).1
 
--- the code of a fault of a solution
+-- the code of a fault of a solution, and the word or byte that it carries
+abbrev pub solution_told : SolutionFault → List ℕ × ℕ
+solution_told (solution.NotText at) = (codes "S1", at)
+solution_told (solution.Cut at) = (codes "S2", at)
+solution_told (solution.UnknownCourse at) = (codes "S3", at)
+solution_told (solution.UnknownRoom at) = (codes "S4", at)
+solution_told (solution.BadNumber at) = (codes "S5", at)
+solution_told (solution.DayOut at) = (codes "S6", at)
+solution_told (solution.PeriodOut at) = (codes "S7", at)
+solution_told (solution.Repeated at) = (codes "S8", at)
+solution_told solution.NoMemory = (codes "memory", 0)
+
 abbrev pub solution_code : SolutionFault → List ℕ
-solution_code (solution.NotText at) = codes "S1"
-solution_code (solution.Cut at) = codes "S2"
-solution_code (solution.UnknownCourse at) = codes "S3"
-solution_code (solution.UnknownRoom at) = codes "S4"
-solution_code (solution.BadNumber at) = codes "S5"
-solution_code (solution.DayOut at) = codes "S6"
-solution_code (solution.PeriodOut at) = codes "S7"
-solution_code (solution.Repeated at) = codes "S8"
-solution_code solution.NoMemory = codes "memory"
+solution_code fault = (solution_told fault).0
 
--- the number that a fault of a solution carries
 abbrev pub solution_at : SolutionFault → ℕ
-solution_at (solution.NotText at) = at
-solution_at (solution.Cut at) = at
-solution_at (solution.UnknownCourse at) = at
-solution_at (solution.UnknownRoom at) = at
-solution_at (solution.BadNumber at) = at
-solution_at (solution.DayOut at) = at
-solution_at (solution.PeriodOut at) = at
-solution_at (solution.Repeated at) = at
-solution_at solution.NoMemory = 0
+solution_at fault = (solution_told fault).1
 
--- the code of a fault of barred rooms
+-- the code of a fault of barred rooms, and the word or byte that it carries
+abbrev pub barred_told : BarredFault → List ℕ × ℕ
+barred_told (barred.NotText at) = (codes "B1", at)
+barred_told (barred.Missing at) = (codes "B2", at)
+barred_told (barred.Expected at) = (codes "B3", at)
+barred_told (barred.BadNumber at) = (codes "B4", at)
+barred_told (barred.TooLarge at) = (codes "B5", at)
+barred_told (barred.UnknownCourse at) = (codes "B6", at)
+barred_told (barred.UnknownRoom at) = (codes "B7", at)
+barred_told barred.NoMemory = (codes "memory", 0)
+
 abbrev pub barred_code : BarredFault → List ℕ
-barred_code (barred.NotText at) = codes "B1"
-barred_code (barred.Missing at) = codes "B2"
-barred_code (barred.Expected at) = codes "B3"
-barred_code (barred.BadNumber at) = codes "B4"
-barred_code (barred.TooLarge at) = codes "B5"
-barred_code (barred.UnknownCourse at) = codes "B6"
-barred_code (barred.UnknownRoom at) = codes "B7"
-barred_code barred.NoMemory = codes "memory"
+barred_code fault = (barred_told fault).0
 
--- the number that a fault of barred rooms carries
 abbrev pub barred_at : BarredFault → ℕ
-barred_at (barred.NotText at) = at
-barred_at (barred.Missing at) = at
-barred_at (barred.Expected at) = at
-barred_at (barred.BadNumber at) = at
-barred_at (barred.TooLarge at) = at
-barred_at (barred.UnknownCourse at) = at
-barred_at (barred.UnknownRoom at) = at
-barred_at barred.NoMemory = 0
+barred_at fault = (barred_told fault).1
 
--- the code of a fault of closures
+-- the code of a fault of closures, and the word or byte that it carries
+abbrev pub blocked_told : BlockedFault → List ℕ × ℕ
+blocked_told (blocked.NotText at) = (codes "L1", at)
+blocked_told (blocked.Missing at) = (codes "L2", at)
+blocked_told (blocked.Expected at) = (codes "L3", at)
+blocked_told (blocked.BadNumber at) = (codes "L4", at)
+blocked_told (blocked.TooLarge at) = (codes "L5", at)
+blocked_told (blocked.UnknownName at) = (codes "L6", at)
+blocked_told (blocked.DayOut at) = (codes "L7", at)
+blocked_told (blocked.PeriodOut at) = (codes "L8", at)
+blocked_told blocked.NoMemory = (codes "memory", 0)
+
 abbrev pub blocked_code : BlockedFault → List ℕ
-blocked_code (blocked.NotText at) = codes "L1"
-blocked_code (blocked.Missing at) = codes "L2"
-blocked_code (blocked.Expected at) = codes "L3"
-blocked_code (blocked.BadNumber at) = codes "L4"
-blocked_code (blocked.TooLarge at) = codes "L5"
-blocked_code (blocked.UnknownName at) = codes "L6"
-blocked_code (blocked.DayOut at) = codes "L7"
-blocked_code (blocked.PeriodOut at) = codes "L8"
-blocked_code blocked.NoMemory = codes "memory"
+blocked_code fault = (blocked_told fault).0
 
--- the number that a fault of closures carries
 abbrev pub blocked_at : BlockedFault → ℕ
-blocked_at (blocked.NotText at) = at
-blocked_at (blocked.Missing at) = at
-blocked_at (blocked.Expected at) = at
-blocked_at (blocked.BadNumber at) = at
-blocked_at (blocked.TooLarge at) = at
-blocked_at (blocked.UnknownName at) = at
-blocked_at (blocked.DayOut at) = at
-blocked_at (blocked.PeriodOut at) = at
-blocked_at blocked.NoMemory = 0
+blocked_at fault = (blocked_told fault).1

@@ -5,25 +5,33 @@
 mod fault;
 mod fault_codes;
 mod instance;
-pub mod laws;
 mod numbers;
-mod place_faults;
 mod places;
+mod point;
 mod reader;
+mod sections;
+mod shown;
+mod side_points;
 mod solution;
+mod text_fault;
+pub mod text_laws;
+mod text_points;
+mod word_parsers;
 mod words;
 
 pub use ctt_problem::{
     BitRows, Compact, CourseFacts, CourseNo, CurriculumNo, Instance, Marks, NoMemory, Placed,
-    RoomNo, SlotNo, TeacherNo, add_to, empty_lists, is_before, is_timetable, let_go,
+    RoomNo, SlotNo, TeacherNo, add_to, drop_whole, empty_lists, is_before, is_timetable,
 };
 pub use fault::{BarredFault, BlockedFault, ReadFault, SolutionFault};
 pub use instance::{read_barred, read_blocked, read_instance};
 pub use numbers::number;
 pub use places::{
-    FixedFault, PlaceFault, RoomFault, SlotFault, next_course, next_fixed, next_number, next_room,
-    next_word,
+    begins_char, count_chars, count_feeds, first_line, last_line, place_text, word_at, word_place,
 };
+pub use point::{about, byte_point, word_point};
 pub use reader::Reader;
 pub use solution::{read_solution, write_solution};
+pub use text_fault::{TextFault, WordFault};
+pub use word_parsers::{next_course, next_fixed, next_number, next_room, next_word};
 pub use words::Words;

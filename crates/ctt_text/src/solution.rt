@@ -1,7 +1,7 @@
 //! The text format of solutions.
 
+mod free_slot;
 mod lectures;
-mod places;
 mod read;
 mod write;
 

@@ -9,7 +9,7 @@ use crate::story::{Story, repeated};
 use crate::{desks, drafts, journals, scripts, shared, sheets, shown};
 use ctt_board::Sheet;
 use ctt_grid::{GridSheet, ListSheet};
-use ctt_text::{Instance, Placed, SolutionFault, let_go, read_solution};
+use ctt_text::{Instance, Placed, SolutionFault, drop_whole, read_solution};
 use std::sync::Wait;
 
 /// How a case is run.
@@ -21,7 +21,7 @@ pub(crate) enum Way {
     /// On grid sheets.
     Grid(On),
     /// As a script that is parsed and run on grid sheets.
-    Script(Told),
+    Script(SeatAnswer),
     /// At a shared desk.
     Shared,
 }
@@ -63,7 +63,7 @@ pub(crate) enum On {
 }
 
 /// What is recorded of a script that is run.
-pub(crate) enum Told {
+pub(crate) enum SeatAnswer {
     /// Its answers, and what it leaves.
     Answers,
     /// The length of its answers, and its journal.
@@ -184,7 +184,7 @@ fn play_case<R: Wait>(story: &mut Story, rt: &R, small: &Instance, case: &Case) 
     match read_lectures(story, small, case.opening.as_bytes()) {
         Ok(opening) => {
             play_opened(story, rt, small, &opening, case);
-            let_go(opening);
+            drop_whole(opening);
         }
         Err(_fault) => story.no_memory(),
     }

@@ -10,13 +10,13 @@ use crate::story::{Story, repeated};
 use ctt_board::Sheet;
 use ctt_core::{Answer, Desk, DeskFault, Event};
 use ctt_script::{Lines, PLANNERS, read_line};
-use ctt_text::{Instance, NoMemory, Placed, let_go};
+use ctt_text::{Instance, NoMemory, Placed, drop_whole};
 
-/// Records the lectures and the cost of a desk, and the number of entries of its journal.
-pub(crate) fn tell_desk<'i, S: Sheet<'i>>(desk: &Desk<'i, S>, story: &mut Story) {
+/// Records the lectures and the cost of a desk, and this number of entries of its journal.
+pub(crate) fn tell_desk<'i, S: Sheet<'i>>(desk: &Desk<'i, S>, entries: usize, story: &mut Story) {
     let list = repeated!(story, NoMemory, desk.list());
     story.timetable(desk.instance(), list, desk.cost());
-    story.count("entries", desk.journal().len() as u64);
+    story.count("entries", entries as u64);
 }
 
 /// Records the answer of a desk to an event, unless memory ran out, and returns whether it was
@@ -116,7 +116,6 @@ fn play_at<'i, S: Sheet<'i>>(
             }
         }
     }
-    tell_desk(desk, story);
 }
 
 /// Creates a desk whose opening has these lectures.
@@ -140,7 +139,9 @@ pub(crate) fn play<'i, S: Sheet<'i>>(script: &Script<'i>, story: &mut Story, on:
     match open::<S>(story, script.small, script.opening) {
         Ok(mut desk) => {
             play_at(&mut desk, story, on, script);
-            let_go(desk);
+            let entries = desk.journal().len();
+            tell_desk(&desk, entries, story);
+            drop_whole(desk);
         }
         Err(DeskFault::Unlawful(at, fault)) => story.unlawful(script.small, at, fault),
         Err(DeskFault::NoMemory) => story.no_memory(),

@@ -9,7 +9,7 @@ use ctt_board::Sheet;
 use ctt_core::Answer;
 use ctt_draft::{Draft, replay};
 use ctt_edits::Reply;
-use ctt_text::{NoMemory, let_go};
+use ctt_text::{NoMemory, drop_whole};
 
 /// Opens a draft on a sheet.
 fn open<'i, S: Sheet<'i>>(story: &mut Story, sheet: &S) -> Result<Draft<'i, S>, NoMemory>
@@ -101,11 +101,11 @@ fn settle<'i, S: Sheet<'i>>(draft: Draft<'i, S>, story: &mut Story, sheet: &mut 
             story.count("calls", work.asked.len() as u64);
             story.count("changes", work.changes.len() as u64);
             work.settle(sheet);
-            let_go(work);
+            drop_whole(work);
             tell_sheet(story, sheet);
         }
         _ => {
-            let_go(draft);
+            drop_whole(draft);
             story.no_memory();
         }
     }

@@ -1,16 +1,22 @@
-//! Trials: the worked cases, run through the calls of the crates below. The answer of each call is
-//! printed. A call that wants memory is made again on the same values, where it left them as they
-//! were; otherwise its case is run anew. At the end the numbers of both are printed. All that is
-//! printed before is the same, whichever one request for memory is refused.
+//! Trials: the program, called over files in memory, and then the worked cases, run through the
+//! calls of the crates below. The answer of each call is printed. A call that wants memory is made
+//! again on the same values, where it left them as they were; otherwise its case is run anew. At
+//! the end the numbers of both are printed. All that is printed before is the same, whichever one
+//! request for memory is refused.
 #![tactic(auto)]
 
 mod barred;
 mod blocked;
+mod buffer;
+mod called;
+mod calls;
 mod cases;
 mod desks;
 mod drafts;
+mod files;
 mod journals;
 mod offered;
+mod office;
 mod scripts;
 mod shared;
 mod sheets;
@@ -19,11 +25,12 @@ mod story;
 mod tables;
 mod texts;
 mod turns;
+mod words;
 mod worked;
 
 use cases::play_cases;
 use ctt_files::{Device, INPUT_LIMIT, read_all};
-use ctt_text::{Instance, ReadFault, let_go, read_instance};
+use ctt_text::{Instance, ReadFault, drop_whole, read_instance};
 use std::alloc::Global;
 use std::process::ExitCode;
 use std::sync::Wait;
@@ -50,7 +57,7 @@ fn play<R: Wait>(story: &mut Story, rt: &R) {
             play_cases(story, rt, &small, on_shared_desks());
             blocked::play(story, rt, &mut small);
             barred::play(story, rt, &mut small);
-            let_go(small);
+            drop_whole(small);
         }
         None => story.no_memory(),
     }
@@ -69,13 +76,19 @@ fn new_story(alloc: Global) -> Option<Story> {
 }
 
 fn main(rt: HostRuntime) -> ExitCode {
+    let mut out = Device::new(rt.stdout());
+    let Ok(repeated) = called::play(&rt, &mut out) else {
+        return ExitCode::from(3);
+    };
     let Some(mut story) = new_story(rt.alloc()) else {
         return ExitCode::from(3);
     };
+    if repeated {
+        story.call_again();
+    }
     play(&mut story, &rt);
     if story.takes_back(0) {
         play(&mut story, &rt);
     }
-    let mut out = Device::new(rt.stdout());
     ExitCode::from(if story.write(&mut out) { 0 } else { 3 })
 }

@@ -1,7 +1,7 @@
 //! A shared desk, run on one thread.
 
 ghost use Rattle.std.specs.Prelude.{◌≡◌, IfOk};
-ghost use Rattle.ctt_desk.specs.Names.{IsNamed};
+ghost use Rattle.ctt_desk.specs.Names.{IsNameOf};
 
 use crate::cases::Script;
 use crate::story::{Story, repeated};
@@ -9,7 +9,7 @@ use crate::turns::{Here, leave, sit, take_turns, tell_planner};
 use ctt_board::{Sheet, Timetable};
 use ctt_desk::{Closed, Named, Naming, Opened, Planner, SharedDesk, SharedFault};
 use ctt_grid::GridSheet;
-use ctt_text::{Instance, NoMemory, let_go};
+use ctt_text::{Instance, NoMemory, drop_whole};
 use std::marker::{Brand, PhantomData};
 use std::sync::Wait;
 
@@ -71,11 +71,11 @@ fn close<S: Timetable, J: Naming, R: Wait>(
         Ok(closed) => {
             story.count("closed with planners", planners.len() as u64);
             tell_closed(story, small, &closed);
-            let_go(closed);
+            drop_whole(closed);
         }
         Err(closed) => {
             story.say("not closed");
-            let_go(closed);
+            drop_whole(closed);
         }
     }
     for planner in planners {
@@ -103,7 +103,7 @@ fn play_named<'i, S: Sheet<'i>, J: Naming, R: Wait>(
             };
             let mut planners = play_at(&here, story, all, script.lines);
             close(story, rt, desk, planners.as_mut_slice(), script.small);
-            let_go(planners);
+            drop_whole(planners);
         }
         Err(_fault) => story.no_memory(),
     }
@@ -117,7 +117,7 @@ fn play_opened<'i, J: Naming, R: Wait>(
     opened: Opened<GridSheet<'i>>,
     count: u16,
 )
-    requires named { IsNamed J.problem J.opening J.planners J.book opened count }
+    requires named { IsNameOf J.problem J.opening J.planners J.book opened count }
     requires problem { opened.problem ≡ script.now.small.now }
 {
     let named = Named {

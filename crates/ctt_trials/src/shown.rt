@@ -18,7 +18,7 @@ pub(crate) fn play_reports(script: &Script, story: &mut Story) {
     let json = repeated!(
         story,
         NoMemory,
-        report_json(alloc, script.small, script.opening)
+        report_json(alloc, None, script.small, script.opening)
     );
     story.text(json);
 }

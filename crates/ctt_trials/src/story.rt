@@ -11,8 +11,8 @@ use ctt_script::{write_answer, write_entry};
 use ctt_text::{Instance, NoMemory, Placed};
 use std::alloc::Global;
 
-/// Makes a call, and makes it again on the same values if it wants memory. The values must be left as
-/// they were.
+/// Makes a call, and makes it again on the same values if it wants memory. The values must be left
+/// as they were.
 macro_rules! repeated {
     ($story:expr, $want:pat, $call:expr) => {
         match $call {

@@ -1,7 +1,7 @@
 //! The tables of all cases.
 
 use crate::blocked::{BLOCKED_PATTERNS, BLOCKED_ROOM};
-use crate::cases::{Case, On, Plain, Play, Told, Way};
+use crate::cases::{Case, On, Plain, Play, SeatAnswer, Way};
 use crate::offered::*;
 use crate::texts::{CLASH, JOURNAL, NOTHING, SOLUTION, TOP, WITHOUT_TOP};
 use crate::worked::*;
@@ -89,14 +89,14 @@ const DESK: &[Play] = plays![
     Way::Grid(On::Step) => "on the grid sheet",
     Way::List(On::Run) => "at once",
     Way::Grid(On::Run) => "at once on the grid sheet",
-    Way::Script(Told::Answers) => "as a script",
-    Way::Script(Told::Journal) => "",
+    Way::Script(SeatAnswer::Answers) => "as a script",
+    Way::Script(SeatAnswer::Journal) => "",
 ];
 
 /// Lines that are not events, event by event and as a text.
 const BAD: &[Play] = plays![
     Way::Grid(On::Step) => "",
-    Way::Script(Told::Answers) => "as a script",
+    Way::Script(SeatAnswer::Answers) => "as a script",
 ];
 
 /// The audit of a journal.
@@ -112,14 +112,14 @@ const LEFT: &[Play] = plays![
 const UNLAWFUL: &[Play] = plays![
     Way::Grid(On::Step) => "",
     Way::Grid(On::Audit) => "",
-    Way::Script(Told::Answers) => "",
+    Way::Script(SeatAnswer::Answers) => "",
 ];
 
 /// A script whose answers cannot be flushed.
-const UNFLUSHED: &[Play] = plays![Way::Script(Told::Unflushed) => ""];
+const UNFLUSHED: &[Play] = plays![Way::Script(SeatAnswer::Unflushed) => ""];
 
 /// A script of whose answers three bytes are taken.
-const CUT: &[Play] = plays![Way::Script(Told::Cut) => ""];
+const CUT: &[Play] = plays![Way::Script(SeatAnswer::Cut) => ""];
 
 /// Reports, lines on one sheet, and drafts without a desk.
 const ON_SHEETS: &[Case] = &[

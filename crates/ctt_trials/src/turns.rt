@@ -8,8 +8,8 @@ use ctt_board::{Sheet, Timetable};
 use ctt_core::{Answer, Event, PlannerNo};
 use ctt_desk::{Naming, Planner, Receipt, SharedDesk};
 use ctt_script::{Lines, read_own_line};
-use ctt_seat::{Seat, Told};
-use ctt_text::{Instance, let_go};
+use ctt_seat::{Seat, SeatAnswer};
+use ctt_text::{Instance, drop_whole};
 use std::sync::Wait;
 
 /// A desk with its instance.
@@ -93,7 +93,7 @@ fn take<'i, S: Sheet<'i>, J: Naming, R: Wait>(
     here: &Here<'i, '_, S, J, R>,
     seat: Seat<'i, S, J>,
     event: &Event,
-) -> (Seat<'i, S, J>, Result<Receipt<J>, Told>)
+) -> (Seat<'i, S, J>, Result<Receipt<J>, SeatAnswer>)
     requires same { J.problem ≡ here.now.small.now }
     requires fits { EventFits here.now.small.now 64 event.now }
 {
@@ -110,7 +110,7 @@ fn tells<J: Naming>(
     story: &mut Story,
     small: &Instance,
     receipt: &mut Option<Receipt<J>>,
-    told: Result<Receipt<J>, Told>,
+    told: Result<Receipt<J>, SeatAnswer>,
 ) -> bool {
     match told {
         Ok(had) => {
@@ -118,13 +118,13 @@ fn tells<J: Naming>(
             *receipt = Some(had);
             story.tells(small, Answer::Committed(number))
         }
-        Err(Told::Answer(answer)) => story.tells(small, answer),
-        Err(Told::Stale(row, asked)) => {
-            let_go(asked);
+        Err(SeatAnswer::Answer(answer)) => story.tells(small, answer),
+        Err(SeatAnswer::Stale(row, asked)) => {
+            drop_whole(asked);
             story.tells(small, Answer::Stale(row))
         }
-        Err(Told::NoPlace) => false,
-        Err(Told::NotYours(count)) => {
+        Err(SeatAnswer::NoPlace) => false,
+        Err(SeatAnswer::NotYours(count)) => {
             story.count("not yours", count);
             true
         }

@@ -2,5 +2,4 @@ pub mod WeekLemmas
 pub mod EscapeLemmas
 pub mod BySlotLemmas
 pub mod TextLemmas
-pub mod FoundLemmas
 pub mod StandingLemmas

@@ -54,36 +54,37 @@ any_here p xs k x lt at e = list_any_at p xs k x lt (ap p (sym at) ∙ e)
 pub none_more : {X : Type 0} (p : X → Bool) (xs : List X) (k : ℕ) (x : X) → k < length xs → x ≡ get_or xs k x → list_any p (take k xs) ≡ false → p x ≡ false → list_any p (take (k + 1) xs) ≡ false
 none_more p xs k x lt at none e = list_any_more p xs k x lt ∙ ap₂ (λ a b. a || b) none (ap p (sym at) ∙ e)
 
--- a text of five pieces
-pub five_pieces : (p q r s t u : List ℕ) (a b c d e : List ℕ) → p ≡ [] → q ≡ p ++ a → r ≡ q ++ b → s ≡ r ++ c → t ≡ s ++ d → u ≡ t ++ e → u ≡ a ++ (b ++ (c ++ (d ++ e)))
-five_pieces p q r s t u a b c d e h0 h1 h2 h3 h4 h5 =
-    let first : q ≡ a = h1 ∙ ap (λ xs. xs ++ a) h0 in
-    let second : r ≡ a ++ b = h2 ∙ ap (λ xs. xs ++ b) first in
-    let third : s ≡ a ++ (b ++ c) = h3 ∙ ap (λ xs. xs ++ c) second ∙ append_assoc a b c in
-    let fourth : t ≡ a ++ (b ++ (c ++ d)) = h4 ∙ ap (λ xs. xs ++ d) third ∙ append_assoc a (b ++ c) d ∙ ap (λ xs. a ++ xs) (append_assoc b c d) in
-    h5 ∙ ap (λ xs. xs ++ e) fourth ∙ append_assoc a (b ++ (c ++ d)) e ∙ ap (λ xs. a ++ xs) (append_assoc b (c ++ d) e ∙ ap (λ xs. b ++ xs) (append_assoc c d e))
+-- a text with four more pieces, and one of four pieces
+pub four_more : (p q r s t : List ℕ) (a b c d : List ℕ) → q ≡ p ++ a → r ≡ q ++ b → s ≡ r ++ c → t ≡ s ++ d → t ≡ p ++ (a ++ (b ++ (c ++ d)))
+four_more p q r s t a b c d h1 h2 h3 h4 =
+    let second : r ≡ p ++ (a ++ b) = h2 ∙ ap (λ xs. xs ++ b) h1 ∙ append_assoc p a b in
+    let third : s ≡ p ++ (a ++ (b ++ c)) = h3 ∙ ap (λ xs. xs ++ c) second ∙ append_assoc p (a ++ b) c ∙ ap (λ xs. p ++ xs) (append_assoc a b c) in
+    h4 ∙ ap (λ xs. xs ++ d) third ∙ append_assoc p (a ++ (b ++ c)) d ∙ ap (λ xs. p ++ xs) (append_assoc a (b ++ c) d ∙ ap (λ xs. a ++ xs) (append_assoc b c d))
+
+pub four_pieces : (p q r s t : List ℕ) (a b c d : List ℕ) → p ≡ [] → q ≡ p ++ a → r ≡ q ++ b → s ≡ r ++ c → t ≡ s ++ d → t ≡ a ++ (b ++ (c ++ d))
+four_pieces p q r s t a b c d h0 h1 h2 h3 h4 = four_more p q r s t a b c d h1 h2 h3 h4 ∙ ap (λ xs. xs ++ (a ++ (b ++ (c ++ d)))) h0
 
 -- the last of several pieces, if it is added without a fault
 pub on_ok : {T E : Type 0} (r : Result T E) (old new t : List ℕ) → new ≡ (if is_ok r then old ++ t else old) → OnOk r (new ≡ old ++ t)
 on_ok (Ok x) old new t h = h
 on_ok (Err x) old new t h = tt
 
-before : {T E : Type 0} (r : Result T E) (p q new a b : List ℕ) → q ≡ p ++ a → OnOk r (new ≡ q ++ b) → OnOk r (new ≡ p ++ (a ++ b))
-before (Ok x) p q new a b h k = k ∙ ap (λ xs. xs ++ b) h ∙ append_assoc p a b
-before (Err x) p q new a b h k = k
+pub two_in : {T E : Type 0} (r : Result T E) (p q new a b : List ℕ) → q ≡ p ++ a → OnOk r (new ≡ q ++ b) → OnOk r (new ≡ p ++ (a ++ b))
+two_in (Ok x) p q new a b h k = k ∙ ap (λ xs. xs ++ b) h ∙ append_assoc p a b
+two_in (Err x) p q new a b h k = k
 
 module _ {T E : Type 0} (r : Result T E) where
   pub three_in : (p q1 q2 new a b c : List ℕ) → q1 ≡ p ++ a → q2 ≡ q1 ++ b → OnOk r (new ≡ q2 ++ c) → OnOk r (new ≡ p ++ (a ++ (b ++ c)))
-  three_in p q1 q2 new a b c h1 h2 k = before r p q1 new a (b ++ c) h1 (before r q1 q2 new b c h2 k)
+  three_in p q1 q2 new a b c h1 h2 k = two_in r p q1 new a (b ++ c) h1 (two_in r q1 q2 new b c h2 k)
 
   pub four_in : (p q1 q2 q3 new a b c d : List ℕ) → q1 ≡ p ++ a → q2 ≡ q1 ++ b → q3 ≡ q2 ++ c → OnOk r (new ≡ q3 ++ d) → OnOk r (new ≡ p ++ (a ++ (b ++ (c ++ d))))
-  four_in p q1 q2 q3 new a b c d h1 h2 h3 k = before r p q1 new a (b ++ (c ++ d)) h1 (three_in q1 q2 q3 new b c d h2 h3 k)
+  four_in p q1 q2 q3 new a b c d h1 h2 h3 k = two_in r p q1 new a (b ++ (c ++ d)) h1 (three_in q1 q2 q3 new b c d h2 h3 k)
 
   pub five_in : (p q1 q2 q3 q4 new a b c d e : List ℕ) → q1 ≡ p ++ a → q2 ≡ q1 ++ b → q3 ≡ q2 ++ c → q4 ≡ q3 ++ d → OnOk r (new ≡ q4 ++ e) → OnOk r (new ≡ p ++ (a ++ (b ++ (c ++ (d ++ e)))))
-  five_in p q1 q2 q3 q4 new a b c d e h1 h2 h3 h4 k = before r p q1 new a (b ++ (c ++ (d ++ e))) h1 (four_in q1 q2 q3 q4 new b c d e h2 h3 h4 k)
+  five_in p q1 q2 q3 q4 new a b c d e h1 h2 h3 h4 k = two_in r p q1 new a (b ++ (c ++ (d ++ e))) h1 (four_in q1 q2 q3 q4 new b c d e h2 h3 h4 k)
 
   pub six_in : (p q1 q2 q3 q4 q5 new a b c d e f : List ℕ) → q1 ≡ p ++ a → q2 ≡ q1 ++ b → q3 ≡ q2 ++ c → q4 ≡ q3 ++ d → q5 ≡ q4 ++ e → OnOk r (new ≡ q5 ++ f) → OnOk r (new ≡ p ++ (a ++ (b ++ (c ++ (d ++ (e ++ f))))))
-  six_in p q1 q2 q3 q4 q5 new a b c d e f h1 h2 h3 h4 h5 k = before r p q1 new a (b ++ (c ++ (d ++ (e ++ f)))) h1 (five_in q1 q2 q3 q4 q5 new b c d e f h2 h3 h4 h5 k)
+  six_in p q1 q2 q3 q4 q5 new a b c d e f h1 h2 h3 h4 h5 k = two_in r p q1 new a (b ++ (c ++ (d ++ (e ++ f)))) h1 (five_in q1 q2 q3 q4 q5 new b c d e f h2 h3 h4 h5 k)
 
   pub seven_in : (p q1 q2 q3 q4 q5 q6 new a b c d e f g : List ℕ) → q1 ≡ p ++ a → q2 ≡ q1 ++ b → q3 ≡ q2 ++ c → q4 ≡ q3 ++ d → q5 ≡ q4 ++ e → q6 ≡ q5 ++ f → OnOk r (new ≡ q6 ++ g) → OnOk r (new ≡ p ++ (a ++ (b ++ (c ++ (d ++ (e ++ (f ++ g)))))))
-  seven_in p q1 q2 q3 q4 q5 q6 new a b c d e f g h1 h2 h3 h4 h5 h6 k = before r p q1 new a (b ++ (c ++ (d ++ (e ++ (f ++ g))))) h1 (six_in q1 q2 q3 q4 q5 q6 new b c d e f g h2 h3 h4 h5 h6 k)
+  seven_in p q1 q2 q3 q4 q5 q6 new a b c d e f g h1 h2 h3 h4 h5 h6 k = two_in r p q1 new a (b ++ (c ++ (d ++ (e ++ (f ++ g))))) h1 (six_in q1 q2 q3 q4 q5 q6 new b c d e f g h2 h3 h4 h5 h6 k)

@@ -48,12 +48,18 @@ cost_rows cost = count_row (codes "capacity") (codes "capacity") (codes "&#9679;
     ++ (count_row (codes "stability") (codes "stability") (codes "&#9671;") cost.stability
     ++ total_row (total cost))))
 
--- the report on an instance; the Booleans say whether the timetable is lawful, and whether it is
--- complete
-unfoldable pub report : Problem → Hard → Cost → Bool → Bool → List ℕ
-report i hard cost lawful complete = codes "<h2 id='report'>Report</h2><table>\n"
+-- the lines of the costs, which a plain page leaves out
+unfoldable pub shown_costs : Bool → Cost → List ℕ
+shown_costs true cost = []
+shown_costs false cost = cost_rows cost
+
+-- the report on an instance; the Booleans say whether the page is plain, and whether the timetable
+-- is lawful and complete
+unfoldable pub report : Bool → Problem → Hard → Cost → Bool → Bool → List ℕ
+report plain i hard cost lawful complete =
+    codes "<details><summary><h3 id='report'>Report</h3></summary><table>\n"
     ++ (hard_rows i hard
-    ++ (cost_rows cost
+    ++ (shown_costs plain cost
     ++ (answer_row (codes "lawful") lawful
     ++ (answer_row (codes "complete") complete
-    ++ codes "</table>\n"))))
+    ++ codes "</table></details>\n"))))

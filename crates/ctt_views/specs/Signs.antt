@@ -1,5 +1,6 @@
 -- The signs of a lecture that breaks a rule or costs points.
 use Rattle.std.specs.Prelude.{ℕ, Bool, false, ◌==◌, ◌&&◌, ◌++◌, not, List, [], codes, if◌then◌else◌}
+use Rattle.std.specs.Fmt.{decimal}
 use Rattle.std.specs.List.{list_any}
 use Rattle.ctt_problem.specs.Problem.{Problem, clash, is_barred, is_blocked, is_unavailable}
 use Rattle.ctt_problem.specs.declared.placed.Placed.{Placed}
@@ -10,6 +11,7 @@ use Rattle.ctt_views.specs.Phrases.{amount}
 use Rattle.ctt_views.specs.Weeks.{lectures_in}
 use Rattle.ctt_views.specs.declared.grid.Grid.{Grid}
 use Rattle.ctt_views.specs.declared.grid.Grid.TheVariants.{Curriculum, Teacher, Room, Course}
+use Rattle.ctt_views.specs.declared.view.View.{View}
 
 -- one of the lectures is of a course that clashes with this one's
 abbrev pub clashes : Problem → List Placed → Placed → Bool
@@ -39,12 +41,25 @@ sign shown text = if shown then text else []
 unfoldable pub cost : ℕ → List ℕ → List ℕ
 cost n text = if n == 0 then [] else codes " <i>" ++ (text ++ (codes ": " ++ (amount n (codes "point") ++ codes "</i>")))
 
+-- the signs of the rules that a lecture breaks beside those in its slot
+unfoldable pub hard_signs : Problem → List Placed → Placed → List ℕ
+hard_signs i row l = sign (clashes i row l) (codes " <b>&#9650;&#160;conflict</b>")
+    ++ (sign (is_unavailable i l.course l.slot) (codes " <b>&#9660;&#160;unavailable</b>")
+    ++ (sign (shares_room row l) (codes " <b>&#9670;&#160;room taken</b>")
+    ++ (sign (is_barred i l.course l.room) (codes " <b>&#9632;&#160;barred</b>")
+    ++ sign (is_blocked i l.room l.slot) (codes " <b>&#9644;&#160;blocked</b>"))))
+
+-- the sign of a room with too few seats for so many students, if there are any
+unfoldable pub seats_sign : ℕ → List ℕ
+seats_sign n = if n == 0 then []
+    else codes " <i>&#9679;&#160;" ++ (decimal n ++ codes " too few seats</i>")
+
+-- the signs of what a lecture costs, which a plain page leaves out
+unfoldable pub cost_signs : Problem → List (List Placed) → View → Grid → Placed → List ℕ
+cost_signs i w v g l = if v.plain then []
+    else seats_sign (unseated i l)
+    ++ cost (if is_alone i w g l then 2 else 0) (codes "&#9675;&#160;alone")
+
 -- the signs of the rules that a lecture breaks, and of what it costs
-unfoldable pub signs : Problem → List (List Placed) → Grid → Placed → List ℕ
-signs i w g l = sign (clashes i (lectures_in w l.slot) l) (codes " <b>&#9650; conflict</b>")
-    ++ (sign (is_unavailable i l.course l.slot) (codes " <b>&#9660; unavailable</b>")
-    ++ (sign (shares_room (lectures_in w l.slot) l) (codes " <b>&#9670; room taken</b>")
-    ++ (sign (is_barred i l.course l.room) (codes " <b>&#9632; barred</b>")
-    ++ (sign (is_blocked i l.room l.slot) (codes " <b>&#9644; blocked</b>")
-    ++ (cost (unseated i l) (codes "&#9679; too small")
-    ++ cost (if is_alone i w g l then 2 else 0) (codes "&#9675; alone"))))))
+unfoldable pub signs : Problem → List (List Placed) → View → Grid → Placed → List ℕ
+signs i w v g l = hard_signs i (lectures_in w l.slot) l ++ cost_signs i w v g l

@@ -8,9 +8,9 @@ ghost use Rattle.ctt_views.specs.Cells.{cell, cell_start, lecture_text, mark, na
 ghost use Rattle.ctt_views.specs.Grids.{GridFits, is_of};
 ghost use Rattle.ctt_views.specs.Weeks.{WeekFits};
 
-use crate::escape::Escaped;
 use crate::grid::{Grid, Place, is_blocked_in, is_closed, is_of};
 use crate::signs::push_signs;
+use crate::view::{View, link};
 use crate::week::Week;
 use ctt_problem::{Instance, Placed, SlotNo};
 use std::alloc::AllocError;
@@ -18,16 +18,22 @@ use std::fmt::Write;
 
 /// Adds the names of a lecture's course and room.
 #[tactic(auto, unfolding(crate::specs::Cells::names_text))]
-fn push_names(page: &mut String, instance: &Instance, lecture: &Placed) -> Result<(), AllocError>
+fn push_names(
+    page: &mut String,
+    instance: &Instance,
+    view: &View,
+    lecture: &Placed,
+) -> Result<(), AllocError>
     requires { Fits instance.now lecture.now }
     ensures { OnOk result (string_bytes page.new
-        ≡ string_bytes page.old ++ names_text instance.now lecture.now) }
+        ≡ string_bytes page.old ++ names_text instance.now view.now lecture.now) }
 {
-    let course = Escaped(instance.course_name(lecture.course));
-    let room = Escaped(instance.room_name(lecture.room));
+    let colour = lecture.course.get();
+    let course = link(instance, view, Grid::Course(lecture.course));
+    let room = link(instance, view, Grid::Room(lecture.room));
     write!(
         page,
-        "<p><bdi>{course}</bdi> <small><bdi>{room}</bdi></small>"
+        "<p style='--course:{colour}'>{course} <small>{room}</small>"
     )
 }
 
@@ -37,6 +43,7 @@ fn push_lecture(
     page: &mut String,
     instance: &Instance,
     week: &Week,
+    view: &View,
     grid: &Grid,
     lecture: &Placed,
 ) -> Result<(), AllocError>
@@ -44,10 +51,10 @@ fn push_lecture(
     requires grid { GridFits instance.now grid.now }
     requires lecture { Fits instance.now lecture.now }
     ensures { OnOk result (string_bytes page.new
-        ≡ string_bytes page.old ++ lecture_text instance.now week.now grid.now lecture.now) }
+        ≡ string_bytes page.old ++ lecture_text instance.now week.now view.now grid.now lecture.now) }
 {
-    push_names(page, instance, lecture)?;
-    push_signs(page, instance, week, grid, lecture)?;
+    push_names(page, instance, view, lecture)?;
+    push_signs(page, instance, week, view, grid, lecture)?;
     page.push_str("</p>")
 }
 
@@ -56,6 +63,7 @@ fn push_shown(
     page: &mut String,
     instance: &Instance,
     week: &Week,
+    view: &View,
     grid: &Grid,
     lecture: &Placed,
 ) -> Result<(), AllocError>
@@ -63,10 +71,10 @@ fn push_shown(
     requires grid { GridFits instance.now grid.now }
     requires lecture { Fits instance.now lecture.now }
     ensures { OnOk result (string_bytes page.new
-        ≡ string_bytes page.old ++ shown_text instance.now week.now grid.now lecture.now) }
+        ≡ string_bytes page.old ++ shown_text instance.now week.now view.now grid.now lecture.now) }
 {
     if is_of(instance, grid, lecture) {
-        push_lecture(page, instance, week, grid, lecture)
+        push_lecture(page, instance, week, view, grid, lecture)
     } else {
         Ok(())
     }
@@ -77,6 +85,7 @@ fn push_lectures(
     page: &mut String,
     instance: &Instance,
     week: &Week,
+    view: &View,
     grid: &Grid,
     row: &[Placed],
 ) -> Result<(), AllocError>
@@ -85,11 +94,11 @@ fn push_lectures(
     requires row { Each (Fits instance.now) row.now }
     ensures { OnOk result (string_bytes page.new
         ≡ string_bytes page.old
-        ++ flat_map (lecture_text instance.now week.now grid.now)
+        ++ flat_map (lecture_text instance.now week.now view.now grid.now)
         (filter (is_of instance.now grid.now) row.now)) }
 {
     for lecture in row {
-        push_shown(page, instance, week, grid, lecture)?;
+        push_shown(page, instance, week, view, grid, lecture)?;
     }
     Ok(())
 }
@@ -101,7 +110,7 @@ fn mark(blocked: bool, closed: bool) -> &'static str
     ensures { result.now ≡ mark blocked closed }
 {
     if blocked {
-        "<em>&#9644; blocked</em>"
+        "<em>&#9644;&#160;blocked</em>"
     } else if closed {
         "<em>closed</em>"
     } else {
@@ -137,6 +146,7 @@ pub(crate) fn push_cell(
     page: &mut String,
     instance: &Instance,
     week: &Week,
+    view: &View,
     grid: &Grid,
     slot: SlotNo,
 ) -> Result<(), AllocError>
@@ -144,9 +154,9 @@ pub(crate) fn push_cell(
     requires grid { GridFits instance.now grid.now }
     requires slot { slot < slot_count instance.now }
     ensures { OnOk result (string_bytes page.new
-        ≡ string_bytes page.old ++ cell instance.now week.now grid.now slot) }
+        ≡ string_bytes page.old ++ cell instance.now week.now view.now grid.now slot) }
 {
     push_cell_start(page, instance, grid, slot)?;
-    push_lectures(page, instance, week, grid, week.row(instance, slot))?;
+    push_lectures(page, instance, week, view, grid, week.row(instance, slot))?;
     page.push_str("</td>")
 }

@@ -3,7 +3,7 @@
 ghost use Rattle.std.specs.Prelude.{◌≡◌, ◌<◌, ◌++◌, OnOk, string_bytes};
 ghost use Rattle.ctt_problem.specs.Problem.{slot_of};
 ghost use Rattle.ctt_views.specs.Cells.{cell};
-ghost use Rattle.ctt_views.specs.GridTexts.{day_head, each_below, grid_text, line};
+ghost use Rattle.ctt_views.specs.GridTexts.{day_head, each_below, grid_text, line, line_start};
 ghost use Rattle.ctt_views.specs.Grids.{GridFits};
 ghost use Rattle.ctt_views.specs.Weeks.{WeekFits};
 
@@ -11,6 +11,7 @@ use crate::cells::push_cell;
 use crate::grid::Grid;
 use crate::heading::push_grid_start;
 use crate::phrases::Day;
+use crate::view::View;
 use crate::week::Week;
 use ctt_problem::Instance;
 use std::alloc::AllocError;
@@ -22,8 +23,8 @@ fn push_day_head(page: &mut String, names: &str, day: u16) -> Result<(), AllocEr
     ensures { OnOk result (string_bytes page.new
         ≡ string_bytes page.old ++ day_head names.now day) }
 {
-    let day = Day { names, day };
-    write!(page, "<th scope='col'>{day}</th>")
+    let name = Day { names, day };
+    write!(page, "<th scope='col' title='day {day}'>{name}</th>")
 }
 
 /// Adds the heads of the columns.
@@ -43,6 +44,7 @@ fn push_cells(
     page: &mut String,
     instance: &Instance,
     week: &Week,
+    view: &View,
     grid: &Grid,
     period: u16,
 ) -> Result<(), AllocError>
@@ -51,14 +53,26 @@ fn push_cells(
     requires period { period < instance.now.periods }
     ensures { OnOk result (string_bytes page.new
         ≡ string_bytes page.old ++ each_below
-        (λ d. cell instance.now week.now grid.now (slot_of instance.now d period))
+        (λ d. cell instance.now week.now view.now grid.now (slot_of instance.now d period))
         instance.now.days) }
 {
     for day in 0..instance.days() {
         let slot = instance.slot_of(day, period);
-        push_cell(page, instance, week, grid, slot)?;
+        push_cell(page, instance, week, view, grid, slot)?;
     }
     Ok(())
+}
+
+/// Begins the line of a period.
+#[tactic(auto, unfolding(crate::specs::GridTexts::line_start))]
+fn push_line_start(page: &mut String, period: u16) -> Result<(), AllocError>
+    ensures { OnOk result (string_bytes page.new ≡ string_bytes page.old ++ line_start period) }
+{
+    let number = u32::from(period) + 1;
+    write!(
+        page,
+        "<tr><th scope='row' title='period {period}'>{number}</th>"
+    )
 }
 
 /// Adds the line of a period.
@@ -67,6 +81,7 @@ fn push_line(
     page: &mut String,
     instance: &Instance,
     week: &Week,
+    view: &View,
     grid: &Grid,
     period: u16,
 ) -> Result<(), AllocError>
@@ -74,11 +89,10 @@ fn push_line(
     requires grid { GridFits instance.now grid.now }
     requires period { period < instance.now.periods }
     ensures { OnOk result (string_bytes page.new
-        ≡ string_bytes page.old ++ line instance.now week.now grid.now period) }
+        ≡ string_bytes page.old ++ line instance.now week.now view.now grid.now period) }
 {
-    let number = u32::from(period) + 1;
-    write!(page, "<tr><th scope='row'>{number}</th>")?;
-    push_cells(page, instance, week, grid, period)?;
+    push_line_start(page, period)?;
+    push_cells(page, instance, week, view, grid, period)?;
     page.push_str("</tr>\n")
 }
 
@@ -87,16 +101,17 @@ fn push_lines(
     page: &mut String,
     instance: &Instance,
     week: &Week,
+    view: &View,
     grid: &Grid,
 ) -> Result<(), AllocError>
     requires week { WeekFits instance.now week.now }
     requires grid { GridFits instance.now grid.now }
     ensures { OnOk result (string_bytes page.new
         ≡ string_bytes page.old
-        ++ each_below (line instance.now week.now grid.now) instance.now.periods) }
+        ++ each_below (line instance.now week.now view.now grid.now) instance.now.periods) }
 {
     for period in 0..instance.periods() {
-        push_line(page, instance, week, grid, period)?;
+        push_line(page, instance, week, view, grid, period)?;
     }
     Ok(())
 }
@@ -107,17 +122,18 @@ pub(crate) fn push_grid(
     page: &mut String,
     instance: &Instance,
     week: &Week,
+    view: &View,
     names: &str,
     grid: &Grid,
 ) -> Result<(), AllocError>
     requires week { WeekFits instance.now week.now }
     requires grid { GridFits instance.now grid.now }
     ensures { OnOk result (string_bytes page.new
-        ≡ string_bytes page.old ++ grid_text instance.now week.now names.now grid.now) }
+        ≡ string_bytes page.old ++ grid_text instance.now week.now view.now names.now grid.now) }
 {
-    push_grid_start(page, instance, grid)?;
+    push_grid_start(page, instance, view, grid)?;
     push_day_heads(page, names, instance.days())?;
     page.push_str("</tr>\n")?;
-    push_lines(page, instance, week, grid)?;
+    push_lines(page, instance, week, view, grid)?;
     page.push_str("</table></div></section>\n")
 }

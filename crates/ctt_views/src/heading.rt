@@ -1,26 +1,34 @@
 //! The headings of grids.
 
-ghost use Rattle.std.specs.Prelude.{◌≡◌, ◌++◌, OnOk, string_bytes};
+ghost use Rattle.std.specs.Prelude.{◌≡◌, ◌<◌, ◌++◌, OnOk, string_bytes};
+ghost use Rattle.ctt_problem.specs.Problem.{course_count};
 ghost use Rattle.ctt_views.specs.Grids.{GridFits};
-ghost use Rattle.ctt_views.specs.Headings.{course_note, grid_start, heading, note, room_note};
+ghost use Rattle.ctt_views.specs.Headings.{course_note, grid_start, heading, note, room_note, table_start};
 
 use crate::grid::{Grid, name_of, word_of};
 use crate::phrases::{Amount, Named};
-use ctt_problem::Instance;
+use crate::view::{View, link};
+use ctt_problem::{CourseNo, Instance};
 use std::alloc::AllocError;
 use std::fmt::Write;
 
 /// Adds the students and the teacher of a course.
 #[tactic(auto, unfolding(crate::specs::Headings::course_note))]
-fn push_course_note(page: &mut String, students: u32, teacher: &str) -> Result<(), AllocError>
-    ensures { OnOk result (string_bytes page.new
-        ≡ string_bytes page.old ++ course_note students teacher.now) }
+fn push_course_note(
+    page: &mut String,
+    instance: &Instance,
+    view: &View,
+    course: CourseNo,
+) -> Result<(), AllocError>
+    requires { course < course_count instance.now }
+    ensures { OnOk result (string_bytes page.new ≡ string_bytes page.old
+        ++ course_note instance.now view.now course) }
 {
     let students = Amount {
-        count: u64::from(students),
+        count: u64::from(instance.students(course)),
         noun: "student",
     };
-    let teacher = Named(teacher);
+    let teacher = link(instance, view, Grid::Teacher(instance.teacher(course)));
     write!(page, ", {students}, teacher {teacher}")
 }
 
@@ -37,19 +45,21 @@ fn push_room_note(page: &mut String, seats: u32) -> Result<(), AllocError>
 }
 
 /// Adds what the heading of a grid says after the name.
-fn push_note(page: &mut String, instance: &Instance, grid: &Grid) -> Result<(), AllocError>
+fn push_note(
+    page: &mut String,
+    instance: &Instance,
+    view: &View,
+    grid: &Grid,
+) -> Result<(), AllocError>
     requires { GridFits instance.now grid.now }
     ensures { OnOk result (string_bytes page.new
-        ≡ string_bytes page.old ++ note instance.now grid.now) }
+        ≡ string_bytes page.old ++ note instance.now view.now grid.now) }
 {
     match grid {
         Grid::Curriculum(_) => Ok(()),
         Grid::Teacher(_) => Ok(()),
         Grid::Room(room) => push_room_note(page, instance.capacity(*room)),
-        Grid::Course(course) => {
-            let teacher = instance.teacher_name(instance.teacher(*course));
-            push_course_note(page, instance.students(*course), teacher)
-        }
+        Grid::Course(course) => push_course_note(page, instance, view, *course),
     }
 }
 
@@ -66,18 +76,32 @@ fn push_heading(page: &mut String, instance: &Instance, grid: &Grid) -> Result<(
     write!(page, "<section><h3 id='{grid}'>{word} {name}")
 }
 
-/// Begins a grid: its heading, and the first cell of the line of days.
+/// Begins the table of a grid, with the heading as label: the first cell of the line of days.
+#[tactic(auto, unfolding(crate::specs::Headings::table_start))]
+fn push_table_start(page: &mut String, grid: &Grid) -> Result<(), AllocError>
+    ensures { OnOk result (string_bytes page.new
+        ≡ string_bytes page.old ++ table_start grid.now) }
+{
+    let grid = *grid;
+    write!(
+        page,
+        "</h3><div><table aria-labelledby='{grid}'>\n<tr><th>period</th>"
+    )
+}
+
+/// Begins a grid: its heading, and its table.
 #[tactic(auto, unfolding(crate::specs::Headings::grid_start))]
 pub(crate) fn push_grid_start(
     page: &mut String,
     instance: &Instance,
+    view: &View,
     grid: &Grid,
 ) -> Result<(), AllocError>
     requires { GridFits instance.now grid.now }
     ensures { OnOk result (string_bytes page.new
-        ≡ string_bytes page.old ++ grid_start instance.now grid.now) }
+        ≡ string_bytes page.old ++ grid_start instance.now view.now grid.now) }
 {
     push_heading(page, instance, grid)?;
-    push_note(page, instance, grid)?;
-    page.push_str("</h3><div><table>\n<tr><th>period</th>")
+    push_note(page, instance, view, grid)?;
+    push_table_start(page, grid)
 }

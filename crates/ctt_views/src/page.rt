@@ -1,114 +1,104 @@
 //! The page as a whole.
 
-ghost use Rattle.std.specs.Prelude.{◌≡◌, ◌<◌, ◌^◌, ◌++◌, IfOk, OnOk, string_bytes};
-ghost use Rattle.ctt_problem.specs.Problem.{slot_count};
+ghost use Rattle.std.specs.Prelude.{◌≡◌, ◌<◌, ◌^◌, IfOk, IfSome, OnOk, string_bytes};
 ghost use Rattle.ctt_problem.specs.Timetable.{IsTimetable};
 ghost use Rattle.ctt_rules.specs.Penalty.{total};
-ghost use Rattle.ctt_views.specs.Parts.{parts};
-ghost use Rattle.ctt_views.specs.Page.{HasFindings, IsPage, page_end, page_head};
-ghost use Rattle.ctt_views.specs.Weeks.{by_slot};
+ghost use Rattle.ctt_views.specs.Page.{HasAllGrids, HasBody, IsPage};
+ghost use Rattle.ctt_views.specs.Week.{SelectionFits};
 
-use crate::escape::Escaped;
-use crate::parts::push_parts;
-use crate::ranking::ranked_findings;
-use crate::report::push_report;
-use crate::script::script;
-use crate::sections::push_sections;
-use crate::style::style;
-use crate::week::Week;
+use crate::body::{
+    push_before_grids, push_found, push_lone_grid, push_script_end, push_week, selected_grid,
+};
+use crate::options::PageOptions;
+use crate::page_head::{own_name, push_head, push_verdict};
+use crate::script::SCRIPT;
+use crate::style::STYLE;
+use crate::view::{View, only_kind};
 use ctt_problem::{Instance, NoMemory, Placed};
 use ctt_rules::{Assessment, assess};
-use std::alloc::{AllocError, Global};
-use std::fmt::Write;
+use std::alloc::Global;
 
-/// Adds what precedes the report: the HTML head with the style, the names of the instance and of
-/// the solution, and links to the parts of the page.
-#[tactic(auto, unfolding(crate::specs::Page::page_head))]
-fn push_head(page: &mut String, style: &str, name: &str, solution: &str) -> Result<(), AllocError>
-    ensures { OnOk result (string_bytes page.new
-        ≡ string_bytes page.old ++ page_head style.now name.now solution.now) }
-{
-    let title = Escaped(name);
-    let file = Escaped(solution);
-    write!(
-        page,
-        "<!DOCTYPE html>\n<html lang='en'><head><meta charset='utf-8'>\n\
-         <meta name='viewport' content='width=device-width, initial-scale=1'>\n\
-         <title>{title}: {file}</title><style>{style}</style></head>\n\
-         <body><h1><bdi>{title}</bdi>: <bdi>{file}</bdi></h1>\n\
-         <nav><a href='#report'>Report</a> <a href='#findings'>Findings</a> \
-         <a href='#index'>Index</a> <a href='#curricula'>Curricula</a> \
-         <a href='#teachers'>Teachers</a> <a href='#rooms'>Rooms</a> \
-         <a href='#courses'>Courses</a> <input id='find' placeholder='Narrow by a name' hidden></nav>\n"
-    )
-}
-
-/// Adds the findings of a timetable.
-fn push_found(
+/// Adds the grids of all kinds or of one, and the findings.
+fn push_all_grids(
     alloc: Global,
     page: &mut String,
+    options: &PageOptions,
+    days: &str,
     instance: &Instance,
     timetable: &[Placed],
-    days: &str,
     assessment: &Assessment,
 ) -> Result<(), NoMemory>
     requires total { total assessment.now.cost < 2 ^ 64 }
     requires timetable { IsTimetable instance.now timetable.now }
-    ensures { OnOk result (HasFindings instance.now timetable.now days.now assessment.now.hard
-        assessment.now.cost (string_bytes page.old) (string_bytes page.new)) }
+    ensures { OnOk result (HasAllGrids options.now days.now instance.now timetable.now
+        assessment.now.hard assessment.now.cost assessment.now.lawful assessment.now.complete
+        (string_bytes page.old) (string_bytes page.new)) }
 {
-    let found = ranked_findings(alloc, instance, timetable)?;
-    push_sections(page, instance, days, &found, assessment)?;
+    let only = only_kind(instance, options.grids);
+    let view = View::new(only, options.plain);
+    push_before_grids(page, instance, &only, &view)?;
+    push_week(alloc, page, instance, timetable, &view, days)?;
+    push_found(alloc, page, instance, timetable, &view, days, assessment)?;
+    push_script_end(page, SCRIPT)?;
     Ok(())
 }
 
-/// Adds the index and the grids of a timetable.
-fn push_week(
+/// Adds what a page shows below the verdict.
+fn push_body(
     alloc: Global,
     page: &mut String,
+    options: &PageOptions,
+    days: &str,
     instance: &Instance,
     timetable: &[Placed],
-    days: &str,
-) -> Result<(), AllocError>
-    requires { IsTimetable instance.now timetable.now }
-    ensures { OnOk result (string_bytes page.new
-        ≡ string_bytes page.old ++ parts instance.now
-        (by_slot (slot_count instance.now) timetable.now) days.now) }
+    assessment: &Assessment,
+) -> Result<(), NoMemory>
+    requires total { total assessment.now.cost < 2 ^ 64 }
+    requires timetable { IsTimetable instance.now timetable.now }
+    requires selection { IfSome options.now.selection (SelectionFits instance.now) }
+    ensures { OnOk result (HasBody options.now days.now instance.now timetable.now
+        assessment.now.hard assessment.now.cost assessment.now.lawful assessment.now.complete
+        (string_bytes page.old) (string_bytes page.new)) }
 {
-    let week = Week::new(alloc, instance, timetable)?;
-    push_parts(page, instance, &week, days)
+    match options.selection {
+        Some(selection) => {
+            let grid = selected_grid(instance, &selection);
+            push_lone_grid(alloc, page, options.plain, days, instance, timetable, &grid)?;
+            Ok(())
+        }
+        None => push_all_grids(alloc, page, options, days, instance, timetable, assessment),
+    }
 }
 
-/// Ends the page with a script.
-#[tactic(auto, unfolding(crate::specs::Page::page_end))]
-fn push_end(page: &mut String, script: &str) -> Result<(), AllocError>
-    ensures { OnOk result (string_bytes page.new
-        ≡ string_bytes page.old ++ page_end script.now) }
-{
-    write!(page, "<script>{script}</script></body></html>\n")
-}
-
-/// Returns a timetable as one HTML page without external resources: the report, the findings by
-/// kind, an index, and a grid for each curriculum, teacher, room and course. `solution` names the
-/// file of the timetable, and `days` the days, with commas between the names.
-#[tactic(auto, unfolding(crate::specs::Page::page))]
+/// Returns a timetable as one HTML page without external resources: the verdict, an index and a grid
+/// for each curriculum, teacher, room and course, the report, and the findings by kind. `solution`
+/// names the file of the timetable, and `days` the days, with commas between the names.
 pub fn page_text(
     alloc: Global,
     instance: &Instance,
     timetable: &[Placed],
     solution: &str,
     days: &str,
+    options: &PageOptions,
 ) -> Result<String, NoMemory>
-    requires { IsTimetable instance.now timetable.now }
+    requires timetable { IsTimetable instance.now timetable.now }
+    requires selection { IfSome options.now.selection (SelectionFits instance.now) }
     ensures { IfOk result (λ page.
-        IsPage solution.now days.now instance.now timetable.now (string_bytes page)) }
+        IsPage solution.now days.now options.now instance.now timetable.now (string_bytes page)) }
 {
     let assessment = assess(instance, timetable);
     let mut page = String::new(alloc);
-    push_head(&mut page, style(), instance.name(), solution)?;
-    push_report(&mut page, instance, &assessment)?;
-    push_found(alloc, &mut page, instance, timetable, days, &assessment)?;
-    push_week(alloc, &mut page, instance, timetable, days)?;
-    push_end(&mut page, script())?;
+    push_head(&mut page, STYLE, instance.name(), own_name(solution))?;
+    push_verdict(&mut page, options.plain, &assessment)?;
+    push_body(
+        alloc,
+        &mut page,
+        options,
+        days,
+        instance,
+        timetable,
+        &assessment,
+    )?;
+    page.push_str("</body></html>\n")?;
     Ok(page)
 }

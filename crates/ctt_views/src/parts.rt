@@ -2,92 +2,108 @@
 
 ghost use Rattle.std.specs.Prelude.{◌≡◌, ◌<◌, ◌++◌, OnOk, string_bytes};
 ghost use Rattle.ctt_views.specs.Grids.{GridFits};
-ghost use Rattle.ctt_views.specs.Parts.{count_of, entries, entry, grid_of, id_of, index, part_grids, part_text, part_start, parts, title_of};
+ghost use Rattle.ctt_views.specs.Parts.{count_of, entries, entry, grid_of, id_of, index, part_grids, part_link, part_start, part_text, parts, shown_entries, shown_link, shown_part, title_of};
 ghost use Rattle.ctt_views.specs.Weeks.{WeekFits};
 
 use crate::grid::{Grid, name_of, word_of};
 use crate::grids::push_grid;
+use crate::options::GridKind;
 use crate::phrases::Named;
+use crate::view::{View, has_kind};
 use crate::week::Week;
 use ctt_problem::{CourseNo, CurriculumNo, Instance, RoomNo, TeacherNo};
 use std::alloc::AllocError;
 use std::fmt::Write;
 
-/// A part of the page, with the grids of one kind.
-#[derive(Clone, Copy)]
-pub enum Part {
-    /// A grid for each curriculum.
-    Curricula,
-    /// A grid for each teacher.
-    Teachers,
-    /// A grid for each room.
-    Rooms,
-    /// A grid for each course.
-    Courses,
-}
-
 /// Returns the number of a part's grids.
-fn count_of(instance: &Instance, part: &Part) -> u16
-    ensures { result ≡ count_of instance.now part.now }
+fn count_of(instance: &Instance, kind: &GridKind) -> u16
+    ensures { result ≡ count_of instance.now kind.now }
 {
-    match part {
-        Part::Curricula => instance.curricula(),
-        Part::Teachers => instance.teachers(),
-        Part::Rooms => instance.rooms(),
-        Part::Courses => instance.courses(),
+    match kind {
+        GridKind::Curricula => instance.curricula(),
+        GridKind::Teachers => instance.teachers(),
+        GridKind::Rooms => instance.rooms(),
+        GridKind::Courses => instance.courses(),
     }
 }
 
 /// Returns a grid of a part.
-fn grid_of(instance: &Instance, part: &Part, number: u16) -> Grid
-    requires { number < count_of instance.now part.now }
-    ensures grid { result ≡ grid_of part.now number }
+fn grid_of(instance: &Instance, kind: &GridKind, number: u16) -> Grid
+    requires { number < count_of instance.now kind.now }
+    ensures grid { result ≡ grid_of kind.now number }
     ensures fits { GridFits instance.now result }
 {
-    match part {
-        Part::Curricula => Grid::Curriculum(CurriculumNo::new(number)),
-        Part::Teachers => Grid::Teacher(TeacherNo::new(number)),
-        Part::Rooms => Grid::Room(RoomNo::new(number)),
-        Part::Courses => Grid::Course(CourseNo::new(number)),
+    match kind {
+        GridKind::Curricula => Grid::Curriculum(CurriculumNo::new(number)),
+        GridKind::Teachers => Grid::Teacher(TeacherNo::new(number)),
+        GridKind::Rooms => Grid::Room(RoomNo::new(number)),
+        GridKind::Courses => Grid::Course(CourseNo::new(number)),
     }
 }
 
 /// Returns the id of a part.
-fn id_of(part: &Part) -> &'static str
-    ensures { result.now ≡ id_of part.now }
+pub(crate) fn id_of(kind: &GridKind) -> &'static str
+    ensures { result.now ≡ id_of kind.now }
 {
-    match part {
-        Part::Curricula => "curricula",
-        Part::Teachers => "teachers",
-        Part::Rooms => "rooms",
-        Part::Courses => "courses",
+    match kind {
+        GridKind::Curricula => "curricula",
+        GridKind::Teachers => "teachers",
+        GridKind::Rooms => "rooms",
+        GridKind::Courses => "courses",
     }
 }
 
 /// Returns the title of a part.
-fn title_of(part: &Part) -> &'static str
-    ensures { result.now ≡ title_of part.now }
+fn title_of(kind: &GridKind) -> &'static str
+    ensures { result.now ≡ title_of kind.now }
 {
-    match part {
-        Part::Curricula => "Curricula",
-        Part::Teachers => "Teachers",
-        Part::Rooms => "Rooms",
-        Part::Courses => "Courses",
+    match kind {
+        GridKind::Curricula => "Curricula",
+        GridKind::Teachers => "Teachers",
+        GridKind::Rooms => "Rooms",
+        GridKind::Courses => "Courses",
     }
 }
 
 /// Begins a part.
 #[tactic(auto, unfolding(crate::specs::Parts::part_start))]
-fn push_part_start(page: &mut String, part: &Part) -> Result<(), AllocError>
+fn push_part_start(page: &mut String, kind: &GridKind) -> Result<(), AllocError>
     ensures { OnOk result (string_bytes page.new
-        ≡ string_bytes page.old ++ part_start part.now) }
+        ≡ string_bytes page.old ++ part_start kind.now) }
 {
-    let id = id_of(part);
-    let title = title_of(part);
+    let id = id_of(kind);
+    let title = title_of(kind);
     write!(
         page,
         "<details open><summary><h2 id='{id}'>{title}</h2></summary><article>\n"
     )
+}
+
+/// Adds the link to a part.
+#[tactic(auto, unfolding(crate::specs::Parts::part_link))]
+fn push_part_link(page: &mut String, kind: &GridKind) -> Result<(), AllocError>
+    ensures { OnOk result (string_bytes page.new
+        ≡ string_bytes page.old ++ part_link kind.now) }
+{
+    let id = id_of(kind);
+    let title = title_of(kind);
+    write!(page, "<a href='#{id}'>{title}</a> ")
+}
+
+/// Adds the link to a part, if the page has it.
+pub(crate) fn push_shown_link(
+    page: &mut String,
+    view: &View,
+    kind: &GridKind,
+) -> Result<(), AllocError>
+    ensures { OnOk result (string_bytes page.new
+        ≡ string_bytes page.old ++ shown_link view.now kind.now) }
+{
+    if has_kind(view, kind) {
+        push_part_link(page, kind)
+    } else {
+        Ok(())
+    }
 }
 
 /// Adds the grids of a part.
@@ -95,16 +111,17 @@ fn push_part_grids(
     page: &mut String,
     instance: &Instance,
     week: &Week,
+    view: &View,
     names: &str,
-    part: &Part,
+    kind: &GridKind,
 ) -> Result<(), AllocError>
     requires { WeekFits instance.now week.now }
     ensures { OnOk result (string_bytes page.new
-        ≡ string_bytes page.old ++ part_grids instance.now week.now names.now part.now) }
+        ≡ string_bytes page.old ++ part_grids instance.now week.now view.now names.now kind.now) }
 {
-    for number in 0..count_of(instance, part) {
-        let grid = grid_of(instance, part, number);
-        push_grid(page, instance, week, names, &grid)?;
+    for number in 0..count_of(instance, kind) {
+        let grid = grid_of(instance, kind, number);
+        push_grid(page, instance, week, view, names, &grid)?;
     }
     Ok(())
 }
@@ -115,16 +132,37 @@ fn push_part(
     page: &mut String,
     instance: &Instance,
     week: &Week,
+    view: &View,
     names: &str,
-    part: &Part,
+    kind: &GridKind,
 ) -> Result<(), AllocError>
     requires { WeekFits instance.now week.now }
     ensures { OnOk result (string_bytes page.new
-        ≡ string_bytes page.old ++ part_text instance.now week.now names.now part.now) }
+        ≡ string_bytes page.old ++ part_text instance.now week.now view.now names.now kind.now) }
 {
-    push_part_start(page, part)?;
-    push_part_grids(page, instance, week, names, part)?;
+    push_part_start(page, kind)?;
+    push_part_grids(page, instance, week, view, names, kind)?;
     page.push_str("</article></details>\n")
+}
+
+/// Adds a part, if the page has it.
+fn push_shown_part(
+    page: &mut String,
+    instance: &Instance,
+    week: &Week,
+    view: &View,
+    names: &str,
+    kind: &GridKind,
+) -> Result<(), AllocError>
+    requires { WeekFits instance.now week.now }
+    ensures { OnOk result (string_bytes page.new
+        ≡ string_bytes page.old ++ shown_part instance.now week.now view.now names.now kind.now) }
+{
+    if has_kind(view, kind) {
+        push_part(page, instance, week, view, names, kind)
+    } else {
+        Ok(())
+    }
 }
 
 /// Adds the entry of a grid in the index.
@@ -141,45 +179,64 @@ fn push_entry(page: &mut String, instance: &Instance, grid: &Grid) -> Result<(),
 }
 
 /// Adds the entries of a part in the index.
-fn push_entries(page: &mut String, instance: &Instance, part: &Part) -> Result<(), AllocError>
+fn push_entries(page: &mut String, instance: &Instance, kind: &GridKind) -> Result<(), AllocError>
     ensures { OnOk result (string_bytes page.new
-        ≡ string_bytes page.old ++ entries instance.now part.now) }
+        ≡ string_bytes page.old ++ entries instance.now kind.now) }
 {
-    for number in 0..count_of(instance, part) {
-        let grid = grid_of(instance, part, number);
+    for number in 0..count_of(instance, kind) {
+        let grid = grid_of(instance, kind, number);
         push_entry(page, instance, &grid)?;
     }
     Ok(())
 }
 
-/// Adds the index of all grids.
-#[tactic(auto, unfolding(crate::specs::Parts::index))]
-fn push_index(page: &mut String, instance: &Instance) -> Result<(), AllocError>
-    ensures { OnOk result (string_bytes page.new ≡ string_bytes page.old ++ index instance.now) }
+/// Adds the entries of a part in the index, if the page has it.
+fn push_shown_entries(
+    page: &mut String,
+    instance: &Instance,
+    view: &View,
+    kind: &GridKind,
+) -> Result<(), AllocError>
+    ensures { OnOk result (string_bytes page.new
+        ≡ string_bytes page.old ++ shown_entries instance.now view.now kind.now) }
 {
-    page.push_str("<details open><summary><h2 id='index'>Index</h2></summary><ul id='entries'>\n")?;
-    push_entries(page, instance, &Part::Curricula)?;
-    push_entries(page, instance, &Part::Teachers)?;
-    push_entries(page, instance, &Part::Rooms)?;
-    push_entries(page, instance, &Part::Courses)?;
+    if has_kind(view, kind) {
+        push_entries(page, instance, kind)
+    } else {
+        Ok(())
+    }
+}
+
+/// Adds the index of the grids that the page has.
+#[tactic(auto, unfolding(crate::specs::Parts::index))]
+fn push_index(page: &mut String, instance: &Instance, view: &View) -> Result<(), AllocError>
+    ensures { OnOk result (string_bytes page.new
+        ≡ string_bytes page.old ++ index instance.now view.now) }
+{
+    page.push_str("<details><summary><h2 id='index'>Index</h2></summary><ul id='entries'>\n")?;
+    push_shown_entries(page, instance, view, &GridKind::Curricula)?;
+    push_shown_entries(page, instance, view, &GridKind::Teachers)?;
+    push_shown_entries(page, instance, view, &GridKind::Rooms)?;
+    push_shown_entries(page, instance, view, &GridKind::Courses)?;
     page.push_str("</ul></details>\n")
 }
 
-/// Adds the index and all grids. The names of days are in one text.
+/// Adds the index and the grids of a page. The names of days are in one text.
 #[tactic(auto, unfolding(crate::specs::Parts::parts))]
 pub(crate) fn push_parts(
     page: &mut String,
     instance: &Instance,
     week: &Week,
+    view: &View,
     names: &str,
 ) -> Result<(), AllocError>
     requires { WeekFits instance.now week.now }
     ensures { OnOk result (string_bytes page.new
-        ≡ string_bytes page.old ++ parts instance.now week.now names.now) }
+        ≡ string_bytes page.old ++ parts instance.now week.now view.now names.now) }
 {
-    push_index(page, instance)?;
-    push_part(page, instance, week, names, &Part::Curricula)?;
-    push_part(page, instance, week, names, &Part::Teachers)?;
-    push_part(page, instance, week, names, &Part::Rooms)?;
-    push_part(page, instance, week, names, &Part::Courses)
+    push_index(page, instance, view)?;
+    push_shown_part(page, instance, week, view, names, &GridKind::Curricula)?;
+    push_shown_part(page, instance, week, view, names, &GridKind::Teachers)?;
+    push_shown_part(page, instance, week, view, names, &GridKind::Rooms)?;
+    push_shown_part(page, instance, week, view, names, &GridKind::Courses)
 }

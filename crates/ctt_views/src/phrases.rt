@@ -1,8 +1,8 @@
-//! Phrases of the page: names, amounts, days and times.
+//! Phrases: names, amounts, days and times.
 
 ghost use Rattle.std.specs.Prelude.{◌≡◌, ◌==◌, Some, option_map, slice_get};
 ghost use Rattle.std.specs.List.{slice_split};
-ghost use Rattle.ctt_views.specs.Phrases.{amount, day_name, day_text, ending, named, price, when};
+ghost use Rattle.ctt_views.specs.Phrases.{amount, day_as, day_name, day_text, ending, name_as, named, price, when};
 
 use crate::escape::Escaped;
 use std::fmt;
@@ -19,6 +19,34 @@ impl fmt::Display for Named<'_> {
     fn fmt<W: fmt::Write>(&self, f: &mut fmt::Formatter<W>) -> fmt::Result {
         let name = Escaped(self.0);
         write!(f, "<bdi>{name}</bdi>")
+    }
+}
+
+/// Of which kind a text is.
+#[derive(Clone, Copy, PartialEq, Eq)]
+pub(crate) enum Markup {
+    /// A part of a page.
+    Html,
+    /// Lines to be read as they are.
+    Plain,
+}
+
+/// A name in a text of either kind.
+#[derive(Clone, Copy)]
+pub(crate) struct Name<'a> {
+    pub(crate) markup: Markup,
+    pub(crate) name: &'a str,
+}
+
+impl fmt::Display for Name<'_> {
+    ghost output = { λ n. Some (name_as n.markup n.name.now) };
+
+    #[tactic(auto, unfolding(crate::specs::Phrases::name_as))]
+    fn fmt<W: fmt::Write>(&self, f: &mut fmt::Formatter<W>) -> fmt::Result {
+        match self.markup {
+            Markup::Html => Named(self.name).fmt(f),
+            Markup::Plain => f.write_str(self.name),
+        }
     }
 }
 
@@ -87,7 +115,32 @@ fn day_name(names: &str, day: u16) -> &str
     }
 }
 
-/// A day: its name, or else its number. The names are in one text, with commas between them.
+/// A day in a text of either kind: its name, or else its number. The names are in one text, with
+/// commas between them.
+#[derive(Clone, Copy)]
+struct DayAs<'n> {
+    markup: Markup,
+    names: &'n str,
+    day: u16,
+}
+
+impl fmt::Display for DayAs<'_> {
+    ghost output = { λ d. Some (day_as d.markup d.names.now d.day) };
+
+    #[tactic(auto, unfolding(crate::specs::Phrases::day_as))]
+    fn fmt<W: fmt::Write>(&self, f: &mut fmt::Formatter<W>) -> fmt::Result {
+        let name = day_name(self.names, self.day);
+        if name.is_empty() {
+            let number = u32::from(self.day) + 1;
+            write!(f, "day {number}")
+        } else {
+            let markup = self.markup;
+            Name { markup, name }.fmt(f)
+        }
+    }
+}
+
+/// A day as HTML.
 #[derive(Clone, Copy)]
 pub(crate) struct Day<'n> {
     pub(crate) names: &'n str,
@@ -99,30 +152,31 @@ impl fmt::Display for Day<'_> {
 
     #[tactic(auto, unfolding(crate::specs::Phrases::day_text))]
     fn fmt<W: fmt::Write>(&self, f: &mut fmt::Formatter<W>) -> fmt::Result {
-        let name = day_name(self.names, self.day);
-        if name.is_empty() {
-            let number = u32::from(self.day) + 1;
-            write!(f, "day {number}")
-        } else {
-            Named(name).fmt(f)
-        }
+        let day = DayAs {
+            markup: Markup::Html,
+            names: self.names,
+            day: self.day,
+        };
+        day.fmt(f)
     }
 }
 
-/// A day and a period.
+/// A day and a period in a text of either kind.
 #[derive(Clone, Copy)]
 pub(crate) struct When<'n> {
+    pub(crate) markup: Markup,
     pub(crate) names: &'n str,
     pub(crate) day: u16,
     pub(crate) period: u16,
 }
 
 impl fmt::Display for When<'_> {
-    ghost output = { λ w. Some (when w.names.now w.day w.period) };
+    ghost output = { λ w. Some (when w.markup w.names.now w.day w.period) };
 
     #[tactic(auto, unfolding(crate::specs::Phrases::when))]
     fn fmt<W: fmt::Write>(&self, f: &mut fmt::Formatter<W>) -> fmt::Result {
-        let day = Day {
+        let day = DayAs {
+            markup: self.markup,
             names: self.names,
             day: self.day,
         };

@@ -2,7 +2,7 @@
 
 ghost use Rattle.std.specs.Prelude.{◌≡◌, ◌<◌, ◌^◌, ◌++◌, OnOk, string_bytes};
 ghost use Rattle.ctt_rules.specs.Penalty.{total};
-ghost use Rattle.ctt_views.specs.Report.{answer_row, barred_row, blocked_row, cost_rows, count_row, hard_rows, report, row, total_row};
+ghost use Rattle.ctt_views.specs.Report.{answer_row, barred_row, blocked_row, cost_rows, count_row, hard_rows, report, row, shown_costs, total_row};
 
 use ctt_problem::Instance;
 use ctt_rules::{Assessment, Cost, Hard};
@@ -130,22 +130,37 @@ fn push_costs(page: &mut String, cost: &Cost) -> Result<(), AllocError>
     push_total(page, total)
 }
 
+/// Adds the lines of the costs, unless the page is plain.
+#[tactic(auto, unfolding(crate::specs::Report::shown_costs))]
+fn push_shown_costs(page: &mut String, plain: bool, cost: &Cost) -> Result<(), AllocError>
+    requires { total cost.now < 2 ^ 64 }
+    ensures { OnOk result (string_bytes page.new
+        ≡ string_bytes page.old ++ shown_costs plain cost.now) }
+{
+    if plain {
+        Ok(())
+    } else {
+        push_costs(page, cost)
+    }
+}
+
 /// Adds the report on an instance as a table.
 #[tactic(auto, unfolding(crate::specs::Report::report))]
 pub(crate) fn push_report(
     page: &mut String,
+    plain: bool,
     instance: &Instance,
     assessment: &Assessment,
 ) -> Result<(), AllocError>
     requires { total assessment.now.cost < 2 ^ 64 }
     ensures { OnOk result (string_bytes page.new
-        ≡ string_bytes page.old ++ report instance.now assessment.now.hard assessment.now.cost
-        assessment.now.lawful assessment.now.complete) }
+        ≡ string_bytes page.old ++ report plain instance.now assessment.now.hard
+        assessment.now.cost assessment.now.lawful assessment.now.complete) }
 {
-    page.push_str("<h2 id='report'>Report</h2><table>\n")?;
+    page.push_str("<details><summary><h3 id='report'>Report</h3></summary><table>\n")?;
     push_hard(page, instance, &assessment.hard)?;
-    push_costs(page, &assessment.cost)?;
+    push_shown_costs(page, plain, &assessment.cost)?;
     push_answer(page, "lawful", assessment.lawful)?;
     push_answer(page, "complete", assessment.complete)?;
-    page.push_str("</table>\n")
+    page.push_str("</table></details>\n")
 }

@@ -7,11 +7,12 @@ ghost use Rattle.ctt_problem.specs.Timetable.{Fits};
 ghost use Rattle.ctt_rules.specs.Neighbours.{is_beside};
 ghost use Rattle.ctt_rules.specs.Penalty.{unseated};
 ghost use Rattle.ctt_views.specs.Grids.{GridFits, is_of};
-ghost use Rattle.ctt_views.specs.Signs.{clashes, cost, is_alone, shares_room, sign, signs, stands_in};
+ghost use Rattle.ctt_views.specs.Signs.{clashes, cost, cost_signs, hard_signs, is_alone, seats_sign, shares_room, sign, signs, stands_in};
 ghost use Rattle.ctt_views.specs.Weeks.{WeekFits};
 
 use crate::grid::{Grid, is_of};
 use crate::phrases::Amount;
+use crate::view::View;
 use crate::week::Week;
 use ctt_problem::{Instance, Placed, SlotNo};
 use std::alloc::AllocError;
@@ -152,12 +153,64 @@ fn alone_points(instance: &Instance, week: &Week, grid: &Grid, lecture: &Placed)
     }
 }
 
-/// Adds the signs of the rules that a lecture breaks, and of what it costs.
-#[tactic(auto, unfolding(crate::specs::Signs::signs))]
-pub(crate) fn push_signs(
+/// Adds the signs of the rules that a lecture breaks. `row` has the lectures in its slot.
+#[tactic(auto, unfolding(crate::specs::Signs::hard_signs))]
+fn push_hard_signs(
+    page: &mut String,
+    instance: &Instance,
+    row: &[Placed],
+    lecture: &Placed,
+) -> Result<(), AllocError>
+    requires row { Each (Fits instance.now) row.now }
+    requires lecture { Fits instance.now lecture.now }
+    ensures { OnOk result (string_bytes page.new
+        ≡ string_bytes page.old ++ hard_signs instance.now row.now lecture.now) }
+{
+    let conflict = sign(
+        clashes(instance, row, lecture),
+        " <b>&#9650;&#160;conflict</b>",
+    );
+    let unavailable = sign(
+        instance.unavailable(lecture.course, lecture.slot),
+        " <b>&#9660;&#160;unavailable</b>",
+    );
+    let taken = sign(shares_room(row, lecture), " <b>&#9670;&#160;room taken</b>");
+    let barred = sign(
+        instance.barred(lecture.course, lecture.room),
+        " <b>&#9632;&#160;barred</b>",
+    );
+    let blocked = sign(
+        instance.blocked(lecture.room, lecture.slot),
+        " <b>&#9644;&#160;blocked</b>",
+    );
+    write!(page, "{conflict}{unavailable}{taken}{barred}{blocked}")
+}
+
+/// The sign of a room with too few seats. Displayed only if some student has none.
+#[derive(Clone, Copy)]
+struct SeatsSign(u64);
+
+impl fmt::Display for SeatsSign {
+    ghost output = { λ s. Some (seats_sign s.0) };
+
+    #[tactic(auto, unfolding(crate::specs::Signs::seats_sign))]
+    fn fmt<W: fmt::Write>(&self, f: &mut fmt::Formatter<W>) -> fmt::Result {
+        if self.0 == 0 {
+            Ok(())
+        } else {
+            let count = self.0;
+            write!(f, " <i>&#9679;&#160;{count} too few seats</i>")
+        }
+    }
+}
+
+/// Adds the signs of what a lecture costs, unless the page is plain.
+#[tactic(auto, unfolding(crate::specs::Signs::cost_signs))]
+fn push_cost_signs(
     page: &mut String,
     instance: &Instance,
     week: &Week,
+    view: &View,
     grid: &Grid,
     lecture: &Placed,
 ) -> Result<(), AllocError>
@@ -165,33 +218,35 @@ pub(crate) fn push_signs(
     requires grid { GridFits instance.now grid.now }
     requires lecture { Fits instance.now lecture.now }
     ensures { OnOk result (string_bytes page.new
-        ≡ string_bytes page.old ++ signs instance.now week.now grid.now lecture.now) }
+        ≡ string_bytes page.old ++ cost_signs instance.now week.now view.now grid.now lecture.now) }
 {
-    let row = week.row(instance, lecture.slot);
-    let conflict = sign(clashes(instance, row, lecture), " <b>&#9650; conflict</b>");
-    let unavailable = sign(
-        instance.unavailable(lecture.course, lecture.slot),
-        " <b>&#9660; unavailable</b>",
-    );
-    let taken = sign(shares_room(row, lecture), " <b>&#9670; room taken</b>");
-    let barred = sign(
-        instance.barred(lecture.course, lecture.room),
-        " <b>&#9632; barred</b>",
-    );
-    let blocked = sign(
-        instance.blocked(lecture.room, lecture.slot),
-        " <b>&#9644; blocked</b>",
-    );
-    let small = CostSign {
-        points: unseated(instance, lecture),
-        text: "&#9679; too small",
-    };
+    if view.plain {
+        return Ok(());
+    }
+    let seats = SeatsSign(unseated(instance, lecture));
     let alone = CostSign {
         points: alone_points(instance, week, grid, lecture),
-        text: "&#9675; alone",
+        text: "&#9675;&#160;alone",
     };
-    write!(
-        page,
-        "{conflict}{unavailable}{taken}{barred}{blocked}{small}{alone}"
-    )
+    write!(page, "{seats}{alone}")
+}
+
+/// Adds the signs of the rules that a lecture breaks, and of what it costs.
+#[tactic(auto, unfolding(crate::specs::Signs::signs))]
+pub(crate) fn push_signs(
+    page: &mut String,
+    instance: &Instance,
+    week: &Week,
+    view: &View,
+    grid: &Grid,
+    lecture: &Placed,
+) -> Result<(), AllocError>
+    requires week { WeekFits instance.now week.now }
+    requires grid { GridFits instance.now grid.now }
+    requires lecture { Fits instance.now lecture.now }
+    ensures { OnOk result (string_bytes page.new
+        ≡ string_bytes page.old ++ signs instance.now week.now view.now grid.now lecture.now) }
+{
+    push_hard_signs(page, instance, week.row(instance, lecture.slot), lecture)?;
+    push_cost_signs(page, instance, week, view, grid, lecture)
 }

@@ -1,17 +1,23 @@
 -- What is found for arguments: all texts of a required one, at least one; for an option without a
 -- value, whether it is given.
 use Rattle.std.proofs.Common.{◌≡◌, ◌≤◌, ◌∙◌, ◌+◌, ◌⊎◌, inl, inr, ⊎_elim, ℕ, Bool, Bor, true, false, List, [], ◌∷◌, Option, Some, None, IsSome, refl, sym, ap, subst, length, map, arith, option_map, is_some, string_bytes, codes}
-use Rattle.std.specs.Prelude.{option_and_then, slice_get, find}
+use Rattle.std.specs.Prelude.{IsSomeAnd, option_and_then, slice_get, find}
 use Rattle.std.specs.Global.{Global}
 use Rattle.std.specs.Str.{bytes_eq}
 use Rattle.std.specs.declared.string.String.{String}
 use Rattle.std.proofs.lemmas.List.{length-map}
 use Rattle.clap.specs.Words.{Row, Text, all_of, first_of, subcommand_of}
-use Rattle.ctt_clap.specs.Flags.{IsOnOrOff}
+use Rattle.ctt_words.specs.Flags.{IsOnOrOff}
 use Rattle.ctt_words.specs.CommandLine.{is_on, timedesk}
-use Rattle.ctt_words.specs.Jobs.{HasAll, HasScripts, IsJobIn, IsJobOf, IsJobBy, count_given}
+use Rattle.ctt_words.specs.Outlines.{named}
+use Rattle.ctt_words.specs.Jobs.{HasInputs, HasScripts, IsAskedBy, IsAskedIn, IsAskedOf, IsCommandBy, IsJobBy}
+use Rattle.ctt_words.specs.Matched.{HasAll, count_given}
+use Rattle.ctt_words.specs.declared.job.Asked.{Asked}
+use Rattle.ctt_words.specs.declared.job.Command.{Command}
+use Rattle.ctt_words.specs.declared.job.Command.TheVariants.{Audit, Check, Compare, Crew, Journal, List as Listing, Mend, Page, Pairs, Week, Where}
 use Rattle.ctt_words.specs.declared.job.Job.{Job}
-use Rattle.ctt_words.specs.declared.job.Job.TheVariants.{Audit, Check, Compare, Crew, Desk, Journal, List as Listing, Mend, Page, Run, Week, Where}
+use Rattle.ctt_words.specs.declared.job.Job.TheVariants.{Answer, Desk, Run}
+use Rattle.ctt_words.specs.declared.outline.Name.{Name}
 
 given_here : (o : Option Row) → is_some (option_and_then (λ (r : Row). slice_get r.values 0) o) ≡ true → is_some (option_map (λ (r : Row). r.values) o) ≡ true
 given_here None first = first
@@ -54,23 +60,31 @@ count_more None None others left before after all same more (inl (some, counted)
 count_more None None others left before after all same more (inr (none, counted)) was = omega (arith, counted, was, ap count_given more)
 
 -- a job that words ask for has the scripts or seats that it needs
-pub job_has_scripts : (words : List Text) (job : Job) → IsJobOf words job → HasScripts job
-job_has_scripts words job is = in_matched (subcommand_of timedesk words) job is
+pub job_has_scripts : (words : List Text) (asked : Asked) → IsAskedOf words asked → HasScripts asked.job
+job_has_scripts words asked is = in_matched (subcommand_of timedesk words) asked is
   where
-    by_name : (name : Text) (rows : List Row) (job : Job) → IsJobBy name rows job → HasScripts job
-    by_name name rows (Compare instance sides solutions csv json strict) is = is.2.1
-    by_name name rows (Crew instance sides scripts) is = is.2.1
-    by_name name rows (Desk instance sides seats start minutes) is = is.2.1
-    by_name name rows (Check instance sides solution json named explain strict) is = tt
-    by_name name rows (Week instance sides solution whose) is = tt
-    by_name name rows (Page instance sides solution days) is = tt
-    by_name name rows (Run instance sides script start journal) is = tt
-    by_name name rows (Audit instance sides journal start) is = tt
-    by_name name rows (Journal instance sides minutes) is = tt
-    by_name name rows (Listing instance sides journal start) is = tt
-    by_name name rows (Mend instance sides solution) is = tt
-    by_name name rows (Where file word) is = tt
+    of_command : (name : Name) (rows : List Row) (command : Command) → IsCommandBy name rows command → HasInputs command
+    of_command name rows (Compare instance sides solutions options) is = is.2.1
+    of_command name rows (Crew instance sides scripts) is = is.2.1
+    of_command name rows (Check files options) is = tt
+    of_command name rows (Pairs pairs options) is = tt
+    of_command name rows (Week files whose) is = tt
+    of_command name rows (Page files whose asked) is = tt
+    of_command name rows (Audit files) is = tt
+    of_command name rows (Journal instance sides minutes) is = tt
+    of_command name rows (Listing files) is = tt
+    of_command name rows (Mend files) is = tt
+    of_command name rows (Where file number byte) is = tt
 
-    in_matched : (matched : Option (Text × List Row)) (job : Job) → IsJobIn matched job → HasScripts job
-    in_matched None job is = absurd is
-    in_matched (Some (name, rows)) job is = by_name name rows job is
+    by_name : (name : Name) (rows : List Row) (job : Job) → IsJobBy name rows job → HasScripts job
+    by_name name rows (Answer command) is = of_command name rows command is
+    by_name name rows (Run instance sides script start journal) is = tt
+    by_name name rows (Desk instance sides seats start minutes) is = is.2.1
+
+    known : (o : Option Name) (rows : List Row) (asked : Asked) → IsSomeAnd o (λ name. IsAskedBy name rows asked) → HasScripts asked.job
+    known None rows asked is = absurd is
+    known (Some name) rows asked is = by_name name rows asked.job is.job
+
+    in_matched : (matched : Option (Text × List Row)) (asked : Asked) → IsAskedIn matched asked → HasScripts asked.job
+    in_matched None asked is = absurd is
+    in_matched (Some (name, rows)) asked is = known (named name) rows asked is

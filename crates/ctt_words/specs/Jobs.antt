@@ -1,112 +1,39 @@
 -- Which job the words of a command line ask for, and which fault they have if they ask for none.
-use Rattle.std.specs.Prelude.{◌≡◌, ◌≢◌, ◌≤◌, ◌<◌, ◌⊎◌, ℕ, suc, Bool, List, [], ◌∷◌, Option, Some, None, IsSome, codes, length, map, option_map}
+use Rattle.std.specs.Prelude.{◌≡◌, ◌≢◌, ◌≤◌, ◌⊎◌, List, [], Option, Some, None, IsSomeAnd, codes, length, option_and_then}
 use Rattle.std.specs.Global.{Global}
 use Rattle.std.specs.String.{string_bytes}
 use Rattle.std.specs.declared.string.String.{String}
-use Rattle.clap.specs.Words.{IsAmong, Kinds, Row, Text, all_of, fault_of, first_of, one_of, subcommand_of}
+use Rattle.clap.specs.Words.{IsAmong, Kinds, Row, Text, fault_of, first_of, subcommand_of}
 use Rattle.clap.specs.declared.error.kind.ErrorKind.{ErrorKind}
 use Rattle.clap.specs.declared.error.kind.ErrorKind.TheVariants.{DisplayHelp, DisplayVersion, OutOfMemory}
-use Rattle.ctt_clap.specs.Flags.{IsOnOrOff}
 use Rattle.ctt_files.specs.declared.sides.Sides.{Sides}
-use Rattle.ctt_words.specs.CommandLine.{is_on, timedesk}
+use Rattle.ctt_words.specs.CommandLine.{timedesk}
+use Rattle.ctt_words.specs.Matched.{Has, HasAll, IsSet, IsWhole, MayHave, choices, choices_of}
+use Rattle.ctt_words.specs.Needs.{grids_of, refusal_of}
 use Rattle.ctt_words.specs.Outlines.{named}
+use Rattle.ctt_words.specs.declared.job.Asked.{Asked}
+use Rattle.ctt_words.specs.declared.job.CheckOptions.{CheckOptions}
+use Rattle.ctt_words.specs.declared.job.Command.{Command}
+use Rattle.ctt_words.specs.declared.job.Command.TheVariants.{Audit, Check, Compare, Crew, Journal, List as Listing, Mend, Page, Pairs, Week, Where}
+use Rattle.ctt_words.specs.declared.job.CompareOptions.{CompareOptions}
 use Rattle.ctt_words.specs.declared.job.Job.{Job}
-use Rattle.ctt_words.specs.declared.job.Job.TheVariants.{Audit, Check, Compare, Crew, Desk, Journal, List as Listing, Mend, Page, Run, Week, Where}
-use Rattle.ctt_words.specs.declared.job.Whose.{Whose}
-use Rattle.ctt_words.specs.declared.job.Whose.TheVariants.{Course, Curriculum, Room, Teacher}
+use Rattle.ctt_words.specs.declared.job.Job.TheVariants.{Answer, Desk, Run}
+use Rattle.ctt_words.specs.declared.job.PageWords.{PageWords}
+use Rattle.ctt_words.specs.declared.job.ReplayFiles.{ReplayFiles}
+use Rattle.ctt_words.specs.declared.job.SubjectFiles.{SubjectFiles}
 use Rattle.ctt_words.specs.declared.job.WordsFault.{WordsFault}
 use Rattle.ctt_words.specs.declared.job.WordsFault.TheVariants.{Help, NoMemory, Refused}
 use Rattle.ctt_words.specs.declared.outline.Name.{Name}
 use Rattle.ctt_words.specs.declared.outline.Name.TheVariants as by
 
--- ---- what the matches of a command contain
+-- a command of the program is matched, and P holds of it and of its matches
+abbrev pub OfMatched : (Name → List Row → Type 0) → Option (Text × List Row) → Type 0
+OfMatched P None = ⊥
+OfMatched P (Some (name, rows)) = IsSomeAnd (named name) (λ command. P command rows)
 
--- the text is the first that is given for the argument of this name
-abbrev pub Has : List Row → Text → String Global → Type 0
-Has rows id text = first_of id rows ≡ Some (string_bytes text)
-
--- the text is the one that is given for the option, or none if none is
-abbrev pub MayHave : List Row → Text → Option (String Global) → Type 0
-MayHave rows id text = first_of id rows ≡ option_map string_bytes text
-
--- the texts are all that are given for the argument, at least one
-abbrev pub HasAll : List Row → Text → List (String Global) → Type 0
-HasAll rows id texts = (all_of id rows ≡ Some (map string_bytes texts)) × (1 ≤ length texts)
-
--- `set` says whether the option is given
-abbrev pub IsSet : List Row → Text → Bool → Type 0
-IsSet rows id set = set ≡ is_on (one_of id rows)
-
--- what is given for each option that says whose week to print
-abbrev pub choices : List Row → List (Option Text)
-choices rows = first_of (codes "curriculum") rows ∷ first_of (codes "teacher") rows ∷ first_of (codes "course") rows ∷ first_of (codes "room") rows ∷ []
-
--- what these options give to ask for this week: one name, or none for the week of all rooms
-abbrev pub choices_of : Option Whose → List (Option Text)
-choices_of None = None ∷ None ∷ None ∷ None ∷ []
-choices_of (Some (Curriculum name)) = Some (string_bytes name) ∷ None ∷ None ∷ None ∷ []
-choices_of (Some (Teacher name)) = None ∷ Some (string_bytes name) ∷ None ∷ None ∷ []
-choices_of (Some (Course name)) = None ∷ None ∷ Some (string_bytes name) ∷ None ∷ []
-choices_of (Some (Room name)) = None ∷ None ∷ None ∷ Some (string_bytes name) ∷ []
-
--- how many of the options are given
-abbrev pub count_given : List (Option Text) → ℕ
-count_given [] = 0
-count_given (None ∷ others) = count_given others
-count_given (Some text ∷ others) = suc (count_given others)
-
--- ---- what a command needs
-
--- the argument that the command requires besides the instance
-abbrev pub wanted_by : Name → Text
-wanted_by by.Check = codes "solution"
-wanted_by by.Compare = codes "solution"
-wanted_by by.Week = codes "solution"
-wanted_by by.Page = codes "solution"
-wanted_by by.Run = codes "script"
-wanted_by by.Audit = codes "journal"
-wanted_by by.Crew = codes "script"
-wanted_by by.Desk = codes "seat"
-wanted_by by.Journal = codes "minutes"
-wanted_by by.List = codes "journal"
-wanted_by by.Mend = codes "solution"
-wanted_by by.Where = codes "word"
-
--- the matches contain the instance and this argument
-pub record HasFiles (id : Text) (rows : List Row) : Type 0 where
-  pub instance : IsSome (first_of (codes "instance") rows)
-  pub other : IsSome (first_of id rows)
-
--- the matches of `check` say whether each of its options without a value is given
-pub record HasCheckFlags (rows : List Row) : Type 0 where
-  pub json : IsOnOrOff (one_of (codes "json") rows)
-  pub name : IsOnOrOff (one_of (codes "name") rows)
-  pub explain : IsOnOrOff (one_of (codes "explain") rows)
-  pub strict : IsOnOrOff (one_of (codes "strict") rows)
-
--- the same for `compare`
-pub record HasCompareFlags (rows : List Row) : Type 0 where
-  pub csv : IsOnOrOff (one_of (codes "csv") rows)
-  pub json : IsOnOrOff (one_of (codes "json") rows)
-  pub strict : IsOnOrOff (one_of (codes "strict") rows)
-
--- the same for these two; other commands have no such options
-abbrev pub HasFlagsOf : Name → List Row → Type 0
-HasFlagsOf by.Check rows = HasCheckFlags rows
-HasFlagsOf by.Compare rows = HasCompareFlags rows
-HasFlagsOf _ rows = Unit {0}
-
--- the matches of the command of this name contain what it needs
-pub record IsWhole (name : Text) (rows : List Row) : Type 0 where
-  pub command : Name
-  pub is_known : named name ≡ Some command
-  pub files : HasFiles (wanted_by command) rows
-  pub flags : HasFlagsOf command rows
-
--- a command is matched, with what it needs
+-- a command is matched, with what it requires
 abbrev pub IsMatched : Option (Text × List Row) → Type 0
-IsMatched None = ⊥
-IsMatched (Some (name, rows)) = IsWhole name rows
+IsMatched matched = OfMatched IsWhole matched
 
 -- ---- the job
 
@@ -118,45 +45,87 @@ HasSides rows sides = MayHave rows (codes "barred") sides.barred × MayHave rows
 abbrev pub HasInstance : List Row → String Global → Sides → Type 0
 HasInstance rows instance sides = Has rows (codes "instance") instance × HasSides rows sides
 
+-- these files of a solution are given
+abbrev pub HasSubject : List Row → SubjectFiles → Type 0
+HasSubject rows files = HasInstance rows files.instance files.sides × Has rows (codes "solution") files.solution
+
+-- these files of a journal are given
+abbrev pub HasReplay : List Row → ReplayFiles → Type 0
+HasReplay rows files = HasInstance rows files.instance files.sides × Has rows (codes "journal") files.journal × MayHave rows (codes "start") files.start
+
+-- this is asked of a check
+pub record AsksCheck (rows : List Row) (options : CheckOptions) : Type 0 where
+  pub json : IsSet rows (codes "json") options.json
+  pub name : IsSet rows (codes "name") options.name
+  pub csv : IsSet rows (codes "csv") options.csv
+  pub explain : IsSet rows (codes "explain") options.explain
+  pub sentences : IsSet rows (codes "sentences") options.sentences
+  pub strict : IsSet rows (codes "strict") options.strict
+
+-- this is asked of a comparison
+pub record AsksCompare (rows : List Row) (options : CompareOptions) : Type 0 where
+  pub csv : IsSet rows (codes "csv") options.csv
+  pub json : IsSet rows (codes "json") options.json
+  pub sort : IsSet rows (codes "sort") options.sort
+  pub faults : IsSet rows (codes "faults") options.faults
+  pub strict : IsSet rows (codes "strict") options.strict
+  pub point : IsSet rows (codes "point") options.point
+
+-- this is asked of a page besides whose week it has
+pub record AsksPage (rows : List Row) (words : PageWords) : Type 0 where
+  pub days : MayHave rows (codes "days") words.days
+  pub plain : IsSet rows (codes "plain") words.plain
+  pub grids : words.grids ≡ option_and_then grids_of (first_of (codes "grids") rows)
+
+-- the command is the one of this name, with these matches
+abbrev pub IsCommandBy : Name → List Row → Command → Type 0
+IsCommandBy name rows (Check files options) = (name ≡ by.Check) × HasSubject rows files × AsksCheck rows options
+IsCommandBy name rows (Compare instance sides solutions options) = (name ≡ by.Compare) × HasInstance rows instance sides
+    × HasAll rows (codes "solution") solutions.items × AsksCompare rows options
+IsCommandBy name rows (Pairs pairs options) = (name ≡ by.Compare) × Has rows (codes "pairs") pairs × AsksCompare rows options
+IsCommandBy name rows (Week files whose) = (name ≡ by.Week) × HasSubject rows files × (choices rows ≡ choices_of whose)
+IsCommandBy name rows (Page files whose words) = (name ≡ by.Page) × HasSubject rows files × (choices rows ≡ choices_of whose) × AsksPage rows words
+IsCommandBy name rows (Audit files) = (name ≡ by.Audit) × HasReplay rows files
+IsCommandBy name rows (Crew instance sides scripts) = (name ≡ by.Crew) × HasInstance rows instance sides × HasAll rows (codes "script") scripts.items
+IsCommandBy name rows (Journal instance sides minutes) = (name ≡ by.Journal) × HasInstance rows instance sides × Has rows (codes "minutes") minutes
+IsCommandBy name rows (Listing files) = (name ≡ by.List) × HasReplay rows files
+IsCommandBy name rows (Mend files) = (name ≡ by.Mend) × HasSubject rows files
+IsCommandBy name rows (Where file number byte) = (name ≡ by.Where) × Has rows (codes "instance") file × Has rows (codes "number") number
+    × IsSet rows (codes "byte") byte
+
 -- the job is that of the command of this name, with these matches
-abbrev pub IsJobBy : Text → List Row → Job → Type 0
-IsJobBy name rows (Check instance sides solution json named explain strict) = (name ≡ codes "check") × HasInstance rows instance sides
-    × Has rows (codes "solution") solution × IsSet rows (codes "json") json × IsSet rows (codes "name") named
-    × IsSet rows (codes "explain") explain × IsSet rows (codes "strict") strict
-IsJobBy name rows (Compare instance sides solutions csv json strict) = (name ≡ codes "compare") × HasInstance rows instance sides
-    × HasAll rows (codes "solution") solutions.items × IsSet rows (codes "csv") csv × IsSet rows (codes "json") json × IsSet rows (codes "strict") strict
-IsJobBy name rows (Week instance sides solution whose) = (name ≡ codes "week") × HasInstance rows instance sides
-    × Has rows (codes "solution") solution × (choices rows ≡ choices_of whose)
-IsJobBy name rows (Page instance sides solution days) = (name ≡ codes "page") × HasInstance rows instance sides
-    × Has rows (codes "solution") solution × MayHave rows (codes "days") days
-IsJobBy name rows (Run instance sides script start journal) = (name ≡ codes "run") × HasInstance rows instance sides
+abbrev pub IsJobBy : Name → List Row → Job → Type 0
+IsJobBy name rows (Answer command) = IsCommandBy name rows command
+IsJobBy name rows (Run instance sides script start journal) = (name ≡ by.Run) × HasInstance rows instance sides
     × Has rows (codes "script") script × MayHave rows (codes "start") start × MayHave rows (codes "journal") journal
-IsJobBy name rows (Audit instance sides journal start) = (name ≡ codes "audit") × HasInstance rows instance sides
-    × Has rows (codes "journal") journal × MayHave rows (codes "start") start
-IsJobBy name rows (Crew instance sides scripts) = (name ≡ codes "crew") × HasInstance rows instance sides × HasAll rows (codes "script") scripts.items
-IsJobBy name rows (Desk instance sides seats start minutes) = (name ≡ codes "desk") × HasInstance rows instance sides
+IsJobBy name rows (Desk instance sides seats start minutes) = (name ≡ by.Desk) × HasInstance rows instance sides
     × HasAll rows (codes "seat") seats.items × MayHave rows (codes "start") start × MayHave rows (codes "minutes") minutes
-IsJobBy name rows (Journal instance sides minutes) = (name ≡ codes "journal") × HasInstance rows instance sides × Has rows (codes "minutes") minutes
-IsJobBy name rows (Listing instance sides journal start) = (name ≡ codes "list") × HasInstance rows instance sides
-    × Has rows (codes "journal") journal × MayHave rows (codes "start") start
-IsJobBy name rows (Mend instance sides solution) = (name ≡ codes "mend") × HasInstance rows instance sides × Has rows (codes "solution") solution
-IsJobBy name rows (Where file word) = (name ≡ codes "where") × Has rows (codes "instance") file × Has rows (codes "word") word
 
--- the job is that of the command that was matched
-abbrev pub IsJobIn : Option (Text × List Row) → Job → Type 0
-IsJobIn None job = ⊥
-IsJobIn (Some (name, rows)) job = IsJobBy name rows job
+-- nothing is wrong with the matches of this command, and this is what they ask for
+pub record IsAskedBy (name : Name) (rows : List Row) (asked : Asked) : Type 0 where
+  pub accepted : refusal_of name rows ≡ None
+  pub job : IsJobBy name rows asked.job
+  pub point : IsSet rows (codes "point") asked.point
 
--- the job is that of the command that `clap` finds in the words, with its matches
-abbrev pub IsJobOf : List Text → Job → Type 0
-IsJobOf words job = IsJobIn (subcommand_of timedesk words) job
+-- the command that was matched asks for this
+abbrev pub IsAskedIn : Option (Text × List Row) → Asked → Type 0
+IsAskedIn matched asked = OfMatched (λ name rows. IsAskedBy name rows asked) matched
 
--- a comparison has at least one solution, a crew at least one script, and a desk at least one seat
+-- the command that `clap` finds in the words asks for this
+abbrev pub IsAskedOf : List Text → Asked → Type 0
+IsAskedOf words asked = IsAskedIn (subcommand_of timedesk words) asked
+
+-- a comparison has at least one solution, and a crew at least one script
+abbrev pub HasInputs : Command → Type 0
+HasInputs (Compare instance sides solutions options) = 1 ≤ length solutions.items
+HasInputs (Crew instance sides scripts) = 1 ≤ length scripts.items
+HasInputs command = Unit {0}
+
+-- the same, and a desk has at least one seat
 abbrev pub HasScripts : Job → Type 0
-HasScripts (Compare instance sides solutions csv json strict) = 1 ≤ length solutions.items
-HasScripts (Crew instance sides scripts) = 1 ≤ length scripts.items
+HasScripts (Answer command) = HasInputs command
+HasScripts (Run instance sides script start journal) = Unit {0}
 HasScripts (Desk instance sides seats start minutes) = 1 ≤ length seats.items
-HasScripts job = Unit {0}
 
 -- ---- words that ask for no job
 
@@ -182,42 +151,33 @@ IsRequest kinds = IsAmong DisplayHelp kinds ⊎ IsAmong DisplayVersion kinds
 abbrev pub IsRefusal : Kinds → Type 0
 IsRefusal kinds = (kind : ErrorKind) × IsAmong kind kinds × (kind ≢ DisplayHelp) × (kind ≢ DisplayVersion)
 
--- the command is `week`, and more than one option says whose week to print
-abbrev pub WantsSeveral : Text → List Row → Type 0
-WantsSeveral name rows = (name ≡ codes "week") × (1 < count_given (choices rows))
+-- the matches of a command are refused with this message
+abbrev pub IsRefusedIn : Text → Option (Text × List Row) → Type 0
+IsRefusedIn said matched = OfMatched (λ name rows. refusal_of name rows ≡ Some said) matched
 
--- the same of the command that is matched
-abbrev pub WantsSeveralIn : Option (Text × List Row) → Type 0
-WantsSeveralIn None = ⊥
-WantsSeveralIn (Some (name, rows)) = WantsSeveral name rows
-
--- `clap` accepts the words, and more than one option says whose week to print
-abbrev pub AsksForSeveral : List Text → Type 0
-AsksForSeveral words = (faults_of words ≡ []) × WantsSeveralIn (subcommand_of timedesk words)
-
--- the message for such words
-abbrev pub several_said : Text
-several_said = codes "timedesk: at most one of --curriculum, --teacher, --course, --room\n"
+-- `clap` accepts the words, and they are refused with this message
+abbrev pub IsRefusedOf : Text → List Text → Type 0
+IsRefusedOf said words = (faults_of words ≡ []) × IsRefusedIn said (subcommand_of timedesk words)
 
 -- the fault has this message, or memory ran out
-abbrev pub SaysSeveral : WordsFault → Type 0
-SaysSeveral (Help text) = ⊥
-SaysSeveral (Refused text) = string_bytes text ≡ several_said
-SaysSeveral NoMemory = Unit {0}
+abbrev pub Says : Text → WordsFault → Type 0
+Says said (Help text) = ⊥
+Says said (Refused text) = string_bytes text ≡ said
+Says said NoMemory = Unit {0}
 
--- the matches give no job: more than one option says whose week to print, or memory ran out
+-- the matches of this command ask for no job: they are refused, or memory ran out
+abbrev pub IsRefusedBy : Name → List Row → WordsFault → Type 0
+IsRefusedBy name rows (Help text) = ⊥
+IsRefusedBy name rows (Refused text) = refusal_of name rows ≡ Some (string_bytes text)
+IsRefusedBy name rows NoMemory = Unit {0}
+
+-- the same of the command that was matched
 abbrev pub IsNoJobIn : Option (Text × List Row) → WordsFault → Type 0
-IsNoJobIn matched (Help text) = ⊥
-IsNoJobIn matched (Refused text) = WantsSeveralIn matched × (string_bytes text ≡ several_said)
-IsNoJobIn matched NoMemory = Unit {0}
+IsNoJobIn matched fault = OfMatched (λ name rows. IsRefusedBy name rows fault) matched
 
--- the words are refused: `clap` finds a fault other than a request for help or the version, or more
--- than one option says whose week to print
-abbrev pub AreRefused : List Text → Type 0
-AreRefused words = IsRefusal (faults_of words) ⊎ AsksForSeveral words
-
--- a fault that the words may have: a request for help or the version, a refusal, or out of memory
+-- a fault that the words may have: a request for help or the version, a refusal by `clap` or by the
+-- program, or out of memory
 abbrev pub IsFaultOf : List Text → WordsFault → Type 0
 IsFaultOf words (Help text) = IsRequest (faults_of words)
-IsFaultOf words (Refused text) = IsRefusal (faults_of words) ⊎ (AsksForSeveral words × (string_bytes text ≡ several_said))
+IsFaultOf words (Refused text) = IsRefusal (faults_of words) ⊎ IsRefusedOf (string_bytes text) words
 IsFaultOf words NoMemory = Unit {0}

@@ -1,10 +1,10 @@
 -- The `clap` commands that the tables describe, and the names of the commands.
-use Rattle.std.specs.Prelude.{List, [], ◌∷◌, Option, codes, find, map, option_map}
+use Rattle.std.specs.Prelude.{List, [], ◌∷◌, Option, Some, None, codes, find, map, option_map}
 use Rattle.std.specs.Str.{bytes_eq}
 use Rattle.clap.specs.Words.{App, Rule, Text}
-use Rattle.ctt_words.specs.CommandLine.{command_of, flag, required_word, required_words, valued}
+use Rattle.ctt_words.specs.CommandLine.{command_of, flag, optional_word, optional_words, required_word, required_words, valued}
 use Rattle.ctt_words.specs.declared.outline.Argument.{Argument}
-use Rattle.ctt_words.specs.declared.outline.Argument.TheVariants.{Flag, Valued, Word, Words}
+use Rattle.ctt_words.specs.declared.outline.Argument.TheVariants.{Flag, Optional, Optionals, Valued, Word, Words}
 use Rattle.ctt_words.specs.declared.outline.Name.{Name}
 use Rattle.ctt_words.specs.declared.outline.Name.TheVariants.{Audit, Check, Compare, Crew, Desk, Journal, List as Listing, Mend, Page, Run, Week, Where}
 use Rattle.ctt_words.specs.declared.outline.Outline.{Outline}
@@ -13,6 +13,8 @@ use Rattle.ctt_words.specs.declared.outline.Outline.{Outline}
 abbrev pub rule_by : Argument → Rule
 rule_by (Word id name help) = required_word id.now
 rule_by (Words id name help) = required_words id.now
+rule_by (Optional id name help) = optional_word id.now
+rule_by (Optionals id name help) = optional_words id.now
 rule_by (Flag id help) = flag id.now
 rule_by (Valued id name help) = valued id.now
 
@@ -47,10 +49,18 @@ names_by outline = (outline.name.now, outline.command)
 abbrev pub named_in : List (Text × Name) → Text → Option Name
 named_in known name = option_map (λ (one : Text × Name). one.1) (find (λ (one : Text × Name). bytes_eq one.0 name) known)
 
--- all commands, in the order of the help
-abbrev pub commands : List Name
-commands = Check ∷ Compare ∷ Week ∷ Page ∷ Run ∷ Audit ∷ Crew ∷ Desk ∷ Journal ∷ Listing ∷ Mend ∷ Where ∷ []
+-- the first command, or else the second
+abbrev pub or_named : Option Name → Option Name → Option Name
+or_named (Some command) other = Some command
+or_named None other = other
+
+-- the commands on solutions, and then the others, in the order of the help
+abbrev pub solution_commands : List Name
+solution_commands = Check ∷ Compare ∷ Week ∷ Page ∷ []
+
+abbrev pub desk_commands : List Name
+desk_commands = Run ∷ Audit ∷ Crew ∷ Desk ∷ Journal ∷ Listing ∷ Mend ∷ Where ∷ []
 
 -- the command of this name
 abbrev pub named : Text → Option Name
-named name = named_in (map with_name commands) name
+named name = or_named (named_in (map with_name solution_commands) name) (named_in (map with_name desk_commands) name)

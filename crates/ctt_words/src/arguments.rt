@@ -1,19 +1,34 @@
 //! The values that `clap` found for the arguments of a command.
 
-ghost use Rattle.std.specs.Prelude.{◌≡◌, map, IfOk, IsSome};
-ghost use Rattle.clap.specs.Words.{first_of, found_of, one_of, rows_of};
-ghost use Rattle.ctt_clap.specs.Flags.{IsOnOrOff};
-ghost use Rattle.ctt_words.specs.Jobs.{Has, HasAll, IsSet, MayHave, count_given};
+ghost use Rattle.std.specs.Prelude.{◌≡◌, map, option_map, IfOk, IsSome};
+ghost use Rattle.clap.specs.Words.{all_of, first_of, found_of, one_of, rows_of};
+ghost use Rattle.ctt_words.specs.Flags.{IsOnOrOff};
+ghost use Rattle.ctt_words.specs.Matched.{Has, HasAll, IsSet, MayHave, count_given};
 
 use clap::ArgMatches;
 use std::alloc::{AllocError, Global};
+
+/// Returns the text of an argument, if it is given.
+pub(crate) fn given_text<'a>(given: &ArgMatches<'a>, id: &str) -> Option<&'a str>
+    ensures { option_map (λ text. text.now) result ≡ first_of id.now (rows_of (found_of given.now)) }
+{
+    given.get_str(id)
+}
+
+/// Returns the texts of an argument, if it is given.
+pub(crate) fn given_texts<'m, 'a>(given: &'m ArgMatches<'a>, id: &str) -> Option<&'m [&'a str]>
+    ensures { option_map (λ texts. map (λ text. text.now) texts.now) result
+        ≡ all_of id.now (rows_of (found_of given.now)) }
+{
+    given.get_strs(id)
+}
 
 /// Copies the text of an argument that is given.
 pub(crate) fn text(alloc: Global, given: &ArgMatches<'_>, id: &str) -> Result<String, AllocError>
     requires { IsSome (first_of id.now (rows_of (found_of given.now))) }
     ensures { IfOk result (λ text. Has (rows_of (found_of given.now)) id.now text) }
 {
-    String::from_str(alloc, given.get_str(id).unwrap())
+    String::from_str(alloc, given_text(given, id).unwrap())
 }
 
 /// Copies the text of an option, if it is given.
@@ -24,7 +39,7 @@ pub(crate) fn option(
 ) -> Result<Option<String>, AllocError>
     ensures { IfOk result (λ text. MayHave (rows_of (found_of given.now)) id.now text) }
 {
-    match given.get_str(id) {
+    match given_text(given, id) {
         Some(text) => Ok(Some(String::from_str(alloc, text)?)),
         None => Ok(None),
     }
@@ -39,7 +54,7 @@ pub(crate) fn texts(
     requires { IsSome (first_of id.now (rows_of (found_of given.now))) }
     ensures { IfOk result (λ texts. HasAll (rows_of (found_of given.now)) id.now texts.items) }
 {
-    let found = given.get_strs(id).unwrap();
+    let found = given_texts(given, id).unwrap();
     let mut owned = Vec::with_capacity(alloc, found.len())?;
     for text in found {
         owned.push(String::from_str(alloc, text)?)?;
@@ -62,7 +77,7 @@ pub(crate) fn count(given: &ArgMatches<'_>, ids: &[&str]) -> usize
 {
     let mut count = 0;
     for id in ids {
-        if given.get_str(id).is_some() {
+        if given_text(given, id).is_some() {
             count += 1;
         }
     }

@@ -1,8 +1,8 @@
 //! The commands of the program.
 
-ghost use Rattle.std.specs.Prelude.{◌≡◌, map, IfOk, IfSome};
-ghost use Rattle.ctt_words.specs.CommandLine.{IsCommand, apps, timedesk};
-ghost use Rattle.ctt_words.specs.Outlines.{app_by, commands, name_of, named, names_by, with_name};
+ghost use Rattle.std.specs.Prelude.{◌≡◌, map, IfOk};
+ghost use Rattle.ctt_words.specs.CommandLine.{IsCommand, desk_apps, solution_apps, timedesk};
+ghost use Rattle.ctt_words.specs.Outlines.{app_by, desk_commands, named, names_by, solution_commands, with_name};
 
 use crate::outline::{Argument, Name, Outline, find, with_commands};
 use clap::Command;
@@ -32,7 +32,29 @@ const START: Argument = Argument::Valued(
     "The file of the opening timetable; without it the desk opens empty",
 );
 
-const COMMANDS: &[Outline] = &[
+const CURRICULUM: Argument = Argument::Valued(
+    "curriculum",
+    "NAME",
+    "The week of this curriculum alone",
+);
+
+const TEACHER: Argument = Argument::Valued("teacher", "NAME", "The week of this teacher alone");
+
+const COURSE: Argument = Argument::Valued(
+    "course",
+    "NAME",
+    "The week of this course alone; - marks a slot in which it is unavailable, ! a lecture there",
+);
+
+const ROOM: Argument = Argument::Valued("room", "NAME", "The week of this room alone");
+
+const POINT: Argument = Argument::Flag(
+    "point",
+    "Print after the line of a fault where it is in its file, and what was expected there",
+);
+
+/// The commands on solutions.
+const SOLUTION_COMMANDS: &[Outline] = &[
     Outline {
         command: Name::Check,
         name: "check",
@@ -57,18 +79,21 @@ Example: timedesk check comp07.ctt comp07.sol --explain",
             BARRED,
             BLOCKED,
             Argument::Flag("json", "Print the report as JSON"),
-            Argument::Flag(
-                "name",
-                "Begin the JSON with the name of the solution's file",
-            ),
+            Argument::Flag("name", "Add the name of the solution's file to the JSON"),
+            Argument::Flag("csv", "Print the report as CSV"),
             Argument::Flag(
                 "explain",
                 "Print after the report each thing that breaks a rule or costs points",
             ),
             Argument::Flag(
+                "sentences",
+                "Print after the report each of these things as a sentence",
+            ),
+            Argument::Flag(
                 "strict",
                 "End with status 4 if the solution is not lawful, 5 if it is lawful but not complete",
             ),
+            POINT,
         ],
     },
     Outline {
@@ -77,16 +102,30 @@ Example: timedesk check comp07.ctt comp07.sol --explain",
         about: "Print a row for each solution, with what it breaks and what it costs",
         example: "Example: timedesk compare comp07.ctt monday.sol tuesday.sol --csv",
         arguments: &[
-            INSTANCE,
-            Argument::Words("solution", "SOLUTION", "The files of the solutions"),
+            Argument::Optional("instance", "INSTANCE", "The file of the instance"),
+            Argument::Optionals("solution", "SOLUTION", "The files of the solutions"),
+            Argument::Valued(
+                "pairs",
+                "FILE",
+                "The file with the names of an instance and a solution in each line, in place of these",
+            ),
             BARRED,
             BLOCKED,
+            Argument::Flag(
+                "sort",
+                "Print the lawful and complete ones first, then the lawful ones, each by their costs",
+            ),
             Argument::Flag("csv", "Print the rows as CSV"),
             Argument::Flag("json", "Print the rows as a JSON array"),
+            Argument::Flag(
+                "faults",
+                "Print a row of CSV or JSON also for a file that is refused, with its fault",
+            ),
             Argument::Flag(
                 "strict",
                 "End with status 4 if a solution is not lawful, 5 if all are lawful but one is not complete",
             ),
+            POINT,
         ],
     },
     Outline {
@@ -95,18 +134,7 @@ Example: timedesk check comp07.ctt comp07.sol --explain",
         about: "Print the week as a table, with a column for each day and a line for each period",
         example: "Example: timedesk week comp07.ctt comp07.sol --teacher t067",
         arguments: &[
-            INSTANCE,
-            SOLUTION,
-            BARRED,
-            BLOCKED,
-            Argument::Valued("curriculum", "NAME", "The week of this curriculum alone"),
-            Argument::Valued("teacher", "NAME", "The week of this teacher alone"),
-            Argument::Valued(
-                "course",
-                "NAME",
-                "The week of this course alone; - marks a slot in which it is unavailable, ! a lecture there",
-            ),
-            Argument::Valued("room", "NAME", "The week of this room alone"),
+            INSTANCE, SOLUTION, BARRED, BLOCKED, CURRICULUM, TEACHER, COURSE, ROOM, POINT,
         ],
     },
     Outline {
@@ -119,13 +147,31 @@ Example: timedesk check comp07.ctt comp07.sol --explain",
             SOLUTION,
             BARRED,
             BLOCKED,
+            CURRICULUM,
+            TEACHER,
+            COURSE,
+            ROOM,
             Argument::Valued(
                 "days",
                 "NAMES",
                 "The names of the days, with commas between them; a day without a name has its number",
             ),
+            Argument::Flag(
+                "plain",
+                "Leave out all that costs points, for a page to hand out",
+            ),
+            Argument::Valued(
+                "grids",
+                "KIND",
+                "The weeks of these alone: curricula, teachers, courses or rooms",
+            ),
+            POINT,
         ],
     },
+];
+
+/// The commands on desks, and those on files alone.
+const DESK_COMMANDS: &[Outline] = &[
     Outline {
         command: Name::Run,
         name: "run",
@@ -142,6 +188,7 @@ Example: timedesk check comp07.ctt comp07.sol --explain",
                 "FILE",
                 "The file to write the accepted drafts to",
             ),
+            POINT,
         ],
     },
     Outline {
@@ -149,7 +196,7 @@ Example: timedesk check comp07.ctt comp07.sol --explain",
         name: "audit",
         about: "Report whether a journal has the replies that its drafts get, run one after another",
         example: "Example: timedesk audit comp07.ctt monday.journal --start comp07.sol",
-        arguments: &[INSTANCE, JOURNAL, BARRED, BLOCKED, START],
+        arguments: &[INSTANCE, JOURNAL, BARRED, BLOCKED, START, POINT],
     },
     Outline {
         command: Name::Crew,
@@ -165,6 +212,7 @@ Example: timedesk check comp07.ctt comp07.sol --explain",
             ),
             BARRED,
             BLOCKED,
+            POINT,
         ],
     },
     Outline {
@@ -187,6 +235,7 @@ Example: timedesk check comp07.ctt comp07.sol --explain",
                 "FILE",
                 "The file to write each accepted draft to before its planner is answered",
             ),
+            POINT,
         ],
     },
     Outline {
@@ -199,6 +248,7 @@ Example: timedesk check comp07.ctt comp07.sol --explain",
             Argument::Word("minutes", "MINUTES", "The file of the minutes"),
             BARRED,
             BLOCKED,
+            POINT,
         ],
     },
     Outline {
@@ -206,26 +256,30 @@ Example: timedesk check comp07.ctt comp07.sol --explain",
         name: "list",
         about: "Print the timetable after a journal as a solution",
         example: "Example: timedesk list comp07.ctt monday.journal --start comp07.sol >tuesday.sol",
-        arguments: &[INSTANCE, JOURNAL, BARRED, BLOCKED, START],
+        arguments: &[INSTANCE, JOURNAL, BARRED, BLOCKED, START, POINT],
     },
     Outline {
         command: Name::Mend,
         name: "mend",
         about: "Print a solution without the lectures that cannot be placed, and report each of these",
         example: "Example: timedesk mend comp07.ctt comp07.sol >mended.sol",
-        arguments: &[INSTANCE, SOLUTION, BARRED, BLOCKED],
+        arguments: &[INSTANCE, SOLUTION, BARRED, BLOCKED, POINT],
     },
     Outline {
         command: Name::Where,
         name: "where",
-        about: "Print the line and the column of a word of a file, and the line",
+        about: "Print the line and the column of a word or a byte of a file, and the line",
         example: "Example: timedesk where comp07.ctt 14",
         arguments: &[
             Argument::Word("instance", "FILE", "The file"),
             Argument::Word(
-                "word",
-                "WORD",
+                "number",
+                "NUMBER",
                 "The number of the word, from 1, as faults count them",
+            ),
+            Argument::Flag(
+                "byte",
+                "Take the number as that of a byte, from 0, as the faults I1, S1 and J1 count them",
             ),
         ],
     },
@@ -251,15 +305,23 @@ Status: 0 if it is done, also if a report says that a solution is unlawful;
 1 if the content of a file is refused, a name is not in it, or an audit does not agree; 2 if the
 words are refused; 3 if a file cannot be read, is too long, minutes exist, or output or memory fails;
 with --strict 4 if the solution is not lawful, and 5 if it is lawful but not complete.
-A refused file is one line, as in 'timedesk: instance I2 14': docs/FORMATS.md has
-each fault by its number, and 'timedesk where' shows the word that it names.";
+A refused file is one line, as in 'timedesk: instance I2 14'. With --point a second one says where
+that is, and what is wrong; docs/FORMATS.md has each fault.";
 
-/// Returns the commands of the program, in the order of the help.
-fn outlines() -> &'static [Outline]
-    ensures apps { map app_by result.now ≡ apps }
-    ensures names { map names_by result.now ≡ map with_name commands }
+/// Returns the commands on solutions, in the order of the help.
+fn solution_outlines() -> &'static [Outline]
+    ensures apps { map app_by result.now ≡ solution_apps }
+    ensures names { map names_by result.now ≡ map with_name solution_commands }
 {
-    COMMANDS
+    SOLUTION_COMMANDS
+}
+
+/// Returns the other commands, in the order of the help.
+fn desk_outlines() -> &'static [Outline]
+    ensures apps { map app_by result.now ≡ desk_apps }
+    ensures names { map names_by result.now ≡ map with_name desk_commands }
+{
+    DESK_COMMANDS
 }
 
 /// Builds the command line of the program.
@@ -271,13 +333,16 @@ pub(crate) fn command_line<'a>(alloc: Global) -> Result<Command<'a>, AllocError>
         .version("0.1.0")
         .after_help(BELOW_HELP)
         .subcommand_required(true);
-    with_commands(alloc, alone, outlines())
+    let with_first = with_commands(alloc, alone, solution_outlines())?;
+    with_commands(alloc, with_first, desk_outlines())
 }
 
 /// Finds the command of this name.
 pub(crate) fn command_named(name: &str) -> Option<Name>
-    ensures known { result ≡ named name.now }
-    ensures name { IfSome result (λ command. name.now ≡ name_of command) }
+    ensures { result ≡ named name.now }
 {
-    find(outlines(), name)
+    match find(solution_outlines(), name) {
+        Some(command) => Some(command),
+        None => find(desk_outlines(), name),
+    }
 }

@@ -1,11 +1,17 @@
 //! Building the job of each command from the matches that `clap` found for it.
 
-ghost use Rattle.std.specs.Prelude.{◌≡◌, ◌≤◌, codes, IfOk};
-ghost use Rattle.clap.specs.Words.{found_of, rows_of};
-ghost use Rattle.ctt_words.specs.Jobs.{HasCheckFlags, HasCompareFlags, HasFiles, HasSides, IsJobBy, choices, choices_of, count_given};
+ghost use Rattle.std.specs.Prelude.{◌≡◌, ◌≤◌, None, codes, option_and_then, IfOk};
+ghost use Rattle.clap.specs.Words.{first_of, found_of, rows_of};
+ghost use Rattle.ctt_words.specs.Jobs.{AsksCheck, AsksCompare, AsksPage, HasReplay, HasSides, HasSubject, IsJobBy};
+ghost use Rattle.ctt_words.specs.Matched.{HasFiles, HasFlags, choices, choices_of, count_given};
+ghost use Rattle.ctt_words.specs.Needs.{grids_of, needs_of};
+ghost use Rattle.ctt_words.specs.declared.outline.Name.TheVariants as by;
 
-use crate::arguments::{is_set, option, text, texts};
-use crate::job::{Job, Whose};
+use crate::arguments::{given_text, is_set, option, text, texts};
+use crate::job::{
+    CheckOptions, Command, CompareOptions, Grids, Job, PageWords, ReplayFiles, SubjectFiles, Whose,
+};
+use crate::needs::grids_of;
 use clap::ArgMatches;
 use ctt_files::Sides;
 use std::alloc::{AllocError, Global};
@@ -20,37 +26,88 @@ fn sides(alloc: Global, given: &ArgMatches<'_>) -> Result<Sides, AllocError>
     })
 }
 
-/// Builds the job of the command `check` from its matches.
-pub(crate) fn check_job(alloc: Global, given: &ArgMatches<'_>) -> Result<Job, AllocError>
-    requires files { HasFiles (codes "solution") (rows_of (found_of given.now)) }
-    requires flags { HasCheckFlags (rows_of (found_of given.now)) }
-    ensures { IfOk result (IsJobBy (codes "check") (rows_of (found_of given.now))) }
+/// Returns the files of a solution.
+fn subject_files(alloc: Global, given: &ArgMatches<'_>) -> Result<SubjectFiles, AllocError>
+    requires { HasFiles (codes "solution") (rows_of (found_of given.now)) }
+    ensures { IfOk result (HasSubject (rows_of (found_of given.now))) }
 {
-    Ok(Job::Check {
+    Ok(SubjectFiles {
         instance: text(alloc, given, "instance")?,
         sides: sides(alloc, given)?,
         solution: text(alloc, given, "solution")?,
-        json: is_set(given, "json"),
-        name: is_set(given, "name"),
-        explain: is_set(given, "explain"),
-        strict: is_set(given, "strict"),
     })
 }
 
-/// Builds the job of the command `compare` from its matches.
-pub(crate) fn compare_job(alloc: Global, given: &ArgMatches<'_>) -> Result<Job, AllocError>
-    requires files { HasFiles (codes "solution") (rows_of (found_of given.now)) }
-    requires flags { HasCompareFlags (rows_of (found_of given.now)) }
-    ensures { IfOk result (IsJobBy (codes "compare") (rows_of (found_of given.now))) }
+/// Returns the files of a journal.
+fn replay_files(alloc: Global, given: &ArgMatches<'_>) -> Result<ReplayFiles, AllocError>
+    requires { HasFiles (codes "journal") (rows_of (found_of given.now)) }
+    ensures { IfOk result (HasReplay (rows_of (found_of given.now))) }
 {
-    Ok(Job::Compare {
+    Ok(ReplayFiles {
+        instance: text(alloc, given, "instance")?,
+        sides: sides(alloc, given)?,
+        journal: text(alloc, given, "journal")?,
+        start: option(alloc, given, "start")?,
+    })
+}
+
+/// Returns what is asked of a check.
+fn check_options(given: &ArgMatches<'_>) -> CheckOptions
+    requires { HasFlags (rows_of (found_of given.now)) }
+    ensures { AsksCheck (rows_of (found_of given.now)) result }
+{
+    CheckOptions {
+        json: is_set(given, "json"),
+        name: is_set(given, "name"),
+        csv: is_set(given, "csv"),
+        explain: is_set(given, "explain"),
+        sentences: is_set(given, "sentences"),
+        strict: is_set(given, "strict"),
+    }
+}
+
+/// Builds the job of the command `check` from its matches.
+pub(crate) fn check_job(alloc: Global, given: &ArgMatches<'_>) -> Result<Job, AllocError>
+    requires files { HasFiles (codes "solution") (rows_of (found_of given.now)) }
+    requires flags { HasFlags (rows_of (found_of given.now)) }
+    ensures { IfOk result (IsJobBy by.Check (rows_of (found_of given.now))) }
+{
+    let files = subject_files(alloc, given)?;
+    Ok(Job::Answer(Command::Check(files, check_options(given))))
+}
+
+/// Returns what is asked of a comparison.
+fn compare_options(given: &ArgMatches<'_>) -> CompareOptions
+    requires { HasFlags (rows_of (found_of given.now)) }
+    ensures { AsksCompare (rows_of (found_of given.now)) result }
+{
+    CompareOptions {
+        csv: is_set(given, "csv"),
+        json: is_set(given, "json"),
+        sort: is_set(given, "sort"),
+        faults: is_set(given, "faults"),
+        strict: is_set(given, "strict"),
+        point: is_set(given, "point"),
+    }
+}
+
+/// Builds the job of the command `compare` from its matches: of pairs, or of the solutions of an
+/// instance.
+pub(crate) fn compare_job(alloc: Global, given: &ArgMatches<'_>) -> Result<Job, AllocError>
+    requires flags { HasFlags (rows_of (found_of given.now)) }
+    requires needs { needs_of by.Compare (rows_of (found_of given.now)) ≡ None }
+    ensures { IfOk result (IsJobBy by.Compare (rows_of (found_of given.now))) }
+{
+    let options = compare_options(given);
+    if let Some(pairs) = option(alloc, given, "pairs")? {
+        return Ok(Job::Answer(Command::Pairs { pairs, options }));
+    }
+    Ok(Job::Answer(Command::Compare {
         instance: text(alloc, given, "instance")?,
         sides: sides(alloc, given)?,
         solutions: texts(alloc, given, "solution")?,
-        csv: is_set(given, "csv"),
-        json: is_set(given, "json"),
-        strict: is_set(given, "strict"),
-    })
+        options,
+    }))
 }
 
 /// Returns whose week is asked for, by at most one of four options.
@@ -76,34 +133,49 @@ fn whose(alloc: Global, given: &ArgMatches<'_>) -> Result<Option<Whose>, AllocEr
 /// Builds the job of the command `week` from its matches.
 pub(crate) fn week_job(alloc: Global, given: &ArgMatches<'_>) -> Result<Job, AllocError>
     requires files { HasFiles (codes "solution") (rows_of (found_of given.now)) }
-    requires one { count_given (choices (rows_of (found_of given.now))) ≤ 1 }
-    ensures { IfOk result (IsJobBy (codes "week") (rows_of (found_of given.now))) }
+    requires needs { needs_of by.Week (rows_of (found_of given.now)) ≡ None }
+    ensures { IfOk result (IsJobBy by.Week (rows_of (found_of given.now))) }
 {
-    Ok(Job::Week {
-        instance: text(alloc, given, "instance")?,
-        sides: sides(alloc, given)?,
-        solution: text(alloc, given, "solution")?,
-        whose: whose(alloc, given)?,
+    let files = subject_files(alloc, given)?;
+    Ok(Job::Answer(Command::Week(files, whose(alloc, given)?)))
+}
+
+/// Returns the grids that are asked for.
+fn grids(given: &ArgMatches<'_>) -> Option<Grids>
+    ensures { result
+        ≡ option_and_then grids_of (first_of (codes "grids") (rows_of (found_of given.now))) }
+{
+    grids_of(given_text(given, "grids")?)
+}
+
+/// Returns what is asked of a page.
+fn page_words(alloc: Global, given: &ArgMatches<'_>) -> Result<PageWords, AllocError>
+    requires { HasFlags (rows_of (found_of given.now)) }
+    ensures { IfOk result (AsksPage (rows_of (found_of given.now))) }
+{
+    Ok(PageWords {
+        days: option(alloc, given, "days")?,
+        plain: is_set(given, "plain"),
+        grids: grids(given),
     })
 }
 
 /// Builds the job of the command `page` from its matches.
 pub(crate) fn page_job(alloc: Global, given: &ArgMatches<'_>) -> Result<Job, AllocError>
-    requires { HasFiles (codes "solution") (rows_of (found_of given.now)) }
-    ensures { IfOk result (IsJobBy (codes "page") (rows_of (found_of given.now))) }
+    requires files { HasFiles (codes "solution") (rows_of (found_of given.now)) }
+    requires flags { HasFlags (rows_of (found_of given.now)) }
+    requires needs { needs_of by.Page (rows_of (found_of given.now)) ≡ None }
+    ensures { IfOk result (IsJobBy by.Page (rows_of (found_of given.now))) }
 {
-    Ok(Job::Page {
-        instance: text(alloc, given, "instance")?,
-        sides: sides(alloc, given)?,
-        solution: text(alloc, given, "solution")?,
-        days: option(alloc, given, "days")?,
-    })
+    let files = subject_files(alloc, given)?;
+    let chosen = whose(alloc, given)?;
+    Ok(Job::Answer(Command::Page(files, chosen, page_words(alloc, given)?)))
 }
 
 /// Builds the job of the command `run` from its matches.
 pub(crate) fn run_job(alloc: Global, given: &ArgMatches<'_>) -> Result<Job, AllocError>
     requires { HasFiles (codes "script") (rows_of (found_of given.now)) }
-    ensures { IfOk result (IsJobBy (codes "run") (rows_of (found_of given.now))) }
+    ensures { IfOk result (IsJobBy by.Run (rows_of (found_of given.now))) }
 {
     Ok(Job::Run {
         instance: text(alloc, given, "instance")?,
@@ -117,32 +189,27 @@ pub(crate) fn run_job(alloc: Global, given: &ArgMatches<'_>) -> Result<Job, Allo
 /// Builds the job of the command `audit` from its matches.
 pub(crate) fn audit_job(alloc: Global, given: &ArgMatches<'_>) -> Result<Job, AllocError>
     requires { HasFiles (codes "journal") (rows_of (found_of given.now)) }
-    ensures { IfOk result (IsJobBy (codes "audit") (rows_of (found_of given.now))) }
+    ensures { IfOk result (IsJobBy by.Audit (rows_of (found_of given.now))) }
 {
-    Ok(Job::Audit {
-        instance: text(alloc, given, "instance")?,
-        sides: sides(alloc, given)?,
-        journal: text(alloc, given, "journal")?,
-        start: option(alloc, given, "start")?,
-    })
+    Ok(Job::Answer(Command::Audit(replay_files(alloc, given)?)))
 }
 
 /// Builds the job of the command `crew` from its matches.
 pub(crate) fn crew_job(alloc: Global, given: &ArgMatches<'_>) -> Result<Job, AllocError>
     requires { HasFiles (codes "script") (rows_of (found_of given.now)) }
-    ensures { IfOk result (IsJobBy (codes "crew") (rows_of (found_of given.now))) }
+    ensures { IfOk result (IsJobBy by.Crew (rows_of (found_of given.now))) }
 {
-    Ok(Job::Crew {
+    Ok(Job::Answer(Command::Crew {
         instance: text(alloc, given, "instance")?,
         sides: sides(alloc, given)?,
         scripts: texts(alloc, given, "script")?,
-    })
+    }))
 }
 
 /// Builds the job of the command `desk` from its matches.
 pub(crate) fn desk_job(alloc: Global, given: &ArgMatches<'_>) -> Result<Job, AllocError>
     requires { HasFiles (codes "seat") (rows_of (found_of given.now)) }
-    ensures { IfOk result (IsJobBy (codes "desk") (rows_of (found_of given.now))) }
+    ensures { IfOk result (IsJobBy by.Desk (rows_of (found_of given.now))) }
 {
     Ok(Job::Desk {
         instance: text(alloc, given, "instance")?,
@@ -156,47 +223,40 @@ pub(crate) fn desk_job(alloc: Global, given: &ArgMatches<'_>) -> Result<Job, All
 /// Builds the job of the command `journal` from its matches.
 pub(crate) fn journal_job(alloc: Global, given: &ArgMatches<'_>) -> Result<Job, AllocError>
     requires { HasFiles (codes "minutes") (rows_of (found_of given.now)) }
-    ensures { IfOk result (IsJobBy (codes "journal") (rows_of (found_of given.now))) }
+    ensures { IfOk result (IsJobBy by.Journal (rows_of (found_of given.now))) }
 {
-    Ok(Job::Journal {
+    Ok(Job::Answer(Command::Journal {
         instance: text(alloc, given, "instance")?,
         sides: sides(alloc, given)?,
         minutes: text(alloc, given, "minutes")?,
-    })
+    }))
 }
 
 /// Builds the job of the command `list` from its matches.
 pub(crate) fn list_job(alloc: Global, given: &ArgMatches<'_>) -> Result<Job, AllocError>
     requires { HasFiles (codes "journal") (rows_of (found_of given.now)) }
-    ensures { IfOk result (IsJobBy (codes "list") (rows_of (found_of given.now))) }
+    ensures { IfOk result (IsJobBy by.List (rows_of (found_of given.now))) }
 {
-    Ok(Job::List {
-        instance: text(alloc, given, "instance")?,
-        sides: sides(alloc, given)?,
-        journal: text(alloc, given, "journal")?,
-        start: option(alloc, given, "start")?,
-    })
+    Ok(Job::Answer(Command::List(replay_files(alloc, given)?)))
 }
 
 /// Builds the job of the command `mend` from its matches.
 pub(crate) fn mend_job(alloc: Global, given: &ArgMatches<'_>) -> Result<Job, AllocError>
     requires { HasFiles (codes "solution") (rows_of (found_of given.now)) }
-    ensures { IfOk result (IsJobBy (codes "mend") (rows_of (found_of given.now))) }
+    ensures { IfOk result (IsJobBy by.Mend (rows_of (found_of given.now))) }
 {
-    Ok(Job::Mend {
-        instance: text(alloc, given, "instance")?,
-        sides: sides(alloc, given)?,
-        solution: text(alloc, given, "solution")?,
-    })
+    Ok(Job::Answer(Command::Mend(subject_files(alloc, given)?)))
 }
 
 /// Builds the job of the command `where` from its matches.
 pub(crate) fn where_job(alloc: Global, given: &ArgMatches<'_>) -> Result<Job, AllocError>
-    requires { HasFiles (codes "word") (rows_of (found_of given.now)) }
-    ensures { IfOk result (IsJobBy (codes "where") (rows_of (found_of given.now))) }
+    requires files { HasFiles (codes "number") (rows_of (found_of given.now)) }
+    requires flags { HasFlags (rows_of (found_of given.now)) }
+    ensures { IfOk result (IsJobBy by.Where (rows_of (found_of given.now))) }
 {
-    Ok(Job::Where {
+    Ok(Job::Answer(Command::Where {
         file: text(alloc, given, "instance")?,
-        word: text(alloc, given, "word")?,
-    })
+        number: text(alloc, given, "number")?,
+        byte: is_set(given, "byte"),
+    }))
 }

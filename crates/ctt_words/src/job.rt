@@ -17,48 +17,98 @@ pub enum Whose {
     Room(String),
 }
 
-/// What the program is asked to do, by its command. Files are given by name. `sides` are the side
-/// files of the instance, and `start` is the solution that a desk opens with, or none if it opens
-/// empty.
+/// What is asked of a check.
+#[derive(Clone, Copy)]
+pub struct CheckOptions {
+    /// Whether the report is JSON, which comes before `csv` and `sentences`.
+    pub json: bool,
+    /// Whether a JSON report begins with the name of the solution's file.
+    pub name: bool,
+    /// Whether the report is in comma-separated values, which come before `sentences`.
+    pub csv: bool,
+    /// Whether the findings are listed.
+    pub explain: bool,
+    /// Whether the findings are told in the sentences of the page.
+    pub sentences: bool,
+    /// Whether the exit status says if the solution is lawful and complete.
+    pub strict: bool,
+}
+
+/// What is asked of a comparison.
+#[derive(Clone, Copy)]
+pub struct CompareOptions {
+    /// Whether the table is in comma-separated values.
+    pub csv: bool,
+    /// Whether the table is JSON, which comes before `csv`.
+    pub json: bool,
+    /// Whether the best solutions come first.
+    pub sort: bool,
+    /// Whether a file that is refused has a row with its fault in a table of JSON or of
+    /// comma-separated values.
+    pub faults: bool,
+    /// Whether the exit status says if all solutions are lawful and complete.
+    pub strict: bool,
+    /// Whether the place of the fault of a file that is refused is said after its line.
+    pub point: bool,
+}
+
+/// Of what a page has grids.
+#[derive(Clone, Copy, PartialEq, Eq)]
+pub enum Grids {
+    /// Of the curricula.
+    Curricula,
+    /// Of the teachers.
+    Teachers,
+    /// Of the courses.
+    Courses,
+    /// Of the rooms.
+    Rooms,
+}
+
+/// What is asked of a page besides whose week it has.
+#[derive(Drop)]
+pub struct PageWords {
+    /// The names of the days, separated by commas.
+    pub days: Option<String>,
+    /// Whether the page has nothing of rules and costs.
+    pub plain: bool,
+    /// Of what alone the page has grids.
+    pub grids: Option<Grids>,
+}
+
+/// The names of the files of a solution: that of its instance, those of the instance's side files,
+/// and its own.
+#[derive(Drop)]
+pub struct SubjectFiles {
+    pub instance: String,
+    pub sides: Sides,
+    pub solution: String,
+}
+
+/// The names of the files of a journal: that of its instance, those of the instance's side files,
+/// its own, and that of the solution with which its desk opened, or none if it opened empty.
+#[derive(Drop)]
+pub struct ReplayFiles {
+    pub instance: String,
+    pub sides: Sides,
+    pub journal: String,
+    pub start: Option<String>,
+}
+
+/// What the words of a command line ask for.
+#[derive(Drop)]
+pub struct Asked {
+    pub job: Job,
+    /// Whether the place of a fault in its file is said after its line.
+    pub point: bool,
+}
+
+/// What the program is asked to do. Files are given by name. `sides` are the side files of the
+/// instance, and `start` is the solution that a desk opens with, or none if it opens empty.
 #[derive(Drop)]
 pub enum Job {
-    /// To report on a solution. `name` begins a JSON report with the name of the solution's file,
-    /// `explain` adds the findings, and `strict` makes the exit status say whether the solution is
-    /// lawful and complete.
-    Check {
-        instance: String,
-        sides: Sides,
-        solution: String,
-        json: bool,
-        name: bool,
-        explain: bool,
-        strict: bool,
-    },
-    /// To compare solutions. `strict` makes the exit status say whether all of them are lawful and
-    /// complete.
-    Compare {
-        instance: String,
-        sides: Sides,
-        solutions: Vec<String>,
-        csv: bool,
-        json: bool,
-        strict: bool,
-    },
-    /// To show the week of a solution as tables, for all rooms or for what is named.
-    Week {
-        instance: String,
-        sides: Sides,
-        solution: String,
-        whose: Option<Whose>,
-    },
-    /// To show a solution as a page for a browser, with the names of days if they are given,
-    /// separated by commas.
-    Page {
-        instance: String,
-        sides: Sides,
-        solution: String,
-        days: Option<String>,
-    },
+    /// To do a command that reads its files, and then answers.
+    Answer(Command),
     /// To run a script on a desk, and to store the journal if a file is given for it.
     Run {
         instance: String,
@@ -66,19 +116,6 @@ pub enum Job {
         script: String,
         start: Option<String>,
         journal: Option<String>,
-    },
-    /// To audit a journal on a desk.
-    Audit {
-        instance: String,
-        sides: Sides,
-        journal: String,
-        start: Option<String>,
-    },
-    /// To run scripts on one desk that opens empty, each by a planner on its own thread.
-    Crew {
-        instance: String,
-        sides: Sides,
-        scripts: Vec<String>,
     },
     /// To run a desk with a seat for each planner, and to write the minutes if a file is given for
     /// them.
@@ -89,6 +126,38 @@ pub enum Job {
         start: Option<String>,
         minutes: Option<String>,
     },
+}
+
+/// A command that reads its files, and then answers.
+#[derive(Drop)]
+pub enum Command {
+    /// To report on a solution.
+    Check(SubjectFiles, CheckOptions),
+    /// To compare solutions of an instance.
+    Compare {
+        instance: String,
+        sides: Sides,
+        solutions: Vec<String>,
+        options: CompareOptions,
+    },
+    /// To compare the solutions of a file of pairs, an instance and a solution of it each. None of
+    /// these instances has a side file.
+    Pairs {
+        pairs: String,
+        options: CompareOptions,
+    },
+    /// To show the week of a solution as tables, for all rooms or for what is named.
+    Week(SubjectFiles, Option<Whose>),
+    /// To show a solution as a page for a browser, with all weeks or the week of what is named.
+    Page(SubjectFiles, Option<Whose>, PageWords),
+    /// To audit a journal on a desk.
+    Audit(ReplayFiles),
+    /// To run scripts on one desk that opens empty, each by a planner on its own thread.
+    Crew {
+        instance: String,
+        sides: Sides,
+        scripts: Vec<String>,
+    },
     /// To print the journal of the minutes of a desk.
     Journal {
         instance: String,
@@ -96,30 +165,22 @@ pub enum Job {
         minutes: String,
     },
     /// To print the timetable after a journal as a solution.
-    List {
-        instance: String,
-        sides: Sides,
-        journal: String,
-        start: Option<String>,
-    },
+    List(ReplayFiles),
     /// To print a solution without the lectures that cannot be placed.
-    Mend {
-        instance: String,
-        sides: Sides,
-        solution: String,
-    },
-    /// To find the word of this number in a file.
+    Mend(SubjectFiles),
+    /// To find the word of this number in a file, or its byte.
     Where {
         file: String,
-        word: String,
+        number: String,
+        byte: bool,
     },
 }
 
 /// Why the words of a command line ask for no job.
 #[derive(Debug, Drop, Error)]
 pub enum WordsFault {
-    /// The words are not a command of the program, or more than one option says whose week to
-    /// print. The text is the message.
+    /// The words are not a command of the program, or a command is not given what it needs. The
+    /// text is the message.
     #[error("{0}")]
     Refused(String),
     /// The words ask for help or for the version, which is the text.

@@ -5,8 +5,12 @@ mod arguments;
 mod commands;
 mod found;
 mod job;
+mod needs;
 mod outline;
 mod words;
 
-pub use job::{Job, Whose, WordsFault};
+pub use job::{
+    Asked, CheckOptions, Command, CompareOptions, Grids, Job, PageWords, ReplayFiles, SubjectFiles,
+    Whose, WordsFault,
+};
 pub use words::read_words;

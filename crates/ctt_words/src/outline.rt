@@ -1,12 +1,12 @@
 //! Tables of commands and their arguments, and the `clap` commands that are built from them.
 
 ghost use Rattle.std.specs.Prelude.{◌≡◌, false, map, IfOk, IsOkAnd};
-ghost use Rattle.clap.specs.Words.{AddsSubcommand, rule_of};
+ghost use Rattle.clap.specs.Words.{AddsSubcommand, app_of, rule_of};
 ghost use Rattle.ctt_words.specs.Outlines.{app_by, named_in, names_by, rule_by};
-ghost use Rattle.ctt_words.specs.CommandLine.{IsCommand, bare, with_commands};
+ghost use Rattle.ctt_words.specs.CommandLine.{IsCommand, IsLocal, with_commands};
 
 use clap::{Arg, ArgAction, Command};
-use ctt_problem::let_go;
+use ctt_problem::drop_whole;
 use std::alloc::{AllocError, Global};
 
 /// An argument of a command: its name, what the help calls its value if it has one, and its help.
@@ -15,6 +15,10 @@ pub(crate) enum Argument {
     Word(&'static str, &'static str, &'static str),
     /// One or more required words, by their position after all others.
     Words(&'static str, &'static str, &'static str),
+    /// One word that may lack, by its position.
+    Optional(&'static str, &'static str, &'static str),
+    /// Words that may lack, by their position after all others.
+    Optionals(&'static str, &'static str, &'static str),
     /// An option without a value.
     Flag(&'static str, &'static str),
     /// An option with a value.
@@ -62,6 +66,11 @@ fn make_argument<'a>(alloc: Global, of: &Argument) -> Arg<'a>
             .help(help)
             .required(true)
             .num_args(1..),
+        Argument::Optional(id, name, help) => Arg::new(alloc, id).value_name(name).help(help),
+        Argument::Optionals(id, name, help) => Arg::new(alloc, id)
+            .num_args(1..)
+            .value_name(name)
+            .help(help),
         Argument::Flag(id, help) => Arg::new(alloc, id)
             .long(id)
             .help(help)
@@ -97,25 +106,25 @@ fn with_command<'a>(
         Ok(program) => match made {
             Ok(command) => program.subcommand(command),
             Err(error) => {
-                let_go(program);
+                drop_whole(program);
                 Err(error)
             }
         },
         Err(error) => {
-            let_go(made);
+            drop_whole(made);
             Err(error)
         }
     }
 }
 
-/// Adds these commands to the program.
+/// Adds these commands to a program.
 pub(crate) fn with_commands<'a>(
     alloc: Global,
     alone: Command<'a>,
     outlines: &[Outline],
 ) -> Result<Command<'a>, AllocError>
-    requires { IsCommand bare alone }
-    ensures { IfOk result (IsCommand (with_commands bare (map app_by outlines.now))) }
+    requires { IsLocal alone }
+    ensures { IfOk result (IsCommand (with_commands (app_of alone.entry) (map app_by outlines.now))) }
 {
     let mut program = Ok(alone);
     for outline in outlines {

@@ -1,36 +1,48 @@
 //! The turns of a desk: how it handles each event.
 
-ghost use Rattle.std.specs.Prelude.{◌≡◌, ◌⊎◌, ◌+◌, ◌<◌, length, None};
+ghost use Rattle.std.specs.Prelude.{◌≡◌, ◌⊎◌, ◌+◌, ◌<◌, [], length, None, IfOk};
 ghost use Rattle.ctt_edits.specs.Calls.{CallFits};
 ghost use Rattle.ctt_edits.specs.Looks.{LookFits};
 ghost use Rattle.ctt_core.specs.Runs.{EventFits};
-ghost use Rattle.ctt_core.specs.Desks.{IsAnswerTo, goes_on, draft_at, with_draft, IsFresh};
+ghost use Rattle.ctt_core.specs.Desks.{IsAnswerTo, next_state, draft_at, with_draft, IsFresh};
 ghost use Rattle.ctt_core.specs.declared.answer.Answer.TheVariants.{Committed, NoMemory as OutOfMemory};
 ghost use Rattle.ctt_core.specs.declared.event.Event.TheVariants.{Open, Ask, Peek, Status, Commit, Refresh, Abandon, Show};
 
 use crate::answer::Answer;
 use crate::desk::Desk;
+use crate::draft_status::DraftStatus;
 use crate::event::Event;
 use crate::journal::JournalEntry;
 use crate::open_draft::OpenDraft;
 use crate::planner::PlannerNo;
-use crate::standing::Standing;
 use ctt_board::{Rooms, Sheet};
 use ctt_draft::{AskedCalls, Draft};
 use ctt_edits::{Call, Look};
+use ctt_problem::NoMemory;
+use std::alloc::Global;
+
+/// Opens a draft on a sheet, in a box.
+fn open_on<'i, S: Sheet<'i>>(alloc: Global, sheet: &S) -> Result<Box<Draft<'i, S>>, NoMemory>
+    ensures problem { IfOk result (λ draft. draft.value.problem ≡ S.problem sheet.now) }
+    ensures base { IfOk result (λ draft. draft.value.base ≡ S.list sheet.now) }
+    ensures asked { IfOk result (λ draft. draft.value.asked ≡ []) }
+{
+    let draft = Draft::open(alloc, sheet)?;
+    Ok(Box::new(alloc, draft)?)
+}
 
 impl<'i, S: Sheet<'i>> Desk<'i, S> {
     /// Opens a draft.
     fn open(&mut self, planner: PlannerNo) -> Answer
         requires { planner < length self.old.drafts }
         ensures answer { IsAnswerTo self.old (Open planner) result }
-        ensures goes_on { self.new ≡ goes_on self.old (Open planner) result }
+        ensures state { self.new ≡ next_state self.old (Open planner) result }
     {
         let place = planner.get() as usize;
         if self.drafts[place].is_some() {
             return Answer::AlreadyOpen;
         }
-        match Draft::open(*self.opening.allocator(), &self.sheet) {
+        match open_on(*self.opening.allocator(), &self.sheet) {
             Ok(draft) => {
                 let since = self.journal.len() as u64;
                 self.drafts[place] = Some(OpenDraft { since, draft });
@@ -45,7 +57,7 @@ impl<'i, S: Sheet<'i>> Desk<'i, S> {
         requires planner { planner < length self.old.drafts }
         requires fits { CallFits self.old.problem call }
         ensures answer { IsAnswerTo self.old (Ask planner call) result }
-        ensures goes_on { self.new ≡ goes_on self.old (Ask planner call) result }
+        ensures state { self.new ≡ next_state self.old (Ask planner call) result }
     {
         let place = planner.get() as usize;
         match &mut self.drafts[place] {
@@ -62,7 +74,7 @@ impl<'i, S: Sheet<'i>> Desk<'i, S> {
         requires planner { planner < length self.old.drafts }
         requires fits { LookFits self.old.problem look.now }
         ensures answer { IsAnswerTo self.old (Peek planner look.now) result }
-        ensures goes_on { self.new ≡ goes_on self.old (Peek planner look.now) result }
+        ensures state { self.new ≡ next_state self.old (Peek planner look.now) result }
     {
         let place = planner.get() as usize;
         let told = match &self.drafts[place] {
@@ -80,7 +92,7 @@ impl<'i, S: Sheet<'i>> Desk<'i, S> {
     fn status(&mut self, planner: PlannerNo) -> Answer
         requires { planner < length self.old.drafts }
         ensures answer { IsAnswerTo self.old (Status planner) result }
-        ensures goes_on { self.new ≡ goes_on self.old (Status planner) result }
+        ensures state { self.new ≡ next_state self.old (Status planner) result }
     {
         let place = planner.get() as usize;
         match &self.drafts[place] {
@@ -89,7 +101,7 @@ impl<'i, S: Sheet<'i>> Desk<'i, S> {
                 let accepted = self.journal.len() as u64;
                 let stale = drafting.stale(&self.sheet, accepted);
                 let behind = accepted.saturating_sub(drafting.since);
-                Answer::Draft(Standing::of(&drafting.draft, behind, stale))
+                Answer::Draft(DraftStatus::of(&drafting.draft, behind, stale))
             }
         }
     }
@@ -106,7 +118,7 @@ impl<'i, S: Sheet<'i>> Desk<'i, S> {
     fn abandon(&mut self, planner: PlannerNo) -> Answer
         requires { planner < length self.old.drafts }
         ensures answer { IsAnswerTo self.old (Abandon planner) result }
-        ensures goes_on { self.new ≡ goes_on self.old (Abandon planner) result }
+        ensures state { self.new ≡ next_state self.old (Abandon planner) result }
     {
         let place = planner.get() as usize;
         if self.drafts[place].is_none() {
@@ -120,7 +132,7 @@ impl<'i, S: Sheet<'i>> Desk<'i, S> {
     fn show(&mut self, look: &Look) -> Answer
         requires { LookFits self.old.problem look.now }
         ensures answer { IsAnswerTo self.old (Show look.now) result }
-        ensures goes_on { self.new ≡ goes_on self.old (Show look.now) result }
+        ensures state { self.new ≡ next_state self.old (Show look.now) result }
     {
         match ctt_edits::look(*self.opening.allocator(), &self.sheet, look) {
             Ok(told) => Answer::Replied(told),
@@ -135,13 +147,14 @@ impl<'i, S: Sheet<'i>> Desk<'i, S> {
         requires fresh { IsFresh self.old (draft_at self.old.drafts planner) }
         ensures answer { (result ≡ OutOfMemory)
             ⊎ (result ≡ Committed (length self.old.journal + 1)) }
-        ensures goes_on { self.new ≡ goes_on self.old (Commit planner) result }
+        ensures state { self.new ≡ next_state self.old (Commit planner) result }
     {
         let place = planner.get() as usize;
         if self.journal.reserve(1).is_err() {
             return Answer::NoMemory;
         }
-        let work = self.drafts[place].take().unwrap().draft.finish();
+        let draft = self.drafts[place].take().unwrap().draft;
+        let work = Box::into_inner(draft).finish();
         work.settle(&mut self.sheet);
         let asked = AskedCalls::new(work.asked);
         self.journal.push(JournalEntry { planner, asked }).unwrap();
@@ -152,7 +165,7 @@ impl<'i, S: Sheet<'i>> Desk<'i, S> {
     fn commit(&mut self, planner: PlannerNo) -> Answer
         requires { planner < length self.old.drafts }
         ensures answer { IsAnswerTo self.old (Commit planner) result }
-        ensures goes_on { self.new ≡ goes_on self.old (Commit planner) result }
+        ensures state { self.new ≡ next_state self.old (Commit planner) result }
     {
         let place = planner.get() as usize;
         let found = match &self.drafts[place] {
@@ -172,7 +185,7 @@ impl<'i, S: Sheet<'i>> Desk<'i, S> {
     fn refresh(&mut self, planner: PlannerNo) -> Answer
         requires { planner < length self.old.drafts }
         ensures answer { IsAnswerTo self.old (Refresh planner) result }
-        ensures goes_on { self.new ≡ goes_on self.old (Refresh planner) result }
+        ensures state { self.new ≡ next_state self.old (Refresh planner) result }
     {
         let place = planner.get() as usize;
         match &mut self.drafts[place] {
@@ -195,7 +208,7 @@ impl<'i, S: Sheet<'i>> Desk<'i, S> {
     pub(crate) fn answer(&mut self, event: Event) -> Answer
         requires { EventFits self.old.problem (length self.old.drafts) event }
         ensures answer { IsAnswerTo self.old event result }
-        ensures goes_on { self.new ≡ goes_on self.old event result }
+        ensures state { self.new ≡ next_state self.old event result }
     {
         match event {
             Event::Open(planner) => self.open(planner),

@@ -6,7 +6,7 @@ ghost use Rattle.ctt_draft.specs.DraftValues.{refreshed, Settles};
 
 use crate::comparing::Comparison;
 use crate::draft::Draft;
-use crate::laws;
+use crate::draft_laws;
 use ctt_board::Sheet;
 use ctt_edits::Row;
 use ctt_problem::NoMemory;
@@ -21,8 +21,8 @@ impl<'i, S: Sheet<'i>> Draft<'i, S> {
             (calls_of self.now.asked)) }
         ensures fresh { result ≡ Ok None → Settles self.now (S.list sheet.now) }
     {
-        laws::draft_frame();
-        laws::settling_fits();
+        draft_laws::draft_frame();
+        draft_laws::settling_fits();
         sheet.lawful();
         let comparison = Comparison::new(self.instance, &self.present, &self.undo, sheet);
         if let Some(course) = comparison.first_course(&self.rows) {
@@ -32,16 +32,6 @@ impl<'i, S: Sheet<'i>> Draft<'i, S> {
             return Ok(Some(Row::Slot(slot)));
         }
         Ok(None)
-    }
-
-    /// Computes nothing: its contract says that the draft is not stale on its snapshot, and that its
-    /// changes fit there.
-    pub fn fresh(&self)
-        ensures row { stale self.now.problem self.now.base self.now.base (calls_of self.now.asked)
-            ≡ None }
-        ensures settles { Settles self.now self.now.base }
-    {
-        self.lawful();
     }
 
     /// Brings the draft up to date: if none of the rows that it read differs on a sheet, that

@@ -17,7 +17,7 @@ use crate::instance::Instance;
 use crate::instance::belonging::belonging;
 use crate::instance::clashes::clash_rows;
 use crate::instance::taught::taught;
-use crate::letting::let_go;
+use crate::letting::drop_whole;
 use crate::names::Names;
 use std::alloc::{AllocError, Global};
 
@@ -238,7 +238,7 @@ impl Instance {
         match parts.tables(alloc) {
             Ok(tables) => Ok(parts.with_tables(tables)),
             Err(error) => {
-                let_go(parts);
+                drop_whole(parts);
                 Err(error)
             }
         }

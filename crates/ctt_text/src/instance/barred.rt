@@ -15,8 +15,8 @@ ghost use Rattle.ctt_text.specs.declared.fault.BarredFault.{BarredFault};
 ghost use Rattle.ctt_text.specs.declared.fault.BarredFault.TheVariants.{NotText, NoMemory};
 
 use crate::fault::BarredFault;
-use crate::places::{next_count, next_course, next_fixed, next_room};
 use crate::reader::Reader;
+use crate::word_parsers::{next_count, next_course, next_fixed, next_room};
 use ctt_problem::{BitRows, Instance};
 use std::alloc::Global;
 

@@ -16,11 +16,11 @@ ghost use Rattle.ctt_text.specs.declared.fault.BlockedFault.TheVariants.{Expecte
 
 use crate::fault::BlockedFault;
 use crate::instance::closing::{Closing, Kind, Tables};
-use crate::places::{
+use crate::reader::Reader;
+use crate::word_parsers::{
     next_count, next_course, next_days, next_fixed, next_periods, next_room, next_teacher,
     next_word,
 };
-use crate::reader::Reader;
 use ctt_problem::{BitRows, Instance};
 use std::alloc::Global;
 

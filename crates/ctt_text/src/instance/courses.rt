@@ -8,7 +8,7 @@ ghost use Rattle.ctt_text.specs.InstancePlaces.{GivesRead, reads, course, no_cou
 
 use crate::fault::ReadFault;
 use crate::instance::header::Header;
-use crate::instance::places::{read_any, read_fixed, read_new_name, read_number};
+use crate::instance::instance_words::{read_any, read_fixed, read_new_name, read_number};
 use crate::reader::Reader;
 use ctt_problem::{CourseFacts, Names, TeacherNo};
 use std::alloc::Global;

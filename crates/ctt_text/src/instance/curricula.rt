@@ -9,8 +9,8 @@ ghost use Rattle.ctt_text.specs.InstancePlaces.{GivesRead, reads, curriculum, no
 use crate::fault::ReadFault;
 use crate::instance::courses::CourseSection;
 use crate::instance::header::Header;
+use crate::instance::instance_words::{read_fixed, read_new_name, read_number};
 use crate::instance::members::read_members;
-use crate::instance::places::{read_fixed, read_new_name, read_number};
 use crate::reader::Reader;
 use ctt_problem::{CourseNo, Names};
 use std::alloc::Global;

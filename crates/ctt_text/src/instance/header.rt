@@ -6,7 +6,7 @@ ghost use Rattle.ctt_text.specs.InstancePlaces.{GivesRead, reads, two_counts, ca
 ghost use Rattle.ctt_text.specs.declared.fault.ReadFault.TheVariants.{Expected};
 
 use crate::fault::ReadFault;
-use crate::instance::places::{read_any, read_count, read_fixed, read_period_count};
+use crate::instance::instance_words::{read_any, read_count, read_fixed, read_period_count};
 use crate::reader::Reader;
 use std::marker::Model;
 

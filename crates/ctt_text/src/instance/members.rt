@@ -6,7 +6,7 @@ ghost use Rattle.ctt_text.specs.InstancePlaces.{GivesRead, reads, member};
 ghost use Rattle.ctt_problem.specs.Lists.{with_new};
 
 use crate::fault::ReadFault;
-use crate::instance::places::read_course;
+use crate::instance::instance_words::read_course;
 use crate::reader::Reader;
 use ctt_problem::{CourseNo, Marks, Names};
 use std::alloc::{AllocError, Global};

@@ -19,11 +19,11 @@ use crate::fault::ReadFault;
 use crate::instance::courses::{CourseSection, read_course_section};
 use crate::instance::curricula::{CurriculumSection, read_curriculum_section};
 use crate::instance::header::{Header, read_header};
-use crate::instance::places::read_fixed;
+use crate::instance::instance_words::read_fixed;
 use crate::instance::rooms::{RoomSection, read_room_section};
 use crate::instance::unavailability::read_unavailability_section;
 use crate::reader::Reader;
-use ctt_problem::{BitRows, Instance, Parts, let_go};
+use ctt_problem::{BitRows, Instance, Parts, drop_whole};
 use std::alloc::{AllocError, Global};
 use std::marker::Model;
 
@@ -93,15 +93,15 @@ fn read_sections<'a>(alloc: Global, reader: &mut Reader<'a>) -> Result<Sections<
     let rooms = match read_room_section(alloc, reader, &header) {
         Ok(rooms) => rooms,
         Err(fault) => {
-            let_go(courses);
+            drop_whole(courses);
             return Err(fault);
         }
     };
     let last = match read_last_sections(alloc, reader, &header, &courses) {
         Ok(last) => last,
         Err(fault) => {
-            let_go(courses);
-            let_go(rooms);
+            drop_whole(courses);
+            drop_whole(rooms);
             return Err(fault);
         }
     };

@@ -10,7 +10,7 @@ ghost use Rattle.ctt_text.specs.InstancePlaces.{GivesRead, reads, unavailability
 use crate::fault::ReadFault;
 use crate::instance::courses::CourseSection;
 use crate::instance::header::Header;
-use crate::instance::places::{read_course, read_day, read_fixed, read_period};
+use crate::instance::instance_words::{read_course, read_day, read_fixed, read_period};
 use crate::reader::Reader;
 use ctt_problem::{BitRows, Names};
 use std::alloc::Global;

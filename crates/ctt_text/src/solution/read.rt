@@ -14,10 +14,10 @@ ghost use Rattle.ctt_text.specs.declared.fault.SolutionFault.{SolutionFault};
 ghost use Rattle.ctt_text.specs.declared.fault.SolutionFault.TheVariants.{NotText, NoMemory};
 
 use crate::fault::SolutionFault;
-use crate::places::{next_course, next_day, next_room};
 use crate::reader::Reader;
+use crate::solution::free_slot::read_slot;
 use crate::solution::lectures::Lectures;
-use crate::solution::places::read_slot;
+use crate::word_parsers::{next_course, next_day, next_room};
 use ctt_problem::{Instance, Placed};
 use std::alloc::Global;
 
@@ -28,14 +28,16 @@ fn read_entry(
     instance: &Instance,
     lectures: &mut Lectures,
 ) -> Result<(), SolutionFault>
-    ensures { GivesLectures (λ _. (lectures.new, reader.new)) result
-        (reads_lectures (entry instance.now lectures.old) reader.old) }
+    requires { lectures.old.problem ≡ instance.now }
+    ensures problem { lectures.new.problem ≡ lectures.old.problem }
+    ensures exact { GivesLectures (λ _. (lectures.new.list, reader.new)) result
+        (reads_lectures (entry instance.now lectures.old.list) reader.old) }
 {
     let course = next_course::<SolutionFault>(reader, instance)?;
     let room = next_room::<SolutionFault>(reader, instance)?;
     let day = next_day::<SolutionFault>(reader, instance)?;
     let slot = read_slot(reader, instance, lectures, course, day)?;
-    lectures.add(Placed { course, slot, room })?;
+    lectures.add(Placed { course, slot, room });
     Ok(())
 }
 
@@ -48,7 +50,7 @@ fn read_lectures(
     ensures { GivesLectures (λ list. (list.items, reader.new)) result
         (reads_lectures (solution instance.now reader.old.words) reader.old) }
 {
-    let mut lectures = Lectures::new(alloc);
+    let mut lectures = Lectures::new(alloc, instance)?;
     while !reader.is_at_end() {
         read_entry(reader, instance, &mut lectures)?;
     }

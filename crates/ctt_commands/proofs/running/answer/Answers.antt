@@ -1,10 +1,28 @@
-use Rattle.std.proofs.Common.{⊎_elim, ap, inl, inr, Err}
+use Rattle.std.proofs.Common.{rules, ⊎_elim, ap, inl, inr, subst, sym, Err}
+use Rattle.std.proofs.Crossing.{crosses}
+use denote.Param.Send.{sendable}
 use Rattle.ctt_problem.proofs.ResultLemmas.{err_same}
-use Rattle.ctt_commands.proofs.Openings.{answer_refused, run_fits}
+use Rattle.ctt_problem.proofs.SharingLemmas.{instance_shared}
+use Rattle.ctt_script.specs.Entries.{IsWritable}
+use Rattle.ctt_commands.proofs.Openings.{answer_refused, answered_all, run_fits}
 use Rattle.ctt_commands.proofs.running.answer.Goals as goal
+
+pub journal-requires : goal.journal-requires
+journal-requires g c κs = (search (instance_shared, sendable, crosses) depth 60 fits 20000, (search (instance_shared, sendable, crosses) depth 60 fits 20000, search rules))
+
+pub journal_if-journal-requires : goal.journal_if-journal-requires
+journal_if-journal-requires g c = subst (IsWritable c.args.instance.now) (sym c.journal.ensures) c.in-Ok.ensures.entries
 
 pub fault_of_run-requires : goal.fault_of_run-requires
 fault_of_run-requires g c = run_fits c.args.instance.now c.args.lectures.now (g.R.Source.left c.args.script.now) c.in-Err.fault c.requires.fit c.in-Err.ensures.cause
+
+pub returns-in_ok-journal-in-Ok-clause-answers : goal.returns-in_ok-journal-in-Ok-clause-answers
+returns-in_ok-journal-in-Ok-clause-answers g c = (
+  c.in-Ok.desk.opening,
+  c.in-Ok.ensures.opening,
+  answered_all (g.R.Source.left c.args.script.now) c.args.instance.now c.in-Ok.desk c.in-Ok.desk.opening _ _ c.args.wanted _ c.journal.result.now
+      c.in-Ok.ensures.answers c.in-Ok.ensures.stands c.in-Ok.ensures.short c.journal.ensures c.in_ok-journal-in-Ok.ensures,
+)
 
 pub returns-in-Err-clause-cause : goal.returns-in-Err-clause-cause
 returns-in-Err-clause-cause g c =

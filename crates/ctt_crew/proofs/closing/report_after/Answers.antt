@@ -1,4 +1,4 @@
-use Rattle.std.proofs.Common.{List, subst, map, string_bytes}
+use Rattle.std.proofs.Common.{List, subst}
 use Rattle.ctt_desk.specs.Planners.{PlannerValue}
 use Rattle.ctt_seat.specs.Attended.{HoldsSeen}
 use Rattle.ctt_crew.proofs.closing.report_after.Goals as goal

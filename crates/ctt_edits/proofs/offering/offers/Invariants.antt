@@ -1,5 +1,4 @@
-use Rattle.std.proofs.Common.{◌≡◌, ◌≤◌, ◌++◌, map}
-use Rattle.ctt_problem.specs.Problem.{slot_count}
+use Rattle.std.proofs.Common.{◌≡◌, ◌++◌, map}
 use Rattle.ctt_edits.specs.Candidates.{from_to}
 use Rattle.ctt_edits.specs.Offers.{slot_offer, offers}
 use Rattle.ctt_edits.proofs.offering.offers.Given as goal

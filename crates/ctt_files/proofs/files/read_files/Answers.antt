@@ -3,7 +3,8 @@ use Rattle.std.specs.String.{string_bytes}
 use Rattle.std.specs.Vec.Iter.{into_iter_items, into_iter_len}
 use Rattle.ctt_files.specs.Refusals.{IsOfFile, IsOfFiles}
 use Rattle.ctt_files.specs.Texts.{Held}
-use Rattle.ctt_files.specs.declared.fault.Fault.TheVariants.{NoMemory}
+use Rattle.ctt_files.specs.declared.fault.Fault.TheVariants.{Machine}
+use Rattle.ctt_files.specs.declared.fault.MachineFault.TheVariants.{NoMemory}
 use Rattle.ctt_files.proofs.Plain.{passed_on}
 use Rattle.ctt_files.proofs.InTurn.{IsRead, all_counted, all_read, memory_of_files, next_is_among, none_read, one_more_read}
 use Rattle.ctt_files.proofs.files.read_files.Goals as goal
@@ -51,9 +52,9 @@ returns-clause-each g c =
 pub returns-in_err-texts-clause-cause : goal.returns-in_err-texts-clause-cause
 returns-in_err-texts-clause-cause g c =
     let held : Held = g.F.Files.held c.args.files.now in
-    passed_on c.from_residual.result NoMemory (IsOfFiles c.args.names.items held) c.from_residual.ensures.1 (memory_of_files c.args.names.items held)
+    passed_on c.from_residual.result (Machine NoMemory) (IsOfFiles c.args.names.items held) c.from_residual.ensures.1 (memory_of_files c.args.names.items held)
 
 pub returns-in_err-push-clause-cause : goal.returns-in_err-push-clause-cause
 returns-in_err-push-clause-cause g c =
     let held : Held = g.F.Files.held c.args.files.now in
-    passed_on c.from_residual-in_err-push.result NoMemory (IsOfFiles c.args.names.items held) c.from_residual-in_err-push.ensures.1 (memory_of_files c.args.names.items held)
+    passed_on c.from_residual-in_err-push.result (Machine NoMemory) (IsOfFiles c.args.names.items held) c.from_residual-in_err-push.ensures.1 (memory_of_files c.args.names.items held)

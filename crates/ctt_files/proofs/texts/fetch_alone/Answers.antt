@@ -1,25 +1,39 @@
-use Rattle.std.proofs.Common.{◌∙◌, inl, subst}
+use Rattle.std.proofs.Common.{◌≡◌, ◌∙◌, inl, refl, subst, sym}
+use Rattle.std.specs.String.{string_bytes}
 use Rattle.std.proofs.lemmas.Option.{IfSome_then}
 use Rattle.ctt_text.specs.InstanceLaws.{IsCauseOf}
-use Rattle.ctt_files.specs.Faults.{fault_of_instance}
+use Rattle.ctt_files.specs.Faults.{IsInstanceFault}
 use Rattle.ctt_files.specs.Refusals.{IsNoText, IsOfInstance}
 use Rattle.ctt_files.specs.Texts.{IsInstanceText, IsNoInstance}
+use Rattle.ctt_files.specs.declared.fault.Fault.TheVariants.{Machine}
+use Rattle.ctt_files.specs.declared.fault.MachineFault.TheVariants.{NoMemory}
 use Rattle.ctt_files.proofs.Causes.{no_instance}
-use Rattle.ctt_files.proofs.Plain.{of_text, passed_on}
+use Rattle.ctt_files.proofs.Plain.{memory_of_file, of_text, passed_on}
 use Rattle.ctt_files.proofs.texts.fetch_alone.Goals as goal
 
-pub returns-clause-spelled : goal.returns-clause-spelled
-returns-clause-spelled g c =
-    IfSome_then _ c.in_ok-text.ensures.all (λ text same. subst (λ bytes. IsInstanceText bytes c.in_ok-read_instance.field-0) (c.deref.ensures.value ∙ same) (record {
-      is_text = c.in_ok-read_instance.ensures.text;
-      spells = c.in_ok-read_instance.ensures.spelled;
+pub returns-in-Ok-clause-spelled : goal.returns-in-Ok-clause-spelled
+returns-in-Ok-clause-spelled g c =
+    IfSome_then _ c.in_ok-text.ensures.all (λ text same. subst (λ bytes. IsInstanceText bytes c.in-Ok.instance) (c.deref.ensures.value ∙ same) (record {
+      is_text = c.in-Ok.ensures.text;
+      spells = c.in-Ok.ensures.spelled;
     }))
+
+pub returns-clause-cause : goal.returns-clause-cause
+returns-clause-cause g c =
+    let held = g.F.Files.held c.args.files.now in
+    let name = c.args.name in
+    let bytes = c.deref.result.now in
+    let file : c.deref-in-Err.result.now ≡ string_bytes name = c.deref-in-Err.ensures ∙ c.in_ok-file.ensures.cases in
+    let text : c.deref-in-Err-2.result.now ≡ bytes = c.deref-in-Err-2.ensures.value ∙ sym c.deref.ensures.value in
+    let tells : IsInstanceFault (string_bytes name) bytes c.in-Err.met c.refuse_instance.result = rw (file, text) at c.refuse_instance.ensures in
+    of_text (IsNoText (IsInstanceFault (string_bytes name)) IsCauseOf IsNoInstance) held name c.refuse_instance.result bytes c.in_ok-text.text.items
+    (no_instance (string_bytes name) c.in-Err.met bytes c.refuse_instance.result c.in-Err.ensures.fault c.in-Err.ensures.accepted tells) c.deref.ensures.value c.in_ok-text.ensures.all
+
+pub returns-in_err-file-clause-cause : goal.returns-in_err-file-clause-cause
+returns-in_err-file-clause-cause g c =
+    let held = g.F.Files.held c.args.files.now in
+    passed_on c.from_residual.result (Machine NoMemory) (IsOfInstance held c.args.name) c.from_residual.ensures.1 (inl (memory_of_file held c.args.name (Machine NoMemory) refl))
 
 pub returns-in_err-text-clause-cause : goal.returns-in_err-text-clause-cause
 returns-in_err-text-clause-cause g c =
-    passed_on c.from_residual.result c.in_err-text.field-0.0 (IsOfInstance (g.F.Files.held c.args.files.now) c.args.name) c.from_residual.ensures.1 (inl c.in_err-text.ensures.cause)
-
-pub returns-in_err-read_instance-clause-cause : goal.returns-in_err-read_instance-clause-cause
-returns-in_err-read_instance-clause-cause g c =
-    of_text c.from_residual-in_err-read_instance.result fault_of_instance c.in_err-read_instance.field-0.0 (IsNoText fault_of_instance IsCauseOf IsNoInstance) (g.F.Files.held c.args.files.now) c.args.name c.deref.result.now c.in_ok-text.text.items
-    c.from_residual-in_err-read_instance.ensures.1 (no_instance c.in_err-read_instance.field-0.0 c.deref.result.now c.in_err-read_instance.ensures.fault c.in_err-read_instance.ensures.accepted) c.deref.ensures.value c.in_ok-text.ensures.all
+    passed_on c.from_residual-in_err-text.result c.in_err-text.field-0.0 (IsOfInstance (g.F.Files.held c.args.files.now) c.args.name) c.from_residual-in_err-text.ensures.1 (inl c.in_err-text.ensures.cause)

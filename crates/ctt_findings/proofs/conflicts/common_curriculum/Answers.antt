@@ -3,11 +3,11 @@ use Rattle.ctt_problem.specs.Lists.{has}
 use Rattle.ctt_problem.specs.Problem.{curriculum_count, members}
 use Rattle.std.specs.List.{find}
 use Rattle.std.specs.Option.{unwrap_or}
-use Rattle.ctt_findings.proofs.ConflictLemmas.{found_here, goes_on, mates_of, none_found, not_found}
+use Rattle.ctt_findings.proofs.ConflictLemmas.{found_here, goes_on}
 use Rattle.ctt_findings.proofs.conflicts.common_curriculum.Goals as goal
 
-pub returns-then-contains-clause-least : goal.returns-then-contains-clause-least
-returns-then-contains-clause-least c =
+pub returns-then-contains : goal.returns-then-contains
+returns-then-contains c =
     let i = c.args.instance.now in
     let both : ℕ → Bool = λ q. has c.args.other (members i q) in
     let passes : both c.curriculum-item.result ≡ true = search rules in
@@ -20,10 +20,3 @@ loop-curriculum-preserved c =
     let both : ℕ → Bool = λ q. has c.args.other (members i q) in
     let fails : both c.curriculum-item.result ≡ false = search rules in
     goes_on both c.curricula_of-curriculum-items.result.now c.loop-curriculum.curriculum-index c.loop-curriculum.invariant c.curriculum-item.result c.loop-curriculum-test.true c.curriculum-item.is fails
-
-pub returns-clause-within : goal.returns-clause-within
-returns-clause-within c mates =
-    let i = c.args.instance.now in
-    let both : ℕ → Bool = λ q. has c.args.other (members i q) in
-    let none = not_found both c.curricula_of-curriculum-items.result.now c.loop-curriculum.curriculum-index c.loop-curriculum.invariant c.loop-curriculum-test.false in
-    absurd (none_found both c.curricula_of-curriculum-items.result.now none (rw c.curricula_of-curriculum-items.ensures.exact (sym (mates_of i c.args.course c.args.other) ∙ mates)))

@@ -1,4 +1,4 @@
-use Rattle.ctt_office.proofs.PagesLemmas.{is_recorded}
+use Rattle.ctt_office.proofs.RecordedLemmas.{is_recorded}
 use Rattle.ctt_office.proofs.closing.close.Goals as goal
 
 pub returns-clause-recorded : goal.returns-clause-recorded

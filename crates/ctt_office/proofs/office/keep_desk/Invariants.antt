@@ -1,4 +1,4 @@
-use Rattle.ctt_office.specs.Pages.{taken_by}
+use Rattle.ctt_office.specs.Recorded.{taken_by}
 use Rattle.ctt_office.proofs.office.keep_desk.Given as goal
 
 -- the desk is named by its opening

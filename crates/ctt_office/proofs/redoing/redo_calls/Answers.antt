@@ -2,7 +2,7 @@ use Rattle.std.proofs.Common.{◌≡◌, ◌∙◌, ◌++◌, [], ap, refl, rule
 use Rattle.std.proofs.lemmas.Result.{on_ok_weaker}
 use Rattle.std.specs.List.{AllByRecursion as Each}
 use Rattle.ctt_core.specs.declared.answer.Answer.TheVariants.{NoMemory}
-use Rattle.ctt_seat.specs.declared.seat.Told.TheVariants.{Answer as Answered}
+use Rattle.ctt_seat.specs.declared.seat.SeatAnswer.TheVariants.{Answer as Answered}
 use Rattle.ctt_desk.specs.Planners.{IsOpen}
 use Rattle.ctt_draft.specs.Drafts.{AskedFits}
 use Rattle.ctt_office.specs.SeatAnswers.{told_line}

@@ -4,5 +4,5 @@ use Rattle.ctt_office.proofs.sitting.sit_down.Goals as goal
 
 pub open_and_sit-planner-requires : goal.open_and_sit-planner-requires
 open_and_sit-planner-requires g c κs =
-    let fits : EndedFits c.args.station.instance.now c.new-place.result.ended = subst (EndedFits c.args.station.instance.now) (sym c.new-place.ensures.ended) tt in
+    let fits : EndedFits c.args.task.instance.now c.new-place.result.ended = subst (EndedFits c.args.task.instance.now) (sym c.new-place.ensures.ended) tt in
     search rules

@@ -1,6 +1,6 @@
 use Rattle.std.proofs.Common.{◌<◌, length, inl, inr, subst, sym, ⊎_elim}
 use Rattle.ctt_office.specs.OfficeFaults.{IsOfficeFault}
-use Rattle.ctt_program.specs.Refusals.{IsToldOf, IsUnreadAt}
+use Rattle.ctt_program.specs.Desks.{IsToldOf, IsUnreadAt}
 use Rattle.ctt_program.proofs.Offices.{of_unread, unread_in, unread_of}
 use Rattle.ctt_program.proofs.desk.fault_of_office.Goals as goal
 

@@ -1,40 +1,48 @@
-use Rattle.std.proofs.Common.{◌≡◌, ◌∙◌, refl, sym, false}
-use Rattle.ctt_files.proofs.Plain.{on_ok_weaker, passed_on}
-use Rattle.ctt_program.specs.Jobs.{streams}
-use Rattle.ctt_program.proofs.Delivered.{both_on, differs_answer, does_printed, none_changed, none_stored, quiet_answer, says_aside, so_ok, job_written}
+use Rattle.std.proofs.Common.{refl, subst, sym, IfErr, OnOk}
+use Rattle.std.proofs.lemmas.Result.{IfErr-weaker, IfOk-weaker}
+use Rattle.ctt_program.specs.Desks.{DoesDesk, StopsDesk}
+use Rattle.ctt_program.specs.Jobs.{Does, Stops}
+use Rattle.ctt_program.specs.Streams.{stream}
+use Rattle.ctt_program.specs.declared.desk.DeskJob.{DeskJob}
+use Rattle.ctt_program.proofs.Ends.{desk_does, run_does, run_stops}
 use Rattle.ctt_program.proofs.jobs.do_job.Goals as goal
 
-pub returns-in_err-printed-clause-cause : goal.returns-in_err-printed-clause-cause
-returns-in_err-printed-clause-cause g c =
-    passed_on c.from_residual.result c.in_err-printed.field-0.0 _ c.from_residual.ensures.1
-    (job_written c.args.job (g.F.Files.held c.args.files.now) c.in_err-printed.field-0.0 _ _ c.in_err-printed.ensures.cause refl)
+pub returns-in-Answer-clause-does : goal.returns-in-Answer-clause-does
+returns-in-Answer-clause-does g c = IfOk-weaker c.do_command.result _ _ (λ outcome does. subst (λ job. Does job outcome (g.F.Files.held c.args.files.now) (g.F.Files.held c.do_command.new.files) (stream g.W.Sink.taken g.W.Sink.has_failed c.args.out.now c.do_command.new.out) (stream g.V.Sink.taken g.V.Sink.has_failed c.args.err.now c.do_command.new.err))
+    (sym c.in-Answer.is) does) c.do_command.ensures.does
 
-pub returns-clause-done : goal.returns-clause-done
-returns-clause-done g c =
-    let job = c.args.job in
-    let held = g.F.Files.held c.args.files.now in
-    let p = c.in_ok-printed.printed in
-    let whole : streams job ≡ false = sym c.streams.ensures ∙ c.if-streams.false in
-    let none = none_stored job held p c.in_ok-printed.ensures.answers in
-    so_ok c.deliver.result _ _ _ c.deliver.ensures.outcome (both_on c.deliver.result _ _ c.deliver.ensures.prints c.deliver.ensures.stores)
-    (λ outcome ends all. does_printed job outcome held _ _ _ p whole c.in_ok-printed.ensures.answers (none_changed p.store _ _ none all.1 ∙ c.in_ok-printed.ensures.kept) ends all.0)
+pub returns-in-Answer-clause-stops : goal.returns-in-Answer-clause-stops
+returns-in-Answer-clause-stops g c = IfErr-weaker c.do_command.result _ _ (λ fault stops. subst (λ job. Stops job fault (g.F.Files.held c.args.files.now) (g.F.Files.held c.do_command.new.files) (stream g.W.Sink.taken g.W.Sink.has_failed c.args.out.now c.do_command.new.out) (stream g.V.Sink.taken g.V.Sink.has_failed c.args.err.now c.do_command.new.err))
+    (sym c.in-Answer.is) stops) c.do_command.ensures.stops
 
-pub returns-clause-says : goal.returns-clause-says
-returns-clause-says g c =
-    let job = c.args.job in
-    on_ok_weaker c.deliver.result _ _
-    (λ all. says_aside g.V.Sink.taken g.V.Sink.has_failed job (g.F.Files.held c.args.files.now) c.in_ok-printed.printed c.args.err.now c.deliver.new.err c.in_ok-printed.ensures.answers all.0 all.1)
-    (both_on c.deliver.result _ _ c.deliver.ensures.says c.deliver.ensures.quiet)
+pub returns-in-Run-clause-does : goal.returns-in-Run-clause-does
+returns-in-Run-clause-does g c = IfOk-weaker c.run.result _ _ (λ outcome does. subst (λ job. Does job outcome (g.F.Files.held c.args.files.now) (g.F.Files.held c.run.new.files) (stream g.W.Sink.taken g.W.Sink.has_failed c.args.out.now c.run.new.out) (stream g.V.Sink.taken g.V.Sink.has_failed c.args.err.now c.args.err.now))
+    (sym c.in-Run.is) does) (run_does c.run.result _ c.args.err.now c.run.ensures.done c.run.ensures.runs)
 
-pub returns-clause-quiet : goal.returns-clause-quiet
-returns-clause-quiet g c =
-    let job = c.args.job in
-    so_ok c.deliver.result _ _ _ c.deliver.ensures.outcome c.deliver.ensures.quiet
-    (λ outcome ends quiet. quiet_answer job (g.F.Files.held c.args.files.now) c.in_ok-printed.printed outcome c.args.err.now c.deliver.new.err c.in_ok-printed.ensures.answers ends quiet)
+pub returns-in-Run-clause-stops : goal.returns-in-Run-clause-stops
+returns-in-Run-clause-stops g c =
+    let before = g.F.Files.held c.args.files.now in
+    let after = g.F.Files.held c.run.new.files in
+    let out = stream g.W.Sink.taken g.W.Sink.has_failed c.args.out.now c.run.new.out in
+    let err = stream g.V.Sink.taken g.V.Sink.has_failed c.args.err.now c.args.err.now in
+    IfErr-weaker c.run.result _ _ (λ fault stops. subst (λ job. Stops job fault before after out err) (sym c.in-Run.is) stops)
+    (run_stops c.run.result c.in-Run.instance c.in-Run.sides c.in-Run.script c.in-Run.start c.in-Run.journal before after out err c.run.ensures.cause c.run.ensures.unwritten c.run.ensures.unstored c.run.ensures.others refl)
 
-pub returns-clause-differs : goal.returns-clause-differs
-returns-clause-differs g c =
-    let job = c.args.job in
-    so_ok c.deliver.result _ _ _ c.deliver.ensures.outcome (both_on c.deliver.result _ _ c.deliver.ensures.prints (both_on c.deliver.result _ _ c.deliver.ensures.says c.deliver.ensures.quiet))
-    (λ outcome ends all. differs_answer g.V.Sink.taken g.V.Sink.has_failed job (g.F.Files.held c.args.files.now) c.in_ok-printed.printed outcome _ _ c.args.err.now c.deliver.new.err
-    c.in_ok-printed.ensures.answers ends all.0 all.1.0 all.1.1)
+pub returns-in-Desk-clause-does : goal.returns-in-Desk-clause-does
+returns-in-Desk-clause-does g c =
+    let before = g.F.Files.held c.args.files.now in
+    let after = g.F.Files.held c.desk.new.files in
+    let out = stream g.W.Sink.taken g.W.Sink.has_failed c.args.out.now c.desk.new.out in
+    let err = stream g.V.Sink.taken g.V.Sink.has_failed c.args.err.now c.desk.new.err in
+    IfOk-weaker c.desk.result _ _ (λ outcome does. subst (λ job. Does job outcome before after out err) (sym c.in-Desk.is) does)
+    (desk_does c.desk.result c.in-Desk.instance c.in-Desk.sides (record { seats = c.in-Desk.seats; start = c.in-Desk.start; minutes = c.in-Desk.minutes }) before after out err c.desk.ensures.done
+    (subst (λ (j : DeskJob). OnOk c.desk.result (DoesDesk j.instance j.sides j.plan before after out err)) c.new-asked.ensures c.desk.ensures.does))
+
+pub returns-in-Desk-clause-stops : goal.returns-in-Desk-clause-stops
+returns-in-Desk-clause-stops g c =
+    let before = g.F.Files.held c.args.files.now in
+    let after = g.F.Files.held c.desk.new.files in
+    let out = stream g.W.Sink.taken g.W.Sink.has_failed c.args.out.now c.desk.new.out in
+    let err = stream g.V.Sink.taken g.V.Sink.has_failed c.args.err.now c.desk.new.err in
+    IfErr-weaker c.desk.result _ _ (λ fault stops. subst (λ job. Stops job fault before after out err) (sym c.in-Desk.is) stops)
+    (subst (λ (j : DeskJob). IfErr c.desk.result (λ fault. StopsDesk j.instance j.sides j.plan fault before after out err)) c.new-asked.ensures c.desk.ensures.stops)

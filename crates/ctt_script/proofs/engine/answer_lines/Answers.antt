@@ -2,7 +2,7 @@ use Rattle.std.proofs.Common.{rules, ◌≡◌, ◌∷◌, [], ◌∙◌, List, 
 use Rattle.std.specs.Io.KnownBytes.{Appends}
 use Rattle.std.proofs.KnownBytes.{Appends-nil}
 use Rattle.ctt_core.specs.Desks.{DeskValue}
-use Rattle.ctt_script.specs.Answering.{Answered, Answering, IsAtRun, Wrote, WroteFront}
+use Rattle.ctt_script.specs.Answering.{PlaysItems, Answering, IsAtRun, Wrote, WroteFront}
 use Rattle.ctt_files.specs.Output.{AppendsFront}
 use Rattle.ctt_script.specs.ScriptText.{lines_of, items_of}
 use Rattle.ctt_script.proofs.AnsweringLemmas.{begins, all_written, one_more_line, more_written, front_written, still_at_run}
@@ -44,7 +44,7 @@ loop-line-preserved g c =
     let before : Option (List ℕ) = g.W.Sink.taken c.args.writer.now in
     let taken : Option (List ℕ) = g.W.Sink.taken c.loop-line.writer in
     let step : c.loop-line.line-iterator ≡ c.in-Some.line.now ∷ c.next.new.self = search rules in
-    let more : Answered c.loop-line.desk c.answer_line.new.desk (string_bytes c.loop-line.answers) (string_bytes c.answer_line.new.answers) (items_of v.problem (c.in-Some.line.now ∷ [])) = rw c.requires.same c.in_ok-answer_line.ensures in
+    let more : PlaysItems c.loop-line.desk c.answer_line.new.desk (string_bytes c.loop-line.answers) (string_bytes c.answer_line.new.answers) (items_of v.problem (c.in-Some.line.now ∷ [])) = rw c.requires.same c.in_ok-answer_line.ensures in
     let next : Answering v c.answer_line.new.desk all c.next.new.self before taken (string_bytes c.answer_line.new.answers) = one_more_line v all before c.loop-line.desk c.answer_line.new.desk taken c.in-Some.line.now c.loop-line.line-iterator c.next.new.self (string_bytes c.loop-line.answers) (string_bytes c.answer_line.new.answers) step c.loop-line.invariant.answering more in
     record {
       answering = more_written v all before c.answer_line.new.desk c.next.new.self taken (g.W.Sink.taken c.put_long.new.writer) (string_bytes c.answer_line.new.answers) next (string_bytes c.put_long.new.text) c.in_ok-put_long.ensures.written;
@@ -58,7 +58,7 @@ returns-in_err-put_long-clause-part g c =
     let before : Option (List ℕ) = g.W.Sink.taken c.args.writer.now in
     let taken : Option (List ℕ) = g.W.Sink.taken c.loop-line.writer in
     let step : c.loop-line.line-iterator ≡ c.in-Some.line.now ∷ c.next.new.self = search rules in
-    let more : Answered c.loop-line.desk c.answer_line.new.desk (string_bytes c.loop-line.answers) (string_bytes c.answer_line.new.answers) (items_of v.problem (c.in-Some.line.now ∷ [])) = rw c.requires.same c.in_ok-answer_line.ensures in
+    let more : PlaysItems c.loop-line.desk c.answer_line.new.desk (string_bytes c.loop-line.answers) (string_bytes c.answer_line.new.answers) (items_of v.problem (c.in-Some.line.now ∷ [])) = rw c.requires.same c.in_ok-answer_line.ensures in
     let next : Answering v c.answer_line.new.desk all c.next.new.self before taken (string_bytes c.answer_line.new.answers) = one_more_line v all before c.loop-line.desk c.answer_line.new.desk taken c.in-Some.line.now c.loop-line.line-iterator c.next.new.self (string_bytes c.loop-line.answers) (string_bytes c.answer_line.new.answers) step c.loop-line.invariant.answering more in
     on_err c.from_residual-in_err-put_long.result (subst (λ i. WroteFront v (items_of i all) before (g.W.Sink.taken c.put_long.new.writer)) c.requires.same
     (front_written v all before c.answer_line.new.desk c.next.new.self taken (g.W.Sink.taken c.put_long.new.writer) (string_bytes c.answer_line.new.answers) next c.in_err-put_long.ensures.front))

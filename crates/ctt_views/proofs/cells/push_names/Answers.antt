@@ -3,4 +3,4 @@ use Rattle.ctt_views.proofs.cells.push_names.Goals as goal
 
 pub returns : goal.returns
 unfolding names_text
-returns c = rw (c.course_name.ensures, c.room_name.ensures) at c.write.ensures.bytes
+returns c = rw (c.get-colour.ensures, c.link-course.ensures, c.link-room.ensures) at c.write.ensures.bytes

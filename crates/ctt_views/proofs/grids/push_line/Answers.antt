@@ -8,6 +8,6 @@ use Rattle.ctt_views.proofs.grids.push_line.Goals as goal
 pub returns : goal.returns
 unfolding line
 returns c =
-    three_in c.push_str.result (string_bytes c.args.page.now) (string_bytes c.write.new.self) (string_bytes c.push_cells.new.page) (string_bytes c.push_str.new.self)
-    (line_start c.args.period) (each_below (λ d. cell c.args.instance.now c.args.week.now c.args.grid.now (slot_of c.args.instance.now d c.args.period)) c.args.instance.now.days) (codes "</tr>\n")
-    (rw c.from.ensures at c.in_ok-write.ensures.bytes) c.in_ok-push_cells.ensures (on_ok c.push_str.result (string_bytes c.push_cells.new.page) (string_bytes c.push_str.new.self) (codes "</tr>\n") c.push_str.ensures.bytes)
+    three_in c.push_str.result (string_bytes c.args.page.now) (string_bytes c.push_line_start.new.page) (string_bytes c.push_cells.new.page) (string_bytes c.push_str.new.self)
+    (line_start c.args.period) (each_below (λ d. cell c.args.instance.now c.args.week.now c.args.view.now c.args.grid.now (slot_of c.args.instance.now d c.args.period)) c.args.instance.now.days) (codes "</tr>\n")
+    c.in_ok-push_line_start.ensures c.in_ok-push_cells.ensures (on_ok c.push_str.result (string_bytes c.push_cells.new.page) (string_bytes c.push_str.new.self) (codes "</tr>\n") c.push_str.ensures.bytes)

@@ -8,6 +8,7 @@ pub loop-number-preserved : goal.loop-number-preserved
 loop-number-preserved c =
     let i = c.args.instance.now in
     let w = c.args.week.now in
+    let v = c.args.view.now in
     let names = c.args.names.now in
-    goes_on (λ n. grid_text i w names (grid_of c.args.part.now n)) c.loop-number.number (string_bytes c.args.page.now) (string_bytes c.loop-number.page) (string_bytes c.push_grid.new.page) (grid_text i w names c.grid_of-grid.result)
-    c.loop-number.invariant c.in_ok-push_grid.ensures (ap (grid_text i w names) c.grid_of-grid.ensures.grid)
+    goes_on (λ n. grid_text i w v names (grid_of c.args.kind.now n)) c.loop-number.number (string_bytes c.args.page.now) (string_bytes c.loop-number.page) (string_bytes c.push_grid.new.page) (grid_text i w v names c.grid_of-grid.result)
+    c.loop-number.invariant c.in_ok-push_grid.ensures (ap (grid_text i w v names) c.grid_of-grid.ensures.grid)

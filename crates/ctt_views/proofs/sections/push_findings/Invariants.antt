@@ -1,6 +1,6 @@
 use Rattle.std.proofs.Common.{◌≡◌, ◌++◌, flat_map, string_bytes, take}
-use Rattle.ctt_views.specs.Sections.{finding_item}
+use Rattle.ctt_views.specs.Items.{finding_item}
 use Rattle.ctt_views.proofs.sections.push_findings.Given as goal
 
 abbrev pub invariant-loop-finding : goal.invariant-loop-finding
-invariant-loop-finding l = string_bytes l.page ≡ string_bytes l.initial.page ++ flat_map (finding_item l.instance l.days) (take l.finding-index l.found)
+invariant-loop-finding l = string_bytes l.page ≡ string_bytes l.initial.page ++ flat_map (finding_item l.instance l.view l.days) (take l.finding-index l.found)

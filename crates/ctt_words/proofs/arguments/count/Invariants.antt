@@ -1,6 +1,6 @@
 use Rattle.std.proofs.Common.{◌≡◌, ◌≤◌, ◌+◌, drop, map}
 use Rattle.clap.specs.Words.{first_of, found_of, rows_of}
-use Rattle.ctt_words.specs.Jobs.{count_given}
+use Rattle.ctt_words.specs.Matched.{count_given}
 use Rattle.ctt_words.proofs.arguments.count.Given as goal
 
 -- the options counted so far, and those that are left, are all

@@ -1,24 +1,20 @@
-use Rattle.std.proofs.Common.{◌≡◌, ◌∙◌, ◌++◌, ap, sym, is_some, List, map, option_map, Bor, ℕ, Option, Some, string_bytes}
+use Rattle.std.proofs.Common.{◌≡◌, ◌∙◌, ◌++◌, ap, sym, List, map, option_map, Bor, ℕ, Option, Some, string_bytes}
 use Rattle.std.proofs.lemmas.List.{append-nil, drop_all}
-use Rattle.clap.specs.Words.{found_of, matched_of, raw_values, rows_of}
+use Rattle.clap.specs.Words.{all_of, found_of, rows_of}
 use Rattle.clap.proofs.CallerLemmas.{some_of_text}
-use Rattle.clap.proofs.WalkLemmas.{raw_values-rows}
 use Rattle.ctt_words.proofs.Given.{all_are_given, has_all}
 use Rattle.ctt_words.proofs.arguments.texts.Goals as goal
 
 pub unwrap-found-requires : goal.unwrap-found-requires
 unwrap-found-requires c =
-    let found = found_of c.args.given.now in
-    some_of_text (λ (s : Bor (List (Bor (List ℕ)))). map (λ v. v.now) s.now) c.get_strs.result (option_map raw_values (matched_of found c.args.id.now)) c.get_strs.ensures
-    (ap is_some (raw_values-rows found c.args.id.now) ∙ all_are_given c.args.id.now (rows_of found) c.requires)
+    let rows = rows_of (found_of c.args.given.now) in
+    some_of_text (λ (s : Bor (List (Bor (List ℕ)))). map (λ v. v.now) s.now) c.given_texts.result (all_of c.args.id.now rows) c.given_texts.ensures (all_are_given c.args.id.now rows c.requires)
 
 pub returns : goal.returns
 returns c =
-    let found = found_of c.args.given.now in
     let given : Option (Bor (List (Bor (List ℕ)))) → Option (List (List ℕ)) = option_map (λ s. map (λ v. v.now) s.now) in
     let texts = c.unwrap-found.result.now in
     let owned = map string_bytes c.loop-text.owned.items in
     let copied : owned ≡ map (λ text. text.now) texts = sym (append-nil owned)
     ∙ ap (λ left. owned ++ map (λ text. text.now) left) (sym (drop_all c.loop-text.text-index texts c.loop-text-test.false)) ∙ c.loop-text.invariant in
-    has_all c.args.id.now (rows_of found) c.loop-text.owned.items c.requires
-    (sym (raw_values-rows found c.args.id.now) ∙ sym c.get_strs.ensures ∙ ap given c.unwrap-found.ensures ∙ ap Some (sym copied))
+    has_all c.args.id.now (rows_of (found_of c.args.given.now)) c.loop-text.owned.items c.requires (sym c.given_texts.ensures ∙ ap given c.unwrap-found.ensures ∙ ap Some (sym copied))

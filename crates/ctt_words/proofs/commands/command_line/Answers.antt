@@ -1,11 +1,17 @@
-use Rattle.std.proofs.Common.{rules, subst}
-use Rattle.std.specs.Prelude.{IfOk}
-use Rattle.ctt_words.specs.CommandLine.{IsCommand, bare, timedesk, with_commands}
+use Rattle.std.proofs.Common.{◌≡◌, ◌∙◌, rules, ap₂}
+use Rattle.std.proofs.lemmas.Result.{IfOk-weaker}
+use Rattle.clap.specs.Words.{app_of}
+use Rattle.ctt_words.specs.CommandLine.{bare, timedesk, with_commands}
 use Rattle.ctt_words.proofs.commands.command_line.Goals as goal
 
-pub with_commands-requires : goal.with_commands-requires
-with_commands-requires c = record { reads_by = search rules; is_local = search rules }
+pub with_commands-requires-2 : goal.with_commands-requires-2
+with_commands-requires-2 c = c.in_ok-with_first.ensures.is_local
 
 pub returns : goal.returns
 unfolding timedesk
-returns c = subst (λ apps. IfOk c.with_commands.result (IsCommand (with_commands bare apps))) c.outlines.ensures.apps c.with_commands.ensures
+returns c =
+    let alone_is : app_of c.subcommand_required-alone.result ≡ bare = search rules in
+    IfOk-weaker c.with_commands-2.result _ _ (λ made is. record {
+      reads_by = is.reads_by ∙ ap₂ with_commands (c.in_ok-with_first.ensures.reads_by ∙ ap₂ with_commands alone_is c.solution_outlines.ensures.apps) c.desk_outlines.ensures.apps;
+      is_local = is.is_local;
+    }) c.with_commands-2.ensures

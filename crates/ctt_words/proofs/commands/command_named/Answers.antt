@@ -1,12 +1,10 @@
-use Rattle.std.proofs.Common.{◌≡◌, ◌∙◌, ap}
-use Rattle.ctt_words.specs.Outlines.{named, named_in}
-use Rattle.ctt_words.proofs.Matches.{named_so}
+use Rattle.std.proofs.Common.{◌∙◌, ap, ap₂, map, sym}
+use Rattle.ctt_words.specs.Outlines.{desk_commands, named_in, or_named, with_name}
 use Rattle.ctt_words.proofs.commands.command_named.Goals as goal
 
-pub returns-clause-known : goal.returns-clause-known
-returns-clause-known c = c.find.ensures ∙ ap (λ known. named_in known c.args.name.now) c.outlines.ensures.names
+pub returns-in-Some : goal.returns-in-Some
+returns-in-Some c = ap (λ first. or_named first (named_in (map with_name desk_commands) c.args.name.now)) (sym c.in-Some.is ∙ c.find.ensures ∙ ap (λ known. named_in known c.args.name.now) c.solution_outlines.ensures.names)
 
-pub returns-clause-name : goal.returns-clause-name
-returns-clause-name c =
-    let same : c.find.result ≡ named c.args.name.now = c.find.ensures ∙ ap (λ known. named_in known c.args.name.now) c.outlines.ensures.names in
-    named_so c.find.result c.args.name.now same
+pub returns-in-None : goal.returns-in-None
+returns-in-None c = c.find-in-None.ensures ∙ ap₂ (λ first known. or_named first (named_in known c.args.name.now))
+    (sym c.in-None.is ∙ c.find.ensures ∙ ap (λ known. named_in known c.args.name.now) c.solution_outlines.ensures.names) c.desk_outlines.ensures.names

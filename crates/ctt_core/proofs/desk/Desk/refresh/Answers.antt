@@ -5,7 +5,7 @@ use Rattle.ctt_core.proofs.desk.Desk.refresh.Goals as goal
 
 pub refresh-requires : goal.refresh-requires
 refresh-requires g c κs =
-    let same : g.S.Rooms.problem c.self.inside.sheet ≡ c.drafting.inside.draft.problem =
+    let same : g.S.Rooms.problem c.self.inside.sheet ≡ c.drafting.inside.draft.value.problem =
     c.self.invariant.same ∙ ap (λ (v : DeskValue). v.problem) c.self.view_is
     ∙ sym (draft_fits _ _ c.args.self.now c.args.planner _ _ _ (ap (λ (v : DeskValue). v.problem) c.self.view_is) (ap (λ (v : DeskValue). v.drafts) c.self.view_is) c.self.invariant.drafts_of c.requires c.get-place.ensures c.index_mut.ensures.value (c.in-Some.is ∙ ap Some (sym c.drafting.view_is))) in
     search rules

@@ -1,5 +1,5 @@
 use Rattle.std.proofs.Common.{rules, ◌≡◌, [], None, sym, subst}
-use Rattle.ctt_edits.specs.Calls.{reply, cells_of}
+use Rattle.ctt_edits.specs.Calls.{reply, cells_of_call}
 use Rattle.ctt_edits.specs.Edits.{EditFits, edit_fault, change}
 use Rattle.ctt_edits.specs.declared.call.Call.TheVariants.{Edit as Edits}
 use Rattle.ctt_edits.specs.declared.reply.Reply.TheVariants.{Refused}
@@ -22,7 +22,7 @@ make-requires g c κs =
 
 pub keep-requires : goal.keep-requires
 keep-requires g c κs =
-    let both : (Refused c.in-Err.fault ≡ reply c.args.self.now.problem (present c.args.self.now) (Edits c.args.edit.now)) × (cells_of c.args.self.now.problem (present c.args.self.now) (Edits c.args.edit.now) ≡ []) = refused _ _ _ _ _ _ c.in-Err.ensures.change c.present.ensures.problem c.present.ensures.list in
+    let both : (Refused c.in-Err.fault ≡ reply c.args.self.now.problem (present c.args.self.now) (Edits c.args.edit.now)) × (cells_of_call c.args.self.now.problem (present c.args.self.now) (Edits c.args.edit.now) ≡ []) = refused _ _ _ _ _ _ c.in-Err.ensures.change c.present.ensures.problem c.present.ensures.list in
     let told : Refused c.in-Err.fault ≡ reply c.args.self.now.problem (present c.args.self.now) (Edits c.args.edit.now) = both.0 in
     let still = both.1 in
     let fits = c.requires.fits in

@@ -1,4 +1,4 @@
-use Rattle.std.proofs.Common.{◌≡◌, ◌∙◌, ◌+◌, ◌<◌, ◌≤◌, Some, None, List, [], length, drop, take, arith, rules, sym, ap, subst}
+use Rattle.std.proofs.Common.{◌≡◌, ◌∙◌, ◌+◌, ◌<◌, ◌≤◌, Some, None, List, length, drop, take, arith, rules, sym, ap, subst}
 use Rattle.ctt_edits.specs.Edits.{EditFits}
 use Rattle.ctt_draft.specs.Drafts.{calls_of, changes}
 use Rattle.std.specs.Vec.{vec_len}

@@ -6,7 +6,7 @@ use Rattle.ctt_grid.proofs.grid_sheet.GridSheetTimetable.delta.Given as goal
 
 abbrev pub invariant-loop-number : goal.invariant-loop-number
 invariant-loop-number l = record {
-  sees : Sees l.self-inside.instance.now l.later (apply (take l.number l.cells) l.self.list);
-  room : HasPlaces l.later l.number;
+  sees : Sees l.self-inside.instance.now l.counts (apply (take l.number l.cells) l.self.list);
+  room : HasPlaces l.counts l.number;
   so_far : l.total ≡ pos (total (penalty l.self-inside.instance.now (apply (take l.number l.cells) l.self.list))) -ℤ pos (total (penalty l.self-inside.instance.now l.self.list));
 }

@@ -13,7 +13,7 @@ loop-course-preserved c =
     let b = c.args.self.now in
     let n = c.loop-course.course in
     let course : c.new.result ≡ n = search rules in
-    rw add-one (c.in_ok-append_course.ensures ∙ ap₂ (λ ls k. ls ++ course_row k b.list) c.loop-course.invariant course ∙ ap (λ ls. rows_below (λ k s. room_at k s b.list) (slot_count b.problem) n ++ ls) (course_row_is b.problem b.list n c.lawful.ensures.timetable))
+    rw add-one (c.in_ok-append_course_row.ensures.row ∙ ap₂ (λ ls k. ls ++ course_row k b.list) c.loop-course.invariant course ∙ ap (λ ls. rows_below (λ k s. room_at k s b.list) (slot_count b.problem) n ++ ls) (course_row_is b.problem b.list n c.lawful.ensures.timetable))
 
 pub returns : goal.returns
 returns c =

@@ -1,7 +1,7 @@
 use Rattle.std.proofs.Common.{rules, ◌≡◌, ◌==◌, ◌&&◌, cond, Some, None, ◌∙◌, ap, ap₂, subst₂, arith, true}
 use Rattle.ctt_grid.specs.Tables.{at}
 use Rattle.ctt_problem.specs.BitRows.{SetsMark}
-use Rattle.ctt_grid.proofs.StandingLemmas.{standing_after_cell}
+use Rattle.ctt_grid.proofs.CoursesInSlotLemmas.{in_slots_after_cell}
 use Rattle.ctt_grid.proofs.GridLemmas.{WroteRoom, with_rooms}
 use Rattle.ctt_grid.proofs.HolderLemmas.{WroteCourse, holders_with}
 use Rattle.ctt_grid.proofs.tables.Tables.lay.Goals as goal
@@ -21,5 +21,5 @@ returns-clause-places c = λ t are empty lawful.
     record {
       rooms_are = with_rooms i t g.rooms c.set.new.self l are.rooms_are c.set.ensures.rows c.set.ensures.width wrote empty;
       courses_are = holders_with i l t g.courses c.set-2.new.self are.courses_are c.set-2.ensures.rows c.set-2.ensures.width wrote' lawful;
-      standing_are = standing_after_cell i t g.standing c.mark.new.self l.course l.slot (Some l.room) are.standing_are (subst₂ (λ s k. SetsMark g.standing c.mark.new.self s k true) slot course c.mark.ensures) empty;
+      courses_in_slot_are = in_slots_after_cell i t g.courses_in_slot c.mark.new.self l.course l.slot (Some l.room) are.courses_in_slot_are (subst₂ (λ s k. SetsMark g.courses_in_slot c.mark.new.self s k true) slot course c.mark.ensures) empty;
     }

@@ -1,7 +1,7 @@
 use Rattle.std.proofs.Common.{rules, ◌≡◌, ◌==◌, ◌&&◌, cond, None, is_some, ◌∙◌, ap, ap₂, subst₂, arith, false}
 use Rattle.ctt_grid.specs.Tables.{at}
 use Rattle.ctt_problem.specs.BitRows.{SetsMark}
-use Rattle.ctt_grid.proofs.StandingLemmas.{standing_after_cell}
+use Rattle.ctt_grid.proofs.CoursesInSlotLemmas.{in_slots_after_cell}
 use Rattle.ctt_grid.proofs.GridLemmas.{WroteRoom, without_rooms}
 use Rattle.ctt_grid.proofs.HolderLemmas.{WroteCourse, holders_without}
 use Rattle.ctt_grid.proofs.tables.Tables.lift.Goals as goal
@@ -21,5 +21,5 @@ returns-clause-places c = λ t are there lawful.
     record {
       rooms_are = without_rooms i t g.rooms c.set.new.self l.course l.slot l.room are.rooms_are c.set.ensures.rows c.set.ensures.width wrote there;
       courses_are = holders_without i l t g.courses c.set-2.new.self are.courses_are c.set-2.ensures.rows c.set-2.ensures.width wrote' lawful there;
-      standing_are = standing_after_cell i t g.standing c.unmark.new.self l.course l.slot None are.standing_are (subst₂ (λ s k. SetsMark g.standing c.unmark.new.self s k false) slot course c.unmark.ensures) (ap is_some there);
+      courses_in_slot_are = in_slots_after_cell i t g.courses_in_slot c.unmark.new.self l.course l.slot None are.courses_in_slot_are (subst₂ (λ s k. SetsMark g.courses_in_slot c.unmark.new.self s k false) slot course c.unmark.ensures) (ap is_some there);
     }

@@ -1,7 +1,8 @@
 use Rattle.std.proofs.Common.{◌≡◌, Ok, ap, rules, subst, sym, true}
 use Rattle.std.proofs.KnownBytes.{Keeps-trans}
 use Rattle.std.specs.Io.KnownBytes.{Keeps}
-use Rattle.ctt_office.specs.Lines.{IsOpen, IsReadOnce, ReaderValue, coming}
+use Rattle.ctt_log.specs.Recovery.{HasNoNewline}
+use Rattle.ctt_office.specs.Lines.{IsReadOnce, ReaderValue, coming}
 use Rattle.ctt_office.proofs.NextLemmas.{HasRead, found_next, next_kept, once_from, reads_more}
 use Rattle.ctt_office.proofs.line_reader.LineReader.fetch.Goals as goal
 
@@ -36,5 +37,5 @@ loop-preserved g c =
     let none = c.in_default.ensures.none in
     let keeps = Keeps-trans (coming old) (coming c.loop.self) (coming c.pull.new.self) c.loop.invariant.3 c.in_ok-pull.ensures.coming in
     let read = reads_more old c.loop.self c.pull.new.self c.loop.invariant.4 (c.pull.ensures.grown some) none.1 c.in_ok-pull.ensures.unmarked in
-    let all = subst (λ (r : ReaderValue). IsOpen r.held × Keeps (coming old) (coming r) × HasRead old r) (sym none.0) (none.1, keeps, read) in
+    let all = subst (λ (r : ReaderValue). HasNoNewline r.held × Keeps (coming old) (coming r) × HasRead old r) (sym none.0) (none.1, keeps, read) in
     (tt, tt, all.0, all.1, all.2)

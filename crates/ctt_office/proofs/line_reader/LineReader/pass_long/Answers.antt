@@ -1,5 +1,6 @@
 use Rattle.std.proofs.Common.{◌≡◌, ◌∙◌, Ok, drop, rules, sym, subst, true}
-use Rattle.ctt_office.specs.Lines.{IsOpen, IsReadOnce}
+use Rattle.ctt_log.specs.Recovery.{HasNoNewline}
+use Rattle.ctt_office.specs.Lines.{IsReadOnce}
 use Rattle.ctt_office.proofs.NextLemmas.{HasRead, IsPast, all_behind, ends_behind, forgets, goes_on, none_taken, once_from, reads_more, reads_on, reads_still}
 use Rattle.ctt_office.proofs.line_reader.LineReader.pass_long.Goals as goal
 
@@ -41,6 +42,6 @@ loop-preserved g c =
     let past : IsPast old c.pull.new.self = reads_on old c.forget.new.self c.pull.new.self empty c.in_ok-pull.ensures.coming in
     let read : HasRead old c.forget.new.self = subst (HasRead old) (sym c.forget.ensures) (reads_still old c.loop.self c.loop.invariant.3) in
     let here : c.pull.new.self.held ≡ drop c.self.inside.given c.self.inside.held.items = search rules in
-    let unended : IsOpen c.pull.new.self.held =
-    subst IsOpen (all_behind c.deref.result.now c.self.inside.held.items c.self.inside.given c.deref.ensures.value ∙ sym here) c.in_default.ensures.none in
+    let unended : HasNoNewline c.pull.new.self.held =
+    subst HasNoNewline (all_behind c.deref.result.now c.self.inside.held.items c.self.inside.given c.deref.ensures.value ∙ sym here) c.in_default.ensures.none in
     (tt, tt, goes_on old c.pull.new.self past unended, reads_more old c.forget.new.self c.pull.new.self read (c.pull.ensures.grown some) unended c.in_ok-pull.ensures.unmarked)

@@ -1,0 +1,5 @@
+use Rattle.ctt_core.proofs.DeskLemmas as Lemmas
+use Rattle.ctt_core.proofs.desk_laws.desk_is_serial.Goals as goal
+
+pub returns : goal.returns
+returns c = Lemmas.desk_is_serial

@@ -1,5 +1,0 @@
-use Rattle.ctt_core.proofs.DeskLemmas as Lemmas
-use Rattle.ctt_core.proofs.laws.desk_is_serial.Goals as goal
-
-pub returns : goal.returns
-returns c = Lemmas.desk_is_serial

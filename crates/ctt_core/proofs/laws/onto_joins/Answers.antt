@@ -1,5 +1,0 @@
-use Rattle.ctt_core.proofs.RunLemmas as Lemmas
-use Rattle.ctt_core.proofs.laws.onto_joins.Goals as goal
-
-pub returns : goal.returns
-returns c = Lemmas.onto_joins

@@ -1,5 +1,0 @@
-use Rattle.ctt_crew.proofs.SeenLemmas.{commits_stay}
-use Rattle.ctt_crew.proofs.laws.commits_stay.Goals as goal
-
-pub returns : goal.returns
-returns c = commits_stay

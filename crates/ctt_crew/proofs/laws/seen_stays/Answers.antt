@@ -1,5 +1,0 @@
-use Rattle.ctt_crew.proofs.SeenLemmas.{seen_stays}
-use Rattle.ctt_crew.proofs.laws.seen_stays.Goals as goal
-
-pub returns : goal.returns
-returns c = seen_stays

@@ -1,0 +1,5 @@
+use Rattle.ctt_draft.proofs.ReplayLemmas as Lemmas
+use Rattle.ctt_draft.proofs.draft_laws.replay_stops.Goals as goal
+
+pub returns : goal.returns
+returns c = Lemmas.replay_stops

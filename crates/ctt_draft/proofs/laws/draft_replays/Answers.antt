@@ -1,5 +1,0 @@
-use Rattle.ctt_draft.proofs.ReplayLemmas as Lemmas
-use Rattle.ctt_draft.proofs.laws.draft_replays.Goals as goal
-
-pub returns : goal.returns
-returns c = Lemmas.draft_replays

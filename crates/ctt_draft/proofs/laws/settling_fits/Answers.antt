@@ -1,5 +1,0 @@
-use Rattle.ctt_draft.proofs.FrameLemmas as Lemmas
-use Rattle.ctt_draft.proofs.laws.settling_fits.Goals as goal
-
-pub returns : goal.returns
-returns c = Lemmas.settling_fits

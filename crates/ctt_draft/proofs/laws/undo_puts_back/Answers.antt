@@ -1,5 +1,0 @@
-use Rattle.ctt_draft.proofs.UndoLemmas as Lemmas
-use Rattle.ctt_draft.proofs.laws.undo_puts_back.Goals as goal
-
-pub returns : goal.returns
-returns c = Lemmas.undo_puts_back

@@ -1,0 +1,5 @@
+use Rattle.ctt_edits.proofs.EditLemmas as Lemmas
+use Rattle.ctt_edits.proofs.edit_laws.edits_fit.Goals as goal
+
+pub returns : goal.returns
+returns c = Lemmas.edits_fit

@@ -1,5 +1,0 @@
-use Rattle.ctt_edits.proofs.LeastLemmas as Lemmas
-use Rattle.ctt_edits.proofs.laws.clash_is_least.Goals as goal
-
-pub returns : goal.returns
-returns c = Lemmas.clash_is_least

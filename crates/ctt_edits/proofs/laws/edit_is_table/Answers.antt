@@ -1,5 +1,0 @@
-use Rattle.ctt_edits.proofs.TableLemmas as Lemmas
-use Rattle.ctt_edits.proofs.laws.edit_is_table.Goals as goal
-
-pub returns : goal.returns
-returns c = Lemmas.edit_is_table

@@ -1,5 +1,0 @@
-use Rattle.ctt_edits.proofs.PatternFaults.{pattern_fault_stands}
-use Rattle.ctt_edits.proofs.laws.pattern_fault_stands.Goals as goal
-
-pub returns : goal.returns
-returns c = pattern_fault_stands

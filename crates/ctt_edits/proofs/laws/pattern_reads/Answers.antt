@@ -1,5 +1,0 @@
-use Rattle.ctt_edits.proofs.PatternReads as Lemmas
-use Rattle.ctt_edits.proofs.laws.pattern_reads.Goals as goal
-
-pub returns : goal.returns
-returns c = Lemmas.pattern_reads

@@ -1,5 +1,0 @@
-use Rattle.ctt_edits.proofs.PriceOrder.{prices_ascend}
-use Rattle.ctt_edits.proofs.laws.prices_ascend.Goals as goal
-
-pub returns : goal.returns
-returns c = prices_ascend

@@ -1,5 +1,0 @@
-use Rattle.ctt_edits.proofs.ReadLemmas as Lemmas
-use Rattle.ctt_edits.proofs.laws.reads_ascend.Goals as goal
-
-pub returns : goal.returns
-returns c = Lemmas.reads_ascend

@@ -1,5 +1,0 @@
-use Rattle.ctt_edits.proofs.ReplyLemmas as Lemmas
-use Rattle.ctt_edits.proofs.laws.replies_fit.Goals as goal
-
-pub returns : goal.returns
-returns c = Lemmas.replies_fit

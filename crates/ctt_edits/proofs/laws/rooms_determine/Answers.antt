@@ -1,5 +1,0 @@
-use Rattle.ctt_edits.proofs.OpeningLemmas as Lemmas
-use Rattle.ctt_edits.proofs.laws.rooms_determine.Goals as goal
-
-pub returns : goal.returns
-returns c = Lemmas.rooms_determine

@@ -1,5 +1,0 @@
-use Rattle.ctt_edits.proofs.OfferLaws as Lemmas
-use Rattle.ctt_edits.proofs.laws.slot_price_stands.Goals as goal
-
-pub returns : goal.returns
-returns c = Lemmas.slot_price_stands

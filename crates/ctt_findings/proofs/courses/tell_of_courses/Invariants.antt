@@ -1,8 +1,0 @@
-use Rattle.std.specs.Option.{option_to_list}
-use Rattle.ctt_problem.specs.Timetable.{course_row}
-use Rattle.ctt_findings.specs.Findings.{for_each}
-use Rattle.ctt_findings.specs.Hearing.{Hears}
-use Rattle.ctt_findings.proofs.courses.tell_of_courses.Given as goal
-
-abbrev pub invariant-loop-number : goal.invariant-loop-number
-invariant-loop-number g l = Hears (g.L.Listener.hears l.instance) l.initial.listener (for_each (λ c. option_to_list (g.K.OfCourse.finding l.instance c (course_row c l.timetable))) l.number) l.listener

@@ -1,8 +1,0 @@
-use Rattle.std.proofs.Common.{◌≡◌, ◌≤◌, ◌==◌, take, count_by}
-use Rattle.ctt_grid.proofs.later.of_course.Given as goal
-
-abbrev pub invariant-loop-lecture : goal.invariant-loop-lecture
-invariant-loop-lecture l = record {
-  so_far : l.count ≡ count_by (λ x. x.course == l.course) (take l.lecture-index l.lectures);
-  few : l.count ≤ l.lecture-index;
-}

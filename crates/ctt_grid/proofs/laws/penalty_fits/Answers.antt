@@ -1,5 +1,0 @@
-use Rattle.ctt_grid.proofs.CostLemmas as Lemmas
-use Rattle.ctt_grid.proofs.laws.penalty_fits.Goals as goal
-
-pub returns : goal.returns
-returns c = Lemmas.penalty_fits

@@ -1,7 +1,0 @@
-use Rattle.std.proofs.Common.{◌≡◌, ℕ, take}
-use Rattle.ctt_problem.specs.Marks.{is_marked}
-use Rattle.ctt_problem.specs.Timetable.{has_lecture}
-use Rattle.ctt_grid.proofs.standing.standing_in.Given as goal
-
-abbrev pub invariant-loop-lecture : goal.invariant-loop-lecture
-invariant-loop-lecture l = (c : ℕ) → is_marked l.standing c ≡ has_lecture c l.slot (take l.lecture-index l.lectures)

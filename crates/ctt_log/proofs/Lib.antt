@@ -1,0 +1,4 @@
+mod CutLemmas
+pub mod MinutesLemmas
+mod PartLemmas
+mod RecoveryLemmas

@@ -1,5 +1,0 @@
-use Rattle.ctt_office.proofs.RedoLemmas as Lemmas
-use Rattle.ctt_office.proofs.laws.redo_is_asking.Goals as goal
-
-pub returns : goal.returns
-returns c = Lemmas.redo_is_asking

@@ -1,6 +1,0 @@
-pub mod WritingLemmas
-pub mod LookLemmas
-pub mod ReportLemmas
-pub mod TableLemmas
-pub mod PlaceLemmas
-pub mod CompareLemmas

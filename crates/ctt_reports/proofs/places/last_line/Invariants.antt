@@ -1,6 +1,0 @@
-use Rattle.std.proofs.Common.{◌≡◌, take}
-use Rattle.ctt_reports.specs.Places.{last_line}
-use Rattle.ctt_reports.proofs.places.last_line.Given as goal
-
-abbrev pub invariant-loop-byte : goal.invariant-loop-byte
-invariant-loop-byte l = l.line.items ≡ last_line (take l.byte-index l.text)

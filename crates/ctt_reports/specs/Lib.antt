@@ -1,9 +1,0 @@
-pub mod Subjects
-pub mod Refusals
-pub mod Writing
-pub mod Forms
-pub mod Checks
-pub mod Showings
-pub mod Tables
-pub mod Compare
-pub mod Places

@@ -1,5 +1,0 @@
-use Rattle.ctt_script.proofs.JournalLaws.{journal_breaks_once}
-use Rattle.ctt_script.proofs.laws.journal_breaks_once.Goals as goal
-
-pub returns : goal.returns
-returns c = journal_breaks_once

@@ -1,5 +1,0 @@
-use Rattle.ctt_script.proofs.JournalLaws.{journal_fails_where_broken}
-use Rattle.ctt_script.proofs.laws.journal_fails_where_broken.Goals as goal
-
-pub returns : goal.returns
-returns c = journal_fails_where_broken

@@ -1,5 +1,0 @@
-use Rattle.ctt_script.proofs.JournalLaws.{spells_one_journal}
-use Rattle.ctt_script.proofs.laws.spells_one_journal.Goals as goal
-
-pub returns : goal.returns
-returns c = spells_one_journal

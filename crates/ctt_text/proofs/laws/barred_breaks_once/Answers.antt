@@ -1,5 +1,0 @@
-use Rattle.ctt_text.proofs.BarredLaws.{barred_breaks_once}
-use Rattle.ctt_text.proofs.laws.barred_breaks_once.Goals as goal
-
-pub returns : goal.returns
-returns c = barred_breaks_once

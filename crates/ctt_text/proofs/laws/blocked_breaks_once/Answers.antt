@@ -1,5 +1,0 @@
-use Rattle.ctt_text.proofs.BlockedLaws.{blocked_breaks_once}
-use Rattle.ctt_text.proofs.laws.blocked_breaks_once.Goals as goal
-
-pub returns : goal.returns
-returns c = blocked_breaks_once

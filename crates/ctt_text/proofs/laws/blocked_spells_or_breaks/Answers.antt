@@ -1,5 +1,0 @@
-use Rattle.ctt_text.proofs.BlockedLaws.{blocked_spells_or_breaks}
-use Rattle.ctt_text.proofs.laws.blocked_spells_or_breaks.Goals as goal
-
-pub returns : goal.returns
-returns c = blocked_spells_or_breaks

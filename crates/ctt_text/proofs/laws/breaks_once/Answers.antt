@@ -1,5 +1,0 @@
-use Rattle.ctt_text.proofs.InstanceLaws.{instance_breaks_once}
-use Rattle.ctt_text.proofs.laws.breaks_once.Goals as goal
-
-pub returns : goal.returns
-returns c = instance_breaks_once

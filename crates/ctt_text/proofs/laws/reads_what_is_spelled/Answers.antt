@@ -1,5 +1,0 @@
-use Rattle.ctt_text.proofs.InstanceLaws.{reads_what_is_spelled}
-use Rattle.ctt_text.proofs.laws.reads_what_is_spelled.Goals as goal
-
-pub returns : goal.returns
-returns c = reads_what_is_spelled

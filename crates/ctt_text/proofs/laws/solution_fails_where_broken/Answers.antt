@@ -1,5 +1,0 @@
-use Rattle.ctt_text.proofs.SolutionLaws.{solution_fails_where_broken}
-use Rattle.ctt_text.proofs.laws.solution_fails_where_broken.Goals as goal
-
-pub returns : goal.returns
-returns c = solution_fails_where_broken

@@ -1,5 +1,0 @@
-use Rattle.ctt_text.proofs.InstanceFacts.{spelled_is_problem}
-use Rattle.ctt_text.proofs.laws.spelled_is_problem.Goals as goal
-
-pub returns : goal.returns
-returns c = spelled_is_problem

@@ -1,5 +1,0 @@
-use Rattle.ctt_text.proofs.SolutionLaws.{spelled_is_timetable}
-use Rattle.ctt_text.proofs.laws.spelled_is_timetable.Goals as goal
-
-pub returns : goal.returns
-returns c = spelled_is_timetable

@@ -1,5 +1,0 @@
-use Rattle.ctt_text.proofs.SolutionLaws.{spells_one_timetable}
-use Rattle.ctt_text.proofs.laws.spells_one_timetable.Goals as goal
-
-pub returns : goal.returns
-returns c = spells_one_timetable

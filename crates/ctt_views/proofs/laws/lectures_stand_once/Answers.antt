@@ -1,5 +1,0 @@
-use Rattle.ctt_views.proofs.StandingLemmas.{lectures_stand_once}
-use Rattle.ctt_views.proofs.laws.lectures_stand_once.Goals as goal
-
-pub returns : goal.returns
-returns c i t h g s lt = lectures_stand_once i t h g s lt

@@ -1,5 +1,0 @@
-use Rattle.ctt_views.proofs.EscapeLemmas.{names_have_none}
-use Rattle.ctt_views.proofs.laws.names_hold_no_tag.Goals as goal
-
-pub returns : goal.returns
-returns c name = names_have_none name
