@@ -140,12 +140,12 @@ def check_drawn(folder):
 
 
 def check_examples(folder):
-    instance, solution = pair_of(EXAMPLES, "comp07")
+    instance, solution = pair_of(EXAMPLES, "spring")
     texts = read_files([instance, solution])
     read = Instance(texts[0])
     head, rows = columns(read), [row(read, solution, read.read_solution(texts[1]))]
-    check_rows("comp07", [instance, solution], head, rows)
-    check_rows("comp07, many times", [instance, *[solution] * 100], head, rows * 100)
+    check_rows("spring", [instance, solution], head, rows)
+    check_rows("spring, many times", [instance, *[solution] * 100], head, rows * 100)
     none = os.path.join(folder, "none.sol")
     unread = refused_row([*head, "fault"], none, "cannot read")
     check_rows("no file", [instance, none, solution], head, rows, f"timedesk: {none}: cannot read\n", [(0, unread)])
@@ -217,7 +217,7 @@ def check_pairs(folder):
         text = "\n".join(lines) + draw.choice(["", "\n"])
         check_list(f"drawn pairs {n}", text.encode(), head, [groups[number] for number in order], folder)
     check_list("no pair", b" \n", ["instance", *columns()], [], folder)
-    instance, solution = pair_of(EXAMPLES, "comp07")
+    instance, solution = pair_of(EXAMPLES, "spring")
     pair = f"{instance} {solution}\n"
     for text, fault in (
         (pair + "one", "P2 2"), ("one two three\n" + pair, "P2 1"), (f"{pair}\n - {solution}", "P3 3"), (f"{instance} -", "P3 1"),

@@ -10,8 +10,8 @@ import threading
 from program import EXAMPLES, PROGRAM
 
 SMALL = os.path.join(EXAMPLES, "small.ctt")
-COMP07 = os.path.join(EXAMPLES, "comp07.ctt")
-COMP07_SOL = os.path.join(EXAMPLES, "comp07.sol")
+SPRING = os.path.join(EXAMPLES, "spring.ctt")
+SPRING_SOL = os.path.join(EXAMPLES, "spring.sol")
 # what a desk without minutes says first
 NO_MINUTES = "timedesk: no minutes: what is committed ends with the desk\n"
 # where a sync takes no time, if there is such a place

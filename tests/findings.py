@@ -301,7 +301,7 @@ def check_worked(folder):
     check_run("the small solution in words", *words[:3], "--sentences", wanted=report + SMALL_SENTENCES)
     for options in ["--explain"], ["--strict"], ["--explain", "--json", "--strict"], ["--explain", "--csv"], ["--sentences"]:
         check_full(f"a report that cannot be written, {options}", *words[:3], *options)
-    check_files("the shipped solution", pair_of(EXAMPLES, "comp07"))
+    check_files("the shipped solution", pair_of(EXAMPLES, "spring"))
     for name in "wide", "markup":
         check_files(f"the {name} names", pair_of(NAMES, name))
 

@@ -3,7 +3,7 @@ import contextlib
 import os
 import subprocess
 
-from desks import COMP07, COMP07_SOL, NO_MINUTES, PATIENCE, SMALL, Desk, Seat, audit, call, room, with_threads
+from desks import SPRING, SPRING_SOL, NO_MINUTES, PATIENCE, SMALL, Desk, Seat, audit, call, room, with_threads
 from program import PROGRAM, check
 
 DAY = [
@@ -114,7 +114,7 @@ def one_seat():
     check("a seat without a line", call("desk", SMALL, "-"), (0, "", NO_MINUTES + "journal 0\ncosts 0 20 0 0\n"))
     check(
         "an opening",
-        call("desk", COMP07, "-", "--start", COMP07_SOL, text=b"show cost\n")[1].startswith("costs "),
+        call("desk", SPRING, "-", "--start", SPRING_SOL, text=b"show cost\n")[1].startswith("costs "),
         True,
     )
     long = b"open\n" + b"x" * 65536 + b"\n" + b"y" * 65537 + b"\n" + b"z" * 1000000 + b"\nabandon"
@@ -133,7 +133,7 @@ def one_seat():
 
 def eight_seats():
     """Each answer of eight at once is there before the next line is sent."""
-    desk = Desk(8, "--start", COMP07_SOL, instance=COMP07)
+    desk = Desk(8, "--start", SPRING_SOL, instance=SPRING)
     heard = [[] for _ in range(8)]
 
     def work(p):

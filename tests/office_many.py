@@ -5,14 +5,14 @@ import signal
 import threading
 import time
 
-from desks import COMP07, COMP07_SOL, FAST, Desk, audit, call, with_threads
+from desks import SPRING, SPRING_SOL, FAST, Desk, audit, call, with_threads
 from program import check
 
 
 def sixty_four():
     """64 seats with 200 drafts each: their minutes agree, and give the timetable that was shown."""
-    desk = Desk(64, "--start", COMP07_SOL, instance=COMP07, folder=FAST)
-    with open(COMP07_SOL) as file:
+    desk = Desk(64, "--start", SPRING_SOL, instance=SPRING, folder=FAST)
+    with open(SPRING_SOL) as file:
         lectures = [line.split() for line in file if line.strip()]
     told = [[] for _ in range(64)]
 
@@ -40,11 +40,11 @@ def sixty_four():
     numbers = sorted(int(a.split()[1]) for answers in told for a in answers if a.startswith("committed"))
     check("64 seats: each number once", numbers, list(range(1, len(numbers) + 1)))
     check("64 seats: the end", (status, printed.split("\n")[0], said), (0, f"journal {len(numbers)}", ""))
-    start = "--start", COMP07_SOL
-    (status, said), audited, journal = audit(desk, *start, instance=COMP07)
+    start = "--start", SPRING_SOL
+    (status, said), audited, journal = audit(desk, *start, instance=SPRING)
     check("64 seats: the journal", (status, said, journal.split("\n")[0]), (0, "", f"journal {len(numbers)}"))
     check("64 seats: audited", audited, (0, "agrees\n", ""))
-    status, listed, said = call("list", COMP07, os.path.join(desk.folder, "journal"), *start)
+    status, listed, said = call("list", SPRING, os.path.join(desk.folder, "journal"), *start)
     by_course = {course: [] for course in shown}
     for line in listed.split("\n")[:-1]:
         words = line.split()
@@ -96,14 +96,14 @@ def killed(times=50):
 
 
 def latency():
-    """Not a test: how long eight at once wait for their answers on comp07, and for commits with minutes."""
+    """Not a test: how long eight at once wait for their answers on spring, and for commits with minutes."""
     for minutes in (False, True):
-        desk = Desk(8, "--start", COMP07_SOL, instance=COMP07, minutes=minutes)
+        desk = Desk(8, "--start", SPRING_SOL, instance=SPRING, minutes=minutes)
         times = {"line": [], "commit": []}
 
         def work(p):
             seat = desk.seats[p]
-            with open(COMP07_SOL) as file:
+            with open(SPRING_SOL) as file:
                 names = [line.split()[0] for line in file if line.strip()]
             for turn in range(60 if minutes else 400):
                 for line in ("open", "cost", f"course {names[(37 * p + turn) % len(names)]}", "slot 0 0", "commit"):

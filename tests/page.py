@@ -64,13 +64,13 @@ def one_of(text, draw):
 
 
 def main():
-    for name, folder in ("wide", NAMES), ("markup", NAMES), ("comp07", EXAMPLES):
+    for name, folder in ("wide", NAMES), ("markup", NAMES), ("spring", EXAMPLES):
         looks, _ = check_page(f"the page of {name}", pair_of(folder, name))
     check_style(*looks)
-    check_page("the page of comp07 with days", pair_of(EXAMPLES, "comp07"), "mon,tue,wed,thu,fri")
+    check_page("the page of spring with days", pair_of(EXAMPLES, "spring"), "mon,tue,wed,thu,fri")
     check_page("the page of markup with days", pair_of(NAMES, "markup"), "<mon>,,'wed' & \"wed\"")
-    check_page("a plain page of comp07", pair_of(EXAMPLES, "comp07"), plain=True)
-    check_page("the page of comp07 with its rooms", pair_of(EXAMPLES, "comp07"), grids="rooms")
+    check_page("a plain page of spring", pair_of(EXAMPLES, "spring"), plain=True)
+    check_page("the page of spring with its rooms", pair_of(EXAMPLES, "spring"), grids="rooms")
     check_page("a page of a folder's file", pair_of(NAMES, "wide"), one=one_of(read_files(pair_of(NAMES, "wide"))[0], random.Random(1)), plain=True)
     check_full("a page that cannot be written", "page", *pair_of(NAMES, "wide"))
     draw = random.Random(38)

@@ -86,10 +86,10 @@ def check_opened():
 
 def check_pages(driver, folder):
     """Opens the page of an example, and those of names of all kinds."""
-    files = pair_of(EXAMPLES, "comp07")
+    files = pair_of(EXAMPLES, "spring")
     instance = Instance(read_files(files)[0])
     browser = Browser(driver, features={"prefers-color-scheme": "light"})
-    browser.go(write_page(folder, "comp07", *files))
+    browser.go(write_page(folder, "spring", *files))
     check_entry(browser, instance)
     check("columns of one width", {max(row) - min(row) > 1 for row in browser.run(WIDTHS)}, {False})
     browser.go(write_page(folder, "rooms", *files, "--grids", "rooms"))

@@ -81,7 +81,7 @@ def commits(files, folder, seed, front, moves):
 
 
 def main():
-    files = pair_of(EXAMPLES, "comp07")
+    files = pair_of(EXAMPLES, "spring")
     instance = Instance(read_files(files)[0])
     lectures = instance.read_solution(read_files(files)[1])
     stale = asked = 0

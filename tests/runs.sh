@@ -1464,7 +1464,7 @@ for words in 'check small.ctt s.sol' 'run small.ctt phantom.txt --journal unwrit
 done
 exec 4>&-
 # a reader that has seen enough leaves in the midst of a long output
-for words in 'page comp07.ctt comp07.sol' 'check comp07.ctt comp07.sol --explain' 'mend comp07.ctt comp07.sol'; do
+for words in 'page spring.ctt spring.sol' 'check spring.ctt spring.sol --explain' 'mend spring.ctt spring.sol'; do
     read -ra words <<<"$words"
     {
         (exec -a timedesk "$program" "${words[@]}") 2>err

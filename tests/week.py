@@ -211,7 +211,7 @@ def main():
         check_refusals(folder)
         for name in "wide", "markup":
             check_weeks(f"the {name} names", pair_of(NAMES, name))
-        check_weeks("the shipped solution", pair_of(EXAMPLES, "comp07"), every=3)
+        check_weeks("the shipped solution", pair_of(EXAMPLES, "spring"), every=3)
         check_drawn(folder)
     end()
 

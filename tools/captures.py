@@ -124,7 +124,7 @@ class Play:
 def opened(folder, day):
     """An office that is open for a while."""
     examples = os.path.join(HERE, "examples")
-    words = ["open", day, f"{examples}/comp07.ctt", "3", "--start", f"{examples}/comp07.sol"]
+    words = ["open", day, f"{examples}/spring.ctt", "3", "--start", f"{examples}/spring.sol"]
     office = subprocess.Popen(
         [OFFICE, *words],
         cwd=folder,

@@ -78,11 +78,11 @@ def write_page(file, instance, solution):
 def main():
     with tempfile.TemporaryDirectory() as folder:
         # the list of the guide that somebody has changed by hand
-        with open(os.path.join(HERE, "examples/comp07.sol"), encoding="utf-8") as solution:
+        with open(os.path.join(HERE, "examples/spring.sol"), encoding="utf-8") as solution:
             hand = solution.read().replace("c0001 r14 1 2\n", "c0001 r14 0 2\n")
         with open(f"{folder}/hand.sol", "w", encoding="utf-8") as solution:
             solution.write(hand)
-        write_page(f"{folder}/hand.html", os.path.join(HERE, "examples/comp07.ctt"), f"{folder}/hand.sol")
+        write_page(f"{folder}/hand.html", os.path.join(HERE, "examples/spring.ctt"), f"{folder}/hand.sol")
         write_page(f"{folder}/markup.html", *(os.path.join(HERE, f"tests/names/markup.{ending}") for ending in ("ctt", "sol")))
         browser = Browser(f"{folder}/browser")
         for name, page, place, width, height, night in PICTURES:

@@ -13,7 +13,7 @@ import sys
 HERE = os.path.dirname(os.path.dirname(os.path.abspath(__file__)))
 sys.path[:0] = [os.path.join(HERE, "tests", "web"), os.path.join(HERE, "tests", "client")]
 
-from served import COMP07, COMP07_SOL, POOL, BrowserTest, cell  # noqa: E402
+from served import SPRING, SPRING_SOL, POOL, BrowserTest, cell  # noqa: E402
 
 FOLDER = os.path.abspath(sys.argv[1] if len(sys.argv) > 1 else os.path.join(HERE, "docs"))
 # a lecture of c0109, where it is cheapest, and one of c0097 with its best place
@@ -50,7 +50,7 @@ class Pictures(BrowserTest):
         self.write("labels/labels.csv", NAMES)
         self.write("labels/times.csv", TIMES)
         labels = ["--labels", self.path("labels")]
-        self.open("monday", COMP07, "2", "--start", COMP07_SOL, *labels)
+        self.open("monday", SPRING, "2", "--start", SPRING_SOL, *labels)
         self.serve("monday")
         anna = self.planner(who="Anna Berg")
         ben = self.planner("seat 1", "Ben Okafor", features={"prefers-color-scheme": "dark"})

@@ -20,8 +20,8 @@ PROGRAM = os.path.abspath(
 OFFICE = os.path.join(HERE, "office")
 SMALL = os.path.join(HERE, "examples/small.ctt")
 SMALL_SOL = os.path.join(HERE, "examples/s.sol")
-COMP07 = os.path.join(HERE, "examples/comp07.ctt")
-COMP07_SOL = os.path.join(HERE, "examples/comp07.sol")
+SPRING = os.path.join(HERE, "examples/spring.ctt")
+SPRING_SOL = os.path.join(HERE, "examples/spring.sol")
 os.environ["PROGRAM"] = PROGRAM
 FAKE = os.path.join(HERE, "tests/client/fake_desk.py")
 # where a sync takes no time, if there is such a place

@@ -2,7 +2,7 @@
 import unittest
 
 from at_terminals import TO_BEST
-from support import COMP07, COMP07_SOL, OFFICE, OfficeTest, wait_until
+from support import SPRING, SPRING_SOL, OFFICE, OfficeTest, wait_until
 from terminal import Terminals, has_tmux
 
 from office.folder import Day
@@ -17,7 +17,7 @@ class Blocked(OfficeTest):
         super().setUp()
         self.terminals = Terminals(self.environment, columns=110)
         self.addCleanup(self.terminals.end)
-        self.process = self.open("day", COMP07, "2", "--start", COMP07_SOL)
+        self.process = self.open("day", SPRING, "2", "--start", SPRING_SOL)
         self.anna = self.sit_down(0, "anna")
         self.ben = self.sit_down(1, "ben")
         self.sees(self.ben, "no draft open")

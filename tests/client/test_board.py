@@ -6,7 +6,7 @@ import sys
 import threading
 import unittest.mock
 
-from support import COMP07, COMP07_SOL, HERE, PROGRAM, SMALL, SMALL_SOL, OfficeTest, said
+from support import SPRING, SPRING_SOL, HERE, PROGRAM, SMALL, SMALL_SOL, OfficeTest, said
 from support import wait_until
 
 sys.path.append(os.path.join(HERE, "tests"))
@@ -210,8 +210,8 @@ class Beside(OfficeTest):
 
     def test_beside_others(self):
         """No answer is other than expected, and the end is what `list` prints."""
-        self.open("day", COMP07, "3", "--start", COMP07_SOL)
-        self.lectures, self.is_over = read_solution(COMP07_SOL), False
+        self.open("day", SPRING, "3", "--start", SPRING_SOL)
+        self.lectures, self.is_over = read_solution(SPRING_SOL), False
         board, draw = Board(self.planning("day", 0)), random.Random(1)
         board.begin()
         others = [threading.Thread(target=self.commit_on, args=(planner,)) for planner in (1, 2)]
@@ -275,7 +275,7 @@ class Shown(OfficeTest):
     def test_cheapest_place_in_under_ten_keys(self):
         """Who has seen no page finds the cheapest place of a lecture by what the screen says, and
         commits it."""
-        self.open("day", COMP07, "1", "--start", COMP07_SOL)
+        self.open("day", SPRING, "1", "--start", SPRING_SOL)
         board = Board(self.planning("day", 0))
         board.begin()
         self.assertIn("Enter pick up", text_of(board))

@@ -5,8 +5,8 @@ import stat
 import time
 
 from support import (
-    COMP07,
-    COMP07_SOL,
+    SPRING,
+    SPRING_SOL,
     PATIENCE,
     PROGRAM,
     SMALL,
@@ -64,8 +64,8 @@ class Refusals(OfficeTest):
         self.refused([SMALL, "2", "--start", bad], 1, said)
         said = f"{latin}:1:7: S1: not UTF-8 from this byte on\n"
         self.refused([SMALL, "2", "--start", latin], 1, said)
-        said = f"{COMP07_SOL}:1:1: S3: no course c0001\n"
-        self.refused([SMALL, "2", "--start", COMP07_SOL], 1, said)
+        said = f"{SPRING_SOL}:1:1: S3: no course c0001\n"
+        self.refused([SMALL, "2", "--start", SPRING_SOL], 1, said)
         barred = ["--barred", self.write("barred", "Barred: 1 geo A END.")]
         self.refused(
             [SMALL, "2", "--start", SMALL_SOL, *barred], 1, "timedesk: opening 3 barred\n"
@@ -214,7 +214,7 @@ class Days(OfficeTest):
     """What a day leaves."""
 
     def test_two_days_and_a_crash(self):
-        office = self.open("monday", COMP07, "2", "--start", COMP07_SOL)
+        office = self.open("monday", SPRING, "2", "--start", SPRING_SOL)
         self.sit(
             "monday",
             0,

@@ -5,7 +5,7 @@ import subprocess
 import sys
 import time
 
-from support import COMP07, COMP07_SOL, FAKE, OFFICE, SMALL, SMALL_SOL, OfficeTest, said, wait_until
+from support import SPRING, SPRING_SOL, FAKE, OFFICE, SMALL, SMALL_SOL, OfficeTest, said, wait_until
 
 import office.seat
 from office.board import Board
@@ -189,7 +189,7 @@ class FullDisk(OfficeTest):
     """A log that cannot be written any more: the planner goes on, and is told."""
 
     def test_log(self):
-        self.open("day", COMP07, "1", "--start", COMP07_SOL)
+        self.open("day", SPRING, "1", "--start", SPRING_SOL)
         board = Board(self.planning("day", 0))
         board.begin()
         log = self.path("day/0.log")
@@ -245,7 +245,7 @@ class FullDisk(OfficeTest):
 
     def test_open(self):
         """A folder on a full disk: nothing is open, and the reason is said."""
-        done = self.limited(99, ["open", self.path("day"), COMP07, "2"], "")
+        done = self.limited(99, ["open", self.path("day"), SPRING, "2"], "")
         self.assertEqual((done.returncode, done.stdout), (3, ""))
         path = self.path("day/instance.ctt")
         self.assertEqual(done.stderr, f"office: cannot write {path}: File too large\n")

@@ -4,7 +4,7 @@ import unittest
 
 from fake_week import FakeWeek
 from plain_instance import instance_of
-from support import COMP07, COMP07_SOL, PROGRAM, SMALL
+from support import SPRING, SPRING_SOL, PROGRAM, SMALL
 
 from office.drafts import make_draft
 from office.instance import read_instance, read_solution
@@ -15,12 +15,12 @@ from office.shifts import Shift
 from office.timetable import Timetable
 
 
-PLAIN = instance_of(COMP07)
+PLAIN = instance_of(SPRING)
 
 
 def invert(timetable, shifts):
     """The inverse, by a desk of the program."""
-    scratch = Scratch([PROGRAM, "run", COMP07, "-"], timetable.lectures())
+    scratch = Scratch([PROGRAM, "run", SPRING, "-"], timetable.lectures())
     return invert_by(timetable, shifts, scratch.answers)
 
 
@@ -46,12 +46,12 @@ def state(timetable):
 
 
 class OnComp07(unittest.TestCase):
-    """Edits of comp07."""
+    """Edits of spring."""
 
     @classmethod
     def setUpClass(cls):
-        cls.instance = read_instance(COMP07)
-        cls.start = Timetable(cls.instance, read_solution(COMP07_SOL))
+        cls.instance = read_instance(SPRING)
+        cls.start = Timetable(cls.instance, read_solution(SPRING_SOL))
 
     def setUp(self):
         self.timetable = self.start.copy()

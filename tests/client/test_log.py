@@ -4,7 +4,7 @@ import io
 import json
 import re
 
-from support import COMP07, COMP07_SOL, OfficeTest
+from support import SPRING, SPRING_SOL, OfficeTest
 
 from office.commit_notes import CommitNote, keep_commit_note
 from office.folder import Day
@@ -15,11 +15,11 @@ MOVE = "c0097: day 1, period 4, r18 -> day 3, period 4, r12"
 
 
 class Comp07(OfficeTest):
-    """A day of comp07 at which two drafts were accepted."""
+    """A day of spring at which two drafts were accepted."""
 
     def setUp(self):
         super().setUp()
-        self.open("day", COMP07, "4", "--start", COMP07_SOL)
+        self.open("day", SPRING, "4", "--start", SPRING_SOL)
         swap = "open\nswap c0109 4 1 c0078 3 1\ncommit\n"
         self.sit("day", 1, swap, "--name", "ben")
         self.sit("day", 0, "open\nmove c0097 0 3 r12 2 3\ncommit\n", "--name", "anna")

@@ -1,5 +1,5 @@
 """What a day was after each of its drafts."""
-from support import COMP07, COMP07_SOL, SMALL, OfficeTest
+from support import SPRING, SPRING_SOL, SMALL, OfficeTest
 
 from office.at import parse_at, read_at
 from office.folder import Day
@@ -60,8 +60,8 @@ class Shown(OfficeTest):
 class ShownAsListed(OfficeTest):
     """The program's own list after each draft is what is shown."""
 
-    def test_comp07(self):
-        self.open("day", COMP07, "1", "--start", COMP07_SOL)
+    def test_spring(self):
+        self.open("day", SPRING, "1", "--start", SPRING_SOL)
         self.sit("day", 0, "open\nswap c0109 4 1 c0078 3 1\ncommit\nopen\ndrop c0097 0 3\ncommit\n")
         newest = read_at(Day(self.path("day")))
         self.assertEqual((newest.number, newest.missing), (2, {"c0097": 1}))

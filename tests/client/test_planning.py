@@ -2,7 +2,7 @@
 import os
 import signal
 
-from support import COMP07, COMP07_SOL, SMALL, SMALL_SOL, OfficeTest, said, wait_until
+from support import SPRING, SPRING_SOL, SMALL, SMALL_SOL, OfficeTest, said, wait_until
 
 from office.board import Board
 from office.carry import MOVE, PLACE, SWAP, Carry
@@ -18,8 +18,8 @@ TOLD = "c0109: day 5, period 2 -> day 5, period 4, r04"
 
 class Planners(OfficeTest):
     def two(self):
-        """Two planners at comp07."""
-        self.office_process = self.open("day", COMP07, "2", "--start", COMP07_SOL)
+        """Two planners at spring."""
+        self.office_process = self.open("day", SPRING, "2", "--start", SPRING_SOL)
         return self.planning("day", 0, "anna"), self.planning("day", 1, "ben")
 
     def look_around(self, planning):

@@ -1,6 +1,6 @@
 """Why a lecture cannot stand in a slot, in words."""
 from fake_planner import FakePlanner
-from support import COMP07, SMALL, SMALL_SOL, OfficeTest, said
+from support import SPRING, SMALL, SMALL_SOL, OfficeTest, said
 
 from office.carry import SWAP, Carry
 from office.instance import read_instance, read_solution
@@ -61,7 +61,7 @@ class Told(OfficeTest):
 
     def test_of_a_teacher(self):
         """Who teaches both is told before what both are in."""
-        instance = read_instance(COMP07)
+        instance = read_instance(SPRING)
         self.assertEqual(
             said(slot_reason(instance, "c0109", (3, 0), "clash c0120")),
             "its teacher t067 teaches c0120 then",

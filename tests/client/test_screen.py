@@ -3,7 +3,7 @@ import os
 import signal
 
 from at_terminals import TO_BEST, AtTerminals
-from support import COMP07, COMP07_SOL, OFFICE, PROGRAM, SMALL, SMALL_SOL, wait_until
+from support import SPRING, SPRING_SOL, OFFICE, PROGRAM, SMALL, SMALL_SOL, wait_until
 from test_day import LIMITED
 
 # an edit in words, and where the old room is not known
@@ -14,7 +14,7 @@ TOLD = "c0109: day 5, period 2 -> day 5, period 4, r04"
 class Screens(AtTerminals):
     def test_day_of_two(self):
         """Two planners at two screens, from open to close; the journal agrees."""
-        self.open("day", COMP07, "2", "--start", COMP07_SOL)
+        self.open("day", SPRING, "2", "--start", SPRING_SOL)
         anna = self.sit_down("day", 0, "--name", "anna")
         ben = self.sit_down("day", 1, "--name", "ben")
         costs = "cost 8847: capacity 8030, days 0, compactness 708, stability 109; missing 0"
@@ -60,7 +60,7 @@ class Screens(AtTerminals):
         anna.press("q")
 
     def test_stale_and_redo(self):
-        self.open("day", COMP07, "2", "--start", COMP07_SOL)
+        self.open("day", SPRING, "2", "--start", SPRING_SOL)
         anna = self.sit_down("day", 0)
         self.sees(anna, "no draft open")
         anna.press(*TO_BEST, "b", "Enter")
@@ -88,7 +88,7 @@ class Screens(AtTerminals):
         self.sees(anna, "Committed as draft 2: 1 edit, on the disk.")
 
     def test_goes_away(self):
-        self.open("day", COMP07, "1", "--start", COMP07_SOL)
+        self.open("day", SPRING, "1", "--start", SPRING_SOL)
         anna = self.sit_down("day", 0)
         self.sees(anna, "no draft open")
         anna.press(*TO_BEST, "b", "Enter")
@@ -112,7 +112,7 @@ class Screens(AtTerminals):
         self.sees(anna, "Committed as draft 1")
 
     def test_desk_is_killed(self):
-        office = self.open("day", COMP07, "2", "--start", COMP07_SOL)
+        office = self.open("day", SPRING, "2", "--start", SPRING_SOL)
         anna = self.sit_down("day", 0)
         self.sees(anna, "no draft open")
         anna.press(*TO_BEST, "b", "Enter", "c", "Enter")
@@ -181,7 +181,7 @@ class Screens(AtTerminals):
 
     def test_desk_does_not_answer(self):
         """It is said, with the time, and one can leave."""
-        self.open("day", COMP07, "1", "--start", COMP07_SOL)
+        self.open("day", SPRING, "1", "--start", SPRING_SOL)
         anna = self.sit_down("day", 0)
         self.sees(anna, "no draft open")
         desk = self.desk_of("day")

@@ -2,7 +2,7 @@
 import test_speed
 from fake_week import FakeWeek
 from fake_words import words_of
-from support import COMP07, COMP07_SOL, SMALL, SMALL_SOL, OfficeTest, said
+from support import SPRING, SPRING_SOL, SMALL, SMALL_SOL, OfficeTest, said
 
 from office.board import Board
 from office.carry import MOVE, PLACE, SWAP, Carry
@@ -99,8 +99,8 @@ class AtDesk(OfficeTest):
             anna.edit(f"drop {lecture.course} {lecture.day} {lecture.period}")
             self.compare(anna, Carry(anna, PLACE, lecture.course, None))
 
-    def test_comp07(self):
-        self.open("day", COMP07, "1", "--start", COMP07_SOL)
+    def test_spring(self):
+        self.open("day", SPRING, "1", "--start", SPRING_SOL)
         anna = self.planning("day", 0)
         lecture = Lecture("c0109", "r01", 4, 1)
         self.compare(anna, Carry(anna, MOVE, "c0109", lecture))
@@ -111,7 +111,7 @@ class AtDesk(OfficeTest):
     def test_blocked(self):
         """A slot that is blocked says why, and who has said so; a room that is blocked is not
         offered."""
-        self.open("day", COMP07, "1", "--start", COMP07_SOL)
+        self.open("day", SPRING, "1", "--start", SPRING_SOL)
         day = Day(self.path("day"))
         for words in (["room", "r04", "5"], ["teacher", "t067", "1", "5"]):
             self.assertEqual(self.office("block", day.path, *words, "--why", "ill")[0], 0)
@@ -129,7 +129,7 @@ class AtDesk(OfficeTest):
     def test_lines(self):
         """One look for the grid of a screen, one for the rooms of its own slot; a step asks for the
         slot to which it leads alone."""
-        self.open("day", COMP07, "1", "--start", COMP07_SOL)
+        self.open("day", SPRING, "1", "--start", SPRING_SOL)
         board = Board(self.planning("day", 0))
         board.show_view(View("course", "c0109"))
         board.set_cursor((4, 1))
@@ -155,7 +155,7 @@ class AtDesk(OfficeTest):
 
     def test_lines_of_a_swap(self):
         """Why there is no swap is asked of the slot at the cursor alone, once."""
-        self.open("day", COMP07, "1", "--start", COMP07_SOL)
+        self.open("day", SPRING, "1", "--start", SPRING_SOL)
         board = Board(self.planning("day", 0))
         board.show_view(View("course", "c0109"))
         board.set_cursor((4, 1))

@@ -3,7 +3,7 @@ import random
 import time
 
 from speed import press_keys
-from support import COMP07, COMP07_SOL, OfficeTest, said
+from support import SPRING, SPRING_SOL, OfficeTest, said
 
 from office.board import Board
 from office.instance import read_instance, read_solution
@@ -40,14 +40,14 @@ class Keys(OfficeTest):
         lines = "".join(f"open\n{edits[number % 2]}\ncommit\n" for number in range(count))
         self.assertEqual(self.sit("day", 0, lines)[-1], f"committed {count}")
 
-    def test_comp07(self):
-        self.open("day", COMP07, "1", "--start", COMP07_SOL)
-        self.keys("comp07 size", 50)
+    def test_spring(self):
+        self.open("day", SPRING, "1", "--start", SPRING_SOL)
+        self.keys("spring size", 50)
 
-    def test_comp07_with_many_drafts(self):
-        self.open("day", COMP07, "1", "--start", COMP07_SOL)
-        self.commit_many(COMP07_SOL)
-        self.keys("comp07 size behind 2,000 drafts", 50)
+    def test_spring_with_many_drafts(self):
+        self.open("day", SPRING, "1", "--start", SPRING_SOL)
+        self.commit_many(SPRING_SOL)
+        self.keys("spring size behind 2,000 drafts", 50)
 
     def test_two_thousand_courses(self):
         self.open("day", *self.large())

@@ -5,12 +5,12 @@ import subprocess
 import time
 
 from at_terminals import TO_BEST, AtTerminals
-from support import COMP07, COMP07_SOL, HERE, OFFICE, SMALL, SMALL_SOL, is_alive, wait_until
+from support import SPRING, SPRING_SOL, HERE, OFFICE, SMALL, SMALL_SOL, is_alive, wait_until
 
 
 class Screens(AtTerminals):
     def test_sizes(self):
-        self.open("day", COMP07, "1", "--start", COMP07_SOL)
+        self.open("day", SPRING, "1", "--start", SPRING_SOL)
         anna = self.sit_down("day", 0)
         self.sees(anna, "day 5")
         for columns, lines in ((200, 60), (80, 24), (50, 12), (20, 5), (132, 40), (80, 24)):

@@ -2,7 +2,7 @@
 import os
 import re
 
-from support import COMP07, COMP07_SOL, OfficeTest, said
+from support import SPRING, SPRING_SOL, OfficeTest, said
 from two_screens import BEST, Two, text_of
 
 from office.board import Board
@@ -240,8 +240,8 @@ class Labelled(OfficeTest):
         names = ["kind,code,name,short name", "course,c0109,Linear Algebra,LinAlg"]
         names += ["room,r04,Hall 2,H2", "teacher,t067,Noether,N"]
         self.write("labels/labels.csv", "\n".join(names))
-        words = ["--start", COMP07_SOL, "--labels", self.path("labels")]
-        self.open("day", COMP07, "1", *words)
+        words = ["--start", SPRING_SOL, "--labels", self.path("labels")]
+        self.open("day", SPRING, "1", *words)
         board = Board(self.planning("day", 0))
         board.begin()
         for key in ["v", *"algebra", "enter"]:

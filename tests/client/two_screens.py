@@ -1,5 +1,5 @@
-"""Two planners at comp07, each at a screen."""
-from support import COMP07, COMP07_SOL, OfficeTest
+"""Two planners at spring, each at a screen."""
+from support import SPRING, SPRING_SOL, OfficeTest
 
 from office.board import Board
 from office.week import View
@@ -13,7 +13,7 @@ def text_of(board, height=24, columns=80):
 
 class Two(OfficeTest):
     def boards(self):
-        self.office_process = self.open("day", COMP07, "2", "--start", COMP07_SOL)
+        self.office_process = self.open("day", SPRING, "2", "--start", SPRING_SOL)
         found = [Board(self.planning("day", 0, "anna")), Board(self.planning("day", 1, "ben"))]
         for board in found:
             board.begin()

@@ -9,7 +9,7 @@ import unittest
 
 from browser import Pages, read_calendar, with_browser, with_reader
 from plain_instance import instance_of, lectures_of
-from support import COMP07, COMP07_SOL, PROGRAM, SMALL, SMALL_SOL, OfficeTest, said
+from support import SPRING, SPRING_SOL, PROGRAM, SMALL, SMALL_SOL, OfficeTest, said
 
 from office.board import Board
 from office.folder import Day
@@ -75,7 +75,7 @@ class Weeks(OfficeTest):
     def show(self, *words):
         """What `office show` prints, in bytes."""
         done = subprocess.run(
-            [os.path.join(os.path.dirname(COMP07), "../office"), "show", *words],
+            [os.path.join(os.path.dirname(SPRING), "../office"), "show", *words],
             capture_output=True,
             env=self.environment,
         )
@@ -340,8 +340,8 @@ class InABrowser(Weeks):
         path = self.page("--room", "A", "--costs", day=day)
         self.assertEqual(Pages.sheets(path), [(842, 595)])
         # and of the example
-        comp07 = self.make_day(COMP07, COMP07_SOL, "comp07")
-        self.assertEqual(Pages.sheets(self.page("--room", "r01", day=comp07)), [(842, 595)])
+        spring = self.make_day(SPRING, SPRING_SOL, "spring")
+        self.assertEqual(Pages.sheets(self.page("--room", "r01", day=spring)), [(842, 595)])
 
 
 if __name__ == "__main__":

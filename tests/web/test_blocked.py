@@ -6,8 +6,8 @@ import signal
 
 from served import (
     BOX,
-    COMP07,
-    COMP07_SOL,
+    SPRING,
+    SPRING_SOL,
     DONE,
     EDITS,
     BrowserTest,
@@ -26,7 +26,7 @@ HELD = "return !!document.querySelector('#week.holding')"
 class Asked(WebTest):
     def setUp(self):
         super().setUp()
-        self.open("day", COMP07, "3", "--start", COMP07_SOL)
+        self.open("day", SPRING, "3", "--start", SPRING_SOL)
         self.server = self.serve("day")
 
     def test_act_that_comes_too_late(self):
@@ -81,7 +81,7 @@ class Asked(WebTest):
 class Blocked(BrowserTest):
     def setUp(self):
         super().setUp()
-        self.open("day", COMP07, "3", "--start", COMP07_SOL)
+        self.open("day", SPRING, "3", "--start", SPRING_SOL)
         self.serve("day")
 
     def block(self, browser, told, why):

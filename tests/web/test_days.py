@@ -6,8 +6,8 @@ import time
 
 from served import (
     BOX,
-    COMP07,
-    COMP07_SOL,
+    SPRING,
+    SPRING_SOL,
     DONE,
     OFFICE,
     SMALL,
@@ -48,7 +48,7 @@ class Days(BrowserTest):
     def test_day_of_three(self):
         """Two at browsers and one at a terminal, from open to close; the journal agrees, and who
         changed what and why is one line."""
-        self.open("day", COMP07, "3", "--start", COMP07_SOL, "--web", "--port", "0")
+        self.open("day", SPRING, "3", "--start", SPRING_SOL, "--web", "--port", "0")
         self.links = self.printed_links("day")
         anna, ben = self.planner(), self.planner("seat 1", "ben")
         terminal = None
@@ -105,8 +105,8 @@ class Days(BrowserTest):
         draw = random.Random(seed)
         big = seed % 2 == 0
         day = f"day{seed}"
-        start = ["--start", COMP07_SOL] if big else []
-        self.open(day, COMP07 if big else SMALL, "2", *start)
+        start = ["--start", SPRING_SOL] if big else []
+        self.open(day, SPRING if big else SMALL, "2", *start)
         server = self.serve(day)
         windows = [self.planner(), self.planner("seat 1", "ben")]
         for window in windows:

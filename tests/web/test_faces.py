@@ -6,8 +6,8 @@ from unittest import mock
 
 from served import (
     BOX,
-    COMP07,
-    COMP07_SOL,
+    SPRING,
+    SPRING_SOL,
     HERE,
     SMALL,
     BrowserTest,
@@ -108,7 +108,7 @@ class Asked(Shared):
 class Pressed(BrowserTest):
     def setUp(self):
         super().setUp()
-        self.open("day", COMP07, "2", "--start", COMP07_SOL)
+        self.open("day", SPRING, "2", "--start", SPRING_SOL)
         self.serve("day")
 
     def test_page_to_print(self):

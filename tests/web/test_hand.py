@@ -2,7 +2,7 @@
 import signal
 import time
 
-from served import COMP07, COMP07_SOL, DONE, EDITS, BrowserTest, cell, skip_without_browser
+from served import SPRING, SPRING_SOL, DONE, EDITS, BrowserTest, cell, skip_without_browser
 
 # a lecture of c0109, and where it is cheapest
 FROM, BEST = (4, 1), (4, 3)
@@ -14,7 +14,7 @@ FREE = f"return !document.querySelector('.held-card, #week.holding') && {DONE[7:
 class Hand(BrowserTest):
     def setUp(self):
         super().setUp()
-        self.open("day", COMP07, "3", "--start", COMP07_SOL)
+        self.open("day", SPRING, "3", "--start", SPRING_SOL)
         self.server = self.serve("day")
 
     def test_drag(self):

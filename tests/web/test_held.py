@@ -2,8 +2,8 @@
 import random
 
 from served import (
-    COMP07,
-    COMP07_SOL,
+    SPRING,
+    SPRING_SOL,
     BrowserTest,
     WebTest,
     cell,
@@ -35,7 +35,7 @@ class Offered(WebTest):
     def test_each_slot(self):
         """A price or a reason, to move, to swap and to place; all that a slot offers when that is
         asked, cheapest first."""
-        self.open("day", COMP07, "1", "--start", COMP07_SOL)
+        self.open("day", SPRING, "1", "--start", SPRING_SOL)
         self.serve("day")
         self.ask("hello", {"name": "anna"})
         asked = [("pick_up", {"lecture": SEEN, "kind": kind}) for kind in ("move", "swap")]
@@ -64,7 +64,7 @@ class Offered(WebTest):
 
     def test_not_held(self):
         """Where nothing is held nothing is offered; a slot that is none is refused."""
-        self.open("day", COMP07, "1", "--start", COMP07_SOL)
+        self.open("day", SPRING, "1", "--start", SPRING_SOL)
         self.serve("day")
         self.assertEqual(self.ask("offers", {"at": BEST})[0], 410)
         self.ask("hello", {"name": "anna"})
@@ -74,7 +74,7 @@ class Offered(WebTest):
 
     def test_refused_for_all(self):
         """A course of which nothing is missing: each slot says so."""
-        self.open("day", COMP07, "1", "--start", COMP07_SOL)
+        self.open("day", SPRING, "1", "--start", SPRING_SOL)
         self.serve("day")
         self.ask("hello", {"name": "anna"})
         held, slots = self.hold("pick_up_missing", {"course": "c0109"})
@@ -122,7 +122,7 @@ class Offered(WebTest):
 class Held(BrowserTest):
     def setUp(self):
         super().setUp()
-        self.open("day", COMP07, "2", "--start", COMP07_SOL)
+        self.open("day", SPRING, "2", "--start", SPRING_SOL)
 
     def test_move(self):
         """Prices and reasons, and the rooms of one slot by its button and by the key."""

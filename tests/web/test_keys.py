@@ -2,7 +2,7 @@
 import contextlib
 import signal
 
-from served import BOX, COMP07, COMP07_SOL, DONE, BrowserTest, cell, skip_without_browser
+from served import BOX, SPRING, SPRING_SOL, DONE, BrowserTest, cell, skip_without_browser
 
 # a lecture of c0109
 FROM = (4, 1)
@@ -26,7 +26,7 @@ UNKNOWN = ('{"fault": "this window is not known here"}', 410)
 class Keys(BrowserTest):
     def setUp(self):
         super().setUp()
-        self.open("day", COMP07, "2", "--start", COMP07_SOL)
+        self.open("day", SPRING, "2", "--start", SPRING_SOL)
         self.server = self.serve("day")
 
     def chosen(self):

@@ -2,7 +2,7 @@
 import re
 
 from contrast import CONTRAST
-from served import COMP07, COMP07_SOL, BrowserTest, cell, skip_without_browser
+from served import SPRING, SPRING_SOL, BrowserTest, cell, skip_without_browser
 
 FROM = (4, 1)
 BEN = "open\nmove c0109 4 1 r09 4 2\ncommit\n"
@@ -39,7 +39,7 @@ WIDTH = "return document.querySelector(arguments[0]).getBoundingClientRect().wid
 class Looks(BrowserTest):
     def setUp(self):
         super().setUp()
-        self.open("day", COMP07, "2", "--start", COMP07_SOL)
+        self.open("day", SPRING, "2", "--start", SPRING_SOL)
         self.serve("day")
 
     def each_state(self, browser):

@@ -4,8 +4,8 @@ import time
 
 from served import (
     BOX,
-    COMP07,
-    COMP07_SOL,
+    SPRING,
+    SPRING_SOL,
     SMALL,
     BrowserTest,
     WebTest,
@@ -54,7 +54,7 @@ class Seen(BrowserTest):
     def test_taken_over(self):
         """The week, the search, the draft and what was accepted have the new names; a box that is
         open keeps what was typed in it."""
-        self.open("day", COMP07, "2", "--start", COMP07_SOL)
+        self.open("day", SPRING, "2", "--start", SPRING_SOL)
         self.serve("day")
         anna, reader = self.planner(), self.browser()
         reader.go(self.links["reader"])

@@ -7,8 +7,8 @@ import time
 
 from served import (
     BOX,
-    COMP07,
-    COMP07_SOL,
+    SPRING,
+    SPRING_SOL,
     BrowserTest,
     cell,
     skip_without_browser,
@@ -29,7 +29,7 @@ BEN = "open\nmove c0109 4 1 r09 4 2\ncommit\n"
 class Seats(BrowserTest):
     def setUp(self):
         super().setUp()
-        self.open("day", COMP07, "3", "--start", COMP07_SOL)
+        self.open("day", SPRING, "3", "--start", SPRING_SOL)
         self.server = self.serve("day")
 
     def port(self):

@@ -7,8 +7,8 @@ import os
 import signal
 
 from served import (
-    COMP07,
-    COMP07_SOL,
+    SPRING,
+    SPRING_SOL,
     SMALL,
     WebTest,
     skip_without_tornado,
@@ -26,7 +26,7 @@ SEEN = {"course": "c0109", "room": "r01", "at": FROM}
 class Talk(WebTest):
     def setUp(self):
         super().setUp()
-        self.opened = self.open("day", COMP07, "3", "--start", COMP07_SOL)
+        self.opened = self.open("day", SPRING, "3", "--start", SPRING_SOL)
         self.server = self.serve("day")
 
     def minutes(self):

@@ -15,7 +15,7 @@ from office.refused import MACHINE, Refused
 from office.web.launch import add_places, serve, web_of
 
 EXAMPLES = """a day, and the next one:
-  office open monday comp07.ctt 8 --start comp07.sol
+  office open monday spring.ctt 8 --start spring.sol
   office sit monday 3 --name anna
   office status monday
   office close monday

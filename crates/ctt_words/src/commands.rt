@@ -72,7 +72,7 @@ The lines of --explain, with days and periods counted from 0:
   compactness CURRICULUM COURSE DAY PERIOD POINTS
   stability COURSE ROOMS POINTS
 
-Example: timedesk check comp07.ctt comp07.sol --explain",
+Example: timedesk check spring.ctt spring.sol --explain",
         arguments: &[
             INSTANCE,
             SOLUTION,
@@ -100,7 +100,7 @@ Example: timedesk check comp07.ctt comp07.sol --explain",
         command: Name::Compare,
         name: "compare",
         about: "Print a row for each solution, with what it breaks and what it costs",
-        example: "Example: timedesk compare comp07.ctt monday.sol tuesday.sol --csv",
+        example: "Example: timedesk compare spring.ctt monday.sol tuesday.sol --csv",
         arguments: &[
             Argument::Optional("instance", "INSTANCE", "The file of the instance"),
             Argument::Optionals("solution", "SOLUTION", "The files of the solutions"),
@@ -132,7 +132,7 @@ Example: timedesk check comp07.ctt comp07.sol --explain",
         command: Name::Week,
         name: "week",
         about: "Print the week as a table, with a column for each day and a line for each period",
-        example: "Example: timedesk week comp07.ctt comp07.sol --teacher t067",
+        example: "Example: timedesk week spring.ctt spring.sol --teacher t067",
         arguments: &[
             INSTANCE, SOLUTION, BARRED, BLOCKED, CURRICULUM, TEACHER, COURSE, ROOM, POINT,
         ],
@@ -141,7 +141,7 @@ Example: timedesk check comp07.ctt comp07.sol --explain",
         command: Name::Page,
         name: "page",
         about: "Print a page for a browser with the report, all that is found, and the weeks",
-        example: "Example: timedesk page comp07.ctt comp07.sol >comp07.html",
+        example: "Example: timedesk page spring.ctt spring.sol >spring.html",
         arguments: &[
             INSTANCE,
             SOLUTION,
@@ -176,7 +176,7 @@ const DESK_COMMANDS: &[Outline] = &[
         command: Name::Run,
         name: "run",
         about: "Run a script of planners' steps and print the answers",
-        example: "Example: timedesk run comp07.ctt planners.txt --start comp07.sol --journal monday.journal",
+        example: "Example: timedesk run spring.ctt planners.txt --start spring.sol --journal monday.journal",
         arguments: &[
             INSTANCE,
             Argument::Word("script", "SCRIPT", "The file of the planners' steps"),
@@ -195,14 +195,14 @@ const DESK_COMMANDS: &[Outline] = &[
         command: Name::Audit,
         name: "audit",
         about: "Report whether a journal has the replies that its drafts get, run one after another",
-        example: "Example: timedesk audit comp07.ctt monday.journal --start comp07.sol",
+        example: "Example: timedesk audit spring.ctt monday.journal --start spring.sol",
         arguments: &[INSTANCE, JOURNAL, BARRED, BLOCKED, START, POINT],
     },
     Outline {
         command: Name::Crew,
         name: "crew",
         about: "Run scripts at once, each by a planner on a thread, and print the answers",
-        example: "Example: timedesk crew comp07.ctt anna.txt ben.txt",
+        example: "Example: timedesk crew spring.ctt anna.txt ben.txt",
         arguments: &[
             INSTANCE,
             Argument::Words(
@@ -219,7 +219,7 @@ const DESK_COMMANDS: &[Outline] = &[
         command: Name::Desk,
         name: "desk",
         about: "Keep a desk for planners at their terminals",
-        example: "Example: timedesk desk comp07.ctt - --start comp07.sol",
+        example: "Example: timedesk desk spring.ctt - --start spring.sol",
         arguments: &[
             INSTANCE,
             Argument::Words(
@@ -242,7 +242,7 @@ const DESK_COMMANDS: &[Outline] = &[
         command: Name::Journal,
         name: "journal",
         about: "Print the journal of the minutes of a desk",
-        example: "Example: timedesk journal comp07.ctt monday.minutes >monday.journal",
+        example: "Example: timedesk journal spring.ctt monday.minutes >monday.journal",
         arguments: &[
             INSTANCE,
             Argument::Word("minutes", "MINUTES", "The file of the minutes"),
@@ -255,21 +255,21 @@ const DESK_COMMANDS: &[Outline] = &[
         command: Name::List,
         name: "list",
         about: "Print the timetable after a journal as a solution",
-        example: "Example: timedesk list comp07.ctt monday.journal --start comp07.sol >tuesday.sol",
+        example: "Example: timedesk list spring.ctt monday.journal --start spring.sol >tuesday.sol",
         arguments: &[INSTANCE, JOURNAL, BARRED, BLOCKED, START, POINT],
     },
     Outline {
         command: Name::Mend,
         name: "mend",
         about: "Print a solution without the lectures that cannot be placed, and report each of these",
-        example: "Example: timedesk mend comp07.ctt comp07.sol >mended.sol",
+        example: "Example: timedesk mend spring.ctt spring.sol >mended.sol",
         arguments: &[INSTANCE, SOLUTION, BARRED, BLOCKED, POINT],
     },
     Outline {
         command: Name::Where,
         name: "where",
         about: "Print the line and the column of a word or a byte of a file, and the line",
-        example: "Example: timedesk where comp07.ctt 14",
+        example: "Example: timedesk where spring.ctt 14",
         arguments: &[
             Argument::Word("instance", "FILE", "The file"),
             Argument::Word(
@@ -288,18 +288,18 @@ const DESK_COMMANDS: &[Outline] = &[
 /// The text below the help: an example of each command, and the exit statuses.
 const BELOW_HELP: &str = "\
 Examples:
-  timedesk check comp07.ctt comp07.sol --explain
-  timedesk compare comp07.ctt monday.sol tuesday.sol --csv
-  timedesk week comp07.ctt comp07.sol --teacher t067
-  timedesk page comp07.ctt comp07.sol >comp07.html
-  timedesk run comp07.ctt planners.txt --start comp07.sol --journal monday.journal
-  timedesk audit comp07.ctt monday.journal --start comp07.sol
-  timedesk crew comp07.ctt anna.txt ben.txt
-  timedesk desk comp07.ctt - --start comp07.sol
-  timedesk journal comp07.ctt monday.minutes >monday.journal
-  timedesk list comp07.ctt monday.journal --start comp07.sol >tuesday.sol
-  timedesk mend comp07.ctt comp07.sol >mended.sol
-  timedesk where comp07.ctt 14
+  timedesk check spring.ctt spring.sol --explain
+  timedesk compare spring.ctt monday.sol tuesday.sol --csv
+  timedesk week spring.ctt spring.sol --teacher t067
+  timedesk page spring.ctt spring.sol >spring.html
+  timedesk run spring.ctt planners.txt --start spring.sol --journal monday.journal
+  timedesk audit spring.ctt monday.journal --start spring.sol
+  timedesk crew spring.ctt anna.txt ben.txt
+  timedesk desk spring.ctt - --start spring.sol
+  timedesk journal spring.ctt monday.minutes >monday.journal
+  timedesk list spring.ctt monday.journal --start spring.sol >tuesday.sol
+  timedesk mend spring.ctt spring.sol >mended.sol
+  timedesk where spring.ctt 14
 
 Status: 0 if it is done, also if a report says that a solution is unlawful;
 1 if the content of a file is refused, a name is not in it, or an audit does not agree; 2 if the
