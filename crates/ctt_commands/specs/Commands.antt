@@ -83,7 +83,7 @@ IsLoaded command held other = ⊥
 abbrev pub IsUnloaded : Command → Held → Fault → Type 0
 IsUnloaded (Check names options) held fault = IsOfInstanceOr (IsOfSolution names.solution) held names.instance names.sides fault
 IsUnloaded (Compare instance sides solutions options) held fault = IsOfInstanceIn held instance sides fault
-IsUnloaded (Pairs pairs options) held fault = IsOfText IsNoPairs held pairs fault
+IsUnloaded (Pairs pairs options) held fault = IsOfText (IsNoPairs (string_bytes pairs)) held pairs fault
 IsUnloaded (Week names whose) held fault = IsOfInstanceOr (IsOfSelected whose names.solution) held names.instance names.sides fault
 IsUnloaded (Page names whose words) held fault = IsOfInstanceOr (IsOfSelected whose names.solution) held names.instance names.sides fault
 IsUnloaded (Audit names) held fault = IsOfInstanceOr (IsOfReplay names.journal names.start) held names.instance names.sides fault

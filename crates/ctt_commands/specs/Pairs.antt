@@ -1,7 +1,10 @@
 -- The text of pairs: lines of an instance and a solution of it, by the names of their files.
 use Rattle.std.specs.Prelude.{◌≡◌, ℕ, ◌+◌, ◌==◌, ◌&&◌, ◌||◌, Bool, not, List, [], ◌∷◌, ◌++◌, Result, Ok, Err, codes, filter, map, string_bytes, if◌then◌else◌}
+use Rattle.std.specs.Fmt.{decimal}
+use Rattle.std.specs.Global.{Global}
 use Rattle.std.specs.List.{list_any, slice_split}
 use Rattle.std.specs.Str.{bytes_eq, is_utf8}
+use Rattle.std.specs.declared.string.String.{String}
 use Rattle.ctt_text.specs.Words.{words}
 use Rattle.ctt_files.specs.declared.fault.ContentsFault.TheVariants.{Pairs}
 use Rattle.ctt_files.specs.declared.fault.Fault.{Fault}
@@ -55,19 +58,36 @@ line_value line.Blank = Ok []
 line_value (line.Pair pair) = Ok (name_pair pair ∷ [])
 line_value (line.Fault number) = Err number
 
--- the fault of a line with this number
-abbrev pub IsFaultOfLine : ℕ → List ℕ → Fault → Type 0
-IsFaultOfLine at line fault = (number : ℕ) × (pair_in (words line) ≡ Err number)
-    × (fault ≡ Contents (Pairs number at))
+-- what is wrong with a line, by the number of the fault
+abbrev pub pairs_sentence : ℕ → List ℕ
+pairs_sentence number = if number == 1 then codes "a name that is not UTF-8"
+    else if number == 2 then codes "expected two words, an instance and a solution of it"
+    else codes "a name is that of a file, not of standard input"
+
+-- the line that says where the text of the file of this name is refused, and why
+abbrev pub pairs_point : List ℕ → ℕ → ℕ → List ℕ
+pairs_point file number at = file ++ (codes ":" ++ (decimal at ++ (codes ":1: P"
+    ++ (decimal number ++ (codes ": " ++ (pairs_sentence number ++ codes "\n"))))))
+
+-- the fault of this number in this line of the file of this name
+abbrev pub IsPairsFault : List ℕ → ℕ → ℕ → Fault → Type 0
+IsPairsFault file number at fault = (point : String Global)
+    × (string_bytes point ≡ pairs_point file number at)
+    × (fault ≡ Contents (Pairs number at point))
+
+-- the fault of a line with this number in the file of this name
+abbrev pub IsFaultOfLine : List ℕ → ℕ → List ℕ → Fault → Type 0
+IsFaultOfLine file at line fault =
+    (number : ℕ) × (pair_in (words line) ≡ Err number) × IsPairsFault file number at fault
 
 -- the fault of a text with these lines
-abbrev pub IsFaultOfLines : List (List ℕ) → Fault → Type 0
-IsFaultOfLines lines fault = (number at : ℕ) × (pairs_from 1 lines ≡ Err (number, at))
-    × (fault ≡ Contents (Pairs number at))
+abbrev pub IsFaultOfLines : List ℕ → List (List ℕ) → Fault → Type 0
+IsFaultOfLines file lines fault =
+    (number at : ℕ) × (pairs_from 1 lines ≡ Err (number, at)) × IsPairsFault file number at fault
 
--- the text of the pairs is refused
-abbrev pub IsNoPairs : List ℕ → Fault → Type 0
-IsNoPairs text fault = IsFaultOfLines (lines_in text) fault
+-- the text of the pairs in the file of this name is refused
+abbrev pub IsNoPairs : List ℕ → List ℕ → Fault → Type 0
+IsNoPairs file text fault = IsFaultOfLines file (lines_in text) fault
 
 -- ---- the pairs by their instances
 

@@ -2,6 +2,7 @@
 
 ghost use Rattle.std.specs.Prelude.{◌≡◌, ◌≢◌, ◌∷◌, [], true, false, IfOk, IfErr};
 ghost use Rattle.std.specs.List.{AllByRecursion as Each};
+ghost use Rattle.std.specs.String.{string_bytes};
 ghost use Rattle.ctt_files.specs.Refusals.{IsOfInstanceIn, IsOfText};
 ghost use Rattle.ctt_files.specs.declared.fault.Fault.TheVariants.{Machine};
 ghost use Rattle.ctt_files.specs.declared.fault.MachineFault.TheVariants.{NoMemory as OutOfMemory};
@@ -208,10 +209,12 @@ pub(crate) fn fetch_pairs<F: Files>(
         AreGroups (F.held files.old) pairs groups.items) }
     ensures fit { IfOk result (λ groups. Each GroupFits groups.items) }
     ensures kept { F.held files.new ≡ F.held files.old }
-    ensures cause { IfErr result (IsOfText IsNoPairs (F.held files.old) pairs) }
+    ensures cause { IfErr result
+        (IsOfText (IsNoPairs (string_bytes pairs)) (F.held files.old) pairs) }
 {
+    let file = pairs.clone()?;
     let text = read_file(alloc, files, pairs)?;
-    let pairs = read_pairs(alloc, &text)?;
+    let pairs = read_pairs(alloc, &file, &text)?;
     let wanted = by_instance(alloc, &pairs)?;
     fetch_groups(alloc, files, wanted)
 }

@@ -6,7 +6,7 @@ ghost use Rattle.std.specs.Str.{bytes_eq, is_utf8};
 ghost use Rattle.ctt_files.specs.declared.fault.Fault.TheVariants.{Machine};
 ghost use Rattle.ctt_files.specs.declared.fault.MachineFault.TheVariants.{NoMemory as OutOfMemory};
 ghost use Rattle.ctt_text.specs.Words.{words};
-ghost use Rattle.ctt_commands.specs.Pairs.{IsFaultOfLine, IsFaultOfLines, IsNoPairs, NamePair, by_instance, firsts, line_value, lines_in, name_pair, pair_in, pairs_from, pairs_in, solutions_of, wanted_of, with_name};
+ghost use Rattle.ctt_commands.specs.Pairs.{IsFaultOfLine, IsFaultOfLines, IsNoPairs, IsPairsFault, NamePair, by_instance, firsts, line_value, lines_in, name_pair, pair_in, pairs_from, pairs_in, pairs_sentence, solutions_of, wanted_of, with_name};
 
 use ctt_files::{ContentsFault, Fault};
 use ctt_text::Words;
@@ -97,46 +97,69 @@ fn lines(alloc: Global, text: &[u8]) -> Result<Vec<&[u8]>, AllocError>
     text.split(|byte| *byte == b'\n').collect(alloc)
 }
 
+/// Returns what is wrong with a line, by the number of the fault.
+fn pairs_sentence(number: u8) -> &'static str
+    ensures { result.now ≡ pairs_sentence number }
+{
+    match number {
+        1 => "a name that is not UTF-8",
+        2 => "expected two words, an instance and a solution of it",
+        _ => "a name is that of a file, not of standard input",
+    }
+}
+
+/// Returns the fault of this number in a line of the file of this name.
+fn refuse_line(alloc: Global, file: &str, number: u8, at: u64) -> Result<Fault, AllocError>
+    ensures { IfOk result (IsPairsFault file.now number at) }
+{
+    let sentence = pairs_sentence(number);
+    let point = format!(in alloc; "{file}:{at}:1: P{number}: {sentence}\n")?;
+    Ok(Fault::Contents(ContentsFault::Pairs { number, at, point }))
+}
+
 /// Adds the pair of a line with this number.
-fn push_line(alloc: Global, pairs: &mut Vec<Pair>, number: u64, line: &[u8]) -> Result<(), Fault>
+fn push_line(
+    alloc: Global,
+    file: &str,
+    pairs: &mut Vec<Pair>,
+    number: u64,
+    line: &[u8],
+) -> Result<(), Fault>
     ensures pushed { OnOk result ((more : List NamePair) × (pair_in (words line.now) ≡ Ok more)
         × (map name_pair pairs.new.items ≡ map name_pair pairs.old.items ++ more)) }
     ensures cause { IfErr result (λ fault. (fault ≡ Machine OutOfMemory)
-        ⊎ IsFaultOfLine number line.now fault) }
+        ⊎ IsFaultOfLine file.now number line.now fault) }
 {
     match read_line(alloc, line)? {
         Line::Blank => Ok(()),
         Line::Pair(pair) => Ok(pairs.push(pair)?),
-        Line::Fault(code) => Err(Fault::Contents(ContentsFault::Pairs {
-            number: code,
-            line: number,
-        })),
+        Line::Fault(code) => Err(refuse_line(alloc, file, code, number)?),
     }
 }
 
 /// Parses the lines of a list of pairs.
-fn read_lines(alloc: Global, lines: &[&[u8]]) -> Result<Vec<Pair>, Fault>
+fn read_lines(alloc: Global, file: &str, lines: &[&[u8]]) -> Result<Vec<Pair>, Fault>
     ensures pairs { IfOk result (λ pairs.
         pairs_from 1 (map (λ line. line.now) lines.now) ≡ Ok (map name_pair pairs.items)) }
     ensures cause { IfErr result (λ fault. (fault ≡ Machine OutOfMemory)
-        ⊎ IsFaultOfLines (map (λ line. line.now) lines.now) fault) }
+        ⊎ IsFaultOfLines file.now (map (λ line. line.now) lines.now) fault) }
 {
     let mut pairs = Vec::new(alloc);
     let mut number = 0;
     for line in lines {
         number += 1;
-        push_line(alloc, &mut pairs, number, line)?;
+        push_line(alloc, file, &mut pairs, number, line)?;
     }
     Ok(pairs)
 }
 
-/// Parses a list of pairs.
-pub(crate) fn read_pairs(alloc: Global, text: &[u8]) -> Result<Vec<Pair>, Fault>
+/// Parses the list of pairs in the file of this name.
+pub(crate) fn read_pairs(alloc: Global, file: &str, text: &[u8]) -> Result<Vec<Pair>, Fault>
     ensures pairs { IfOk result (λ pairs. pairs_in text.now ≡ Ok (map name_pair pairs.items)) }
     ensures cause { IfErr result (λ fault. (fault ≡ Machine OutOfMemory)
-        ⊎ IsNoPairs text.now fault) }
+        ⊎ IsNoPairs file.now text.now fault) }
 {
-    read_lines(alloc, &lines(alloc, text)?)
+    read_lines(alloc, file, &lines(alloc, text)?)
 }
 
 /// Returns whether a name is among names.

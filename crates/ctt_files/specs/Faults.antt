@@ -114,7 +114,7 @@ contents_line (Solution met point) = place_line (codes "solution") (solution_cod
 contents_line (Barred met point) = place_line (codes "barred") (barred_code met) (barred_at met)
 contents_line (Blocked met point) = place_line (codes "blocked") (blocked_code met) (blocked_at met)
 contents_line (Journal number at point) = journal_line number at
-contents_line (Pairs number at) = pairs_line number at
+contents_line (Pairs number at point) = pairs_line number at
 contents_line (Opening text) = string_bytes text
 contents_line (NoCurriculum name) = name_line (codes "no curriculum") name
 contents_line (NoTeacher name) = name_line (codes "no teacher") name
@@ -154,6 +154,7 @@ contents_point (Solution met point) = string_bytes point
 contents_point (Barred met point) = string_bytes point
 contents_point (Blocked met point) = string_bytes point
 contents_point (Journal number at point) = string_bytes point
+contents_point (Pairs number at point) = string_bytes point
 contents_point _ = []
 
 -- this line, or nothing if the fault is of no text

@@ -33,7 +33,7 @@ pub enum ContentsFault {
     /// The journal is invalid, at this byte or word.
     Journal { number: u8, at: u64, point: String },
     /// The list of pairs is invalid, in this line.
-    Pairs { number: u8, line: u64 },
+    Pairs { number: u8, at: u64, point: String },
     /// A lecture of the opening cannot be placed. The text is the line that says which one, and
     /// why.
     Opening(String),
@@ -120,7 +120,8 @@ impl ContentsFault {
             | ContentsFault::Solution { point, .. }
             | ContentsFault::Barred { point, .. }
             | ContentsFault::Blocked { point, .. }
-            | ContentsFault::Journal { point, .. } => point,
+            | ContentsFault::Journal { point, .. }
+            | ContentsFault::Pairs { point, .. } => point,
             _ => "",
         }
     }

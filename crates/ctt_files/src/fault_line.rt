@@ -86,7 +86,7 @@ impl ContentsFault {
                 place_line(alloc, "timedesk: blocked", met.code(), met.at())
             }
             ContentsFault::Journal { number, at, .. } => journal_line(alloc, *number, *at),
-            ContentsFault::Pairs { number, line } => pairs_line(alloc, *number, *line),
+            ContentsFault::Pairs { number, at, .. } => pairs_line(alloc, *number, *at),
             ContentsFault::Opening(text) => text.clone(),
             ContentsFault::NoCurriculum(name) => {
                 name_line(alloc, "timedesk: no curriculum", name)
