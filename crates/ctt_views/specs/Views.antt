@@ -7,7 +7,6 @@ use Rattle.ctt_views.specs.declared.grid.Grid.{Grid}
 use Rattle.ctt_views.specs.declared.grid.Grid.TheVariants.{Curriculum, Teacher, Room, Course}
 use Rattle.ctt_views.specs.declared.options.GridKind.{GridKind}
 use Rattle.ctt_views.specs.declared.options.GridKind.TheVariants.{Courses, Curricula, Rooms, Teachers}
-use Rattle.ctt_views.specs.declared.options.TheConstants.{MOST_CELLS}
 use Rattle.ctt_views.specs.declared.view.View.{View}
 
 -- the cells of the grids of all kinds
@@ -18,7 +17,7 @@ cell_count i = (curriculum_count i + teacher_count i + room_count i + course_cou
 -- all kinds are too much for a browser
 abbrev pub only_kind : Problem → Option GridKind → Option GridKind
 only_kind i (Some k) = Some k
-only_kind i None = if nat_lt MOST_CELLS (cell_count i) then Some Rooms else None
+only_kind i None = if nat_lt 80000 (cell_count i) then Some Rooms else None
 
 -- a page with the grids of one kind only, or of all kinds
 abbrev pub view_with : Option GridKind → Bool → View

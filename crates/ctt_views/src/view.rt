@@ -22,7 +22,7 @@ pub(crate) struct View {
 
 /// Returns whether the grids of all kinds have too many cells for one page.
 fn is_large(instance: &Instance) -> bool
-    ensures { result ≡ nat_lt MOST_CELLS (cell_count instance.now) }
+    ensures { result ≡ nat_lt 80000 (cell_count instance.now) }
 {
     instance.limits_hold();
     let grids = u64::from(instance.curricula())
