@@ -1,8 +1,10 @@
 //! Files by name.
 
-ghost use Rattle.std.specs.Prelude.{◌≡◌, ◌≢◌, ◌≤◌, ◌↔◌, length, map, false, true, Some, None, Err, OnOk, IfOk, IfErr, IfSome, vec_len};
+ghost use Rattle.std.specs.Prelude.{◌≡◌, ◌≢◌, ◌≤◌, ◌↔◌, codes, length, map, false, true, Some, None, Err, OnOk, IfOk, IfErr, IfSome, vec_len};
+ghost use Rattle.std.specs.Str.{bytes_eq};
 ghost use Rattle.std.specs.String.{string_bytes};
 ghost use Rattle.ctt_files.specs.Faults.{fault_of_input};
+ghost use Rattle.ctt_files.specs.Files.{is_standard};
 ghost use Rattle.ctt_files.specs.Refusals.{IsOfFile, IsOfFiles, IsOfInput};
 ghost use Rattle.ctt_files.specs.Texts.{HoldInTurn};
 ghost use Rattle.ctt_files.specs.declared.fault.Fault.TheVariants.{Machine};
@@ -55,6 +57,10 @@ pub enum FileInput<T> {
 }
 
 impl<T: Read> Read for FileInput<T> {
+    ghost use Rattle.ctt_files.specs.Files.{input_left};
+
+    ghost remaining = { λ input. input_left T.remaining input };
+
     fn read(&mut self, buffer: &mut [u8]) -> io::Result<usize> {
         match self {
             FileInput::Standard(input) => input.read(buffer),
@@ -81,19 +87,30 @@ impl<'r, R: rt::Files> SystemFiles<'r, R> {
     }
 }
 
+/// Opens the file of this name, or standard input.
+fn open_input<R: rt::Files>(
+    rt: &R,
+    standard: Stdin,
+    name: &str,
+) -> Result<FileInput<R::File>, Failed>
+    ensures { IfOk result (λ input. is_standard input ≡ bytes_eq name.now (codes "-")) }
+{
+    if name == STANDARD {
+        return Ok(FileInput::Standard(standard));
+    }
+    match fs::open(rt, name) {
+        Ok(file) => Ok(FileInput::File(file)),
+        Err(_) => Err(Failed),
+    }
+}
+
 impl<'r, R: rt::Files> Files for SystemFiles<'r, R> {
     type Input = Device<FileInput<R::File>>;
 
     ghost held = { λ _ _. None };
 
     fn fetch(&mut self, name: &str) -> Result<Self::Input, Failed> {
-        if name == STANDARD {
-            return Ok(Device::new(FileInput::Standard(self.input)));
-        }
-        match fs::open(self.rt, name) {
-            Ok(file) => Ok(Device::new(FileInput::File(file))),
-            Err(_) => Err(Failed),
-        }
+        Ok(Device::new(open_input(self.rt, self.input, name)?))
     }
 
     fn store(&mut self, name: &str, bytes: &[u8]) -> Result<(), Failed> {

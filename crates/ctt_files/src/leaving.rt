@@ -1,6 +1,8 @@
 //! A writer whose reader may leave.
 
-ghost use Rattle.std.specs.Prelude.{◌≡◌};
+ghost use Rattle.std.specs.Prelude.{◌≡◌, false, IfErr};
+ghost use Rattle.std.specs.Io.{WritesAtMost};
+ghost use Rattle.std.specs.IoError.{error_kind};
 ghost use Rattle.ctt_files.specs.Leaving.{is_broken_pipe, unless_left};
 
 use std::io;
@@ -24,7 +26,8 @@ fn is_broken_pipe(kind: ErrorKind) -> bool
 /// Returns what is told of a call that has come out so: if it failed as nobody reads any more, it
 /// has done `all`.
 fn unless_left<T: Copy>(called: io::Result<T>, all: T) -> io::Result<T>
-    ensures { result ≡ unless_left called all }
+    ensures told { result ≡ unless_left called all }
+    ensures left { IfErr result (λ error. is_broken_pipe (error_kind error) ≡ false) }
 {
     match called {
         Ok(done) => Ok(done),
@@ -39,11 +42,16 @@ fn unless_left<T: Copy>(called: io::Result<T>, all: T) -> io::Result<T>
 }
 
 impl<T: Write> Write for Leaving<T> {
-    fn write(&mut self, bytes: &[u8]) -> io::Result<usize> {
+    fn write(&mut self, bytes: &[u8]) -> io::Result<usize>
+        ensures bound { WritesAtMost result bytes.now }
+        ensures left { IfErr result (λ error. is_broken_pipe (error_kind error) ≡ false) }
+    {
         unless_left(self.0.write(bytes), bytes.len())
     }
 
-    fn flush(&mut self) -> io::Result<()> {
+    fn flush(&mut self) -> io::Result<()>
+        ensures left { IfErr result (λ error. is_broken_pipe (error_kind error) ≡ false) }
+    {
         unless_left(self.0.flush(), ())
     }
 }
