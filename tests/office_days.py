@@ -3,7 +3,7 @@ import contextlib
 import os
 import subprocess
 
-from desks import SPRING, SPRING_SOL, NO_MINUTES, PATIENCE, SMALL, Desk, Seat, audit, call, room, with_threads
+from desks import NO_MINUTES, PATIENCE, SMALL, SPRING, SPRING_SOL, Desk, Seat, audit, call, room, with_threads
 from program import PROGRAM, check
 
 DAY = [

@@ -5,7 +5,7 @@ import signal
 import threading
 import time
 
-from desks import SPRING, SPRING_SOL, FAST, Desk, audit, call, with_threads
+from desks import FAST, SPRING, SPRING_SOL, Desk, audit, call, with_threads
 from program import check
 
 

@@ -13,7 +13,7 @@ import sys
 HERE = os.path.dirname(os.path.dirname(os.path.abspath(__file__)))
 sys.path[:0] = [os.path.join(HERE, "tests", "web"), os.path.join(HERE, "tests", "client")]
 
-from served import SPRING, SPRING_SOL, POOL, BrowserTest, cell  # noqa: E402
+from served import POOL, SPRING, SPRING_SOL, BrowserTest, cell  # noqa: E402
 
 FOLDER = os.path.abspath(sys.argv[1] if len(sys.argv) > 1 else os.path.join(HERE, "docs"))
 # a lecture of c0109, where it is cheapest, and one of c0097 with its best place

@@ -2,7 +2,7 @@
 import unittest
 
 from at_terminals import TO_BEST
-from support import SPRING, SPRING_SOL, OFFICE, OfficeTest, wait_until
+from support import OFFICE, SPRING, SPRING_SOL, OfficeTest, wait_until
 from terminal import Terminals, has_tmux
 
 from office.folder import Day

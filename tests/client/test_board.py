@@ -6,7 +6,7 @@ import sys
 import threading
 import unittest.mock
 
-from support import SPRING, SPRING_SOL, HERE, PROGRAM, SMALL, SMALL_SOL, OfficeTest, said
+from support import HERE, PROGRAM, SMALL, SMALL_SOL, SPRING, SPRING_SOL, OfficeTest, said
 from support import wait_until
 
 sys.path.append(os.path.join(HERE, "tests"))

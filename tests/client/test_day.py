@@ -5,12 +5,12 @@ import stat
 import time
 
 from support import (
-    SPRING,
-    SPRING_SOL,
     PATIENCE,
     PROGRAM,
     SMALL,
     SMALL_SOL,
+    SPRING,
+    SPRING_SOL,
     OfficeTest,
     is_alive,
     wait_until,

@@ -5,7 +5,7 @@ import subprocess
 import sys
 import time
 
-from support import SPRING, SPRING_SOL, FAKE, OFFICE, SMALL, SMALL_SOL, OfficeTest, said, wait_until
+from support import FAKE, OFFICE, SMALL, SMALL_SOL, SPRING, SPRING_SOL, OfficeTest, said, wait_until
 
 import office.seat
 from office.board import Board

@@ -4,7 +4,7 @@ import unittest
 
 from fake_week import FakeWeek
 from plain_instance import instance_of
-from support import SPRING, SPRING_SOL, PROGRAM, SMALL
+from support import PROGRAM, SMALL, SPRING, SPRING_SOL
 
 from office.drafts import make_draft
 from office.instance import read_instance, read_solution

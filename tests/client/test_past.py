@@ -1,5 +1,5 @@
 """What a day was after each of its drafts."""
-from support import SPRING, SPRING_SOL, SMALL, OfficeTest
+from support import SMALL, SPRING, SPRING_SOL, OfficeTest
 
 from office.at import parse_at, read_at
 from office.folder import Day

@@ -2,7 +2,7 @@
 import os
 import signal
 
-from support import SPRING, SPRING_SOL, SMALL, SMALL_SOL, OfficeTest, said, wait_until
+from support import SMALL, SMALL_SOL, SPRING, SPRING_SOL, OfficeTest, said, wait_until
 
 from office.board import Board
 from office.carry import MOVE, PLACE, SWAP, Carry

@@ -1,6 +1,6 @@
 """Why a lecture cannot stand in a slot, in words."""
 from fake_planner import FakePlanner
-from support import SPRING, SMALL, SMALL_SOL, OfficeTest, said
+from support import SMALL, SMALL_SOL, SPRING, OfficeTest, said
 
 from office.carry import SWAP, Carry
 from office.instance import read_instance, read_solution

@@ -3,7 +3,7 @@ import os
 import signal
 
 from at_terminals import TO_BEST, AtTerminals
-from support import SPRING, SPRING_SOL, OFFICE, PROGRAM, SMALL, SMALL_SOL, wait_until
+from support import OFFICE, PROGRAM, SMALL, SMALL_SOL, SPRING, SPRING_SOL, wait_until
 from test_day import LIMITED
 
 # an edit in words, and where the old room is not known

@@ -2,7 +2,7 @@
 import test_speed
 from fake_week import FakeWeek
 from fake_words import words_of
-from support import SPRING, SPRING_SOL, SMALL, SMALL_SOL, OfficeTest, said
+from support import SMALL, SMALL_SOL, SPRING, SPRING_SOL, OfficeTest, said
 
 from office.board import Board
 from office.carry import MOVE, PLACE, SWAP, Carry

@@ -5,7 +5,7 @@ import subprocess
 import time
 
 from at_terminals import TO_BEST, AtTerminals
-from support import SPRING, SPRING_SOL, HERE, OFFICE, SMALL, SMALL_SOL, is_alive, wait_until
+from support import HERE, OFFICE, SMALL, SMALL_SOL, SPRING, SPRING_SOL, is_alive, wait_until
 
 
 class Screens(AtTerminals):

@@ -9,7 +9,7 @@ import unittest
 
 from browser import Pages, read_calendar, with_browser, with_reader
 from plain_instance import instance_of, lectures_of
-from support import SPRING, SPRING_SOL, PROGRAM, SMALL, SMALL_SOL, OfficeTest, said
+from support import PROGRAM, SMALL, SMALL_SOL, SPRING, SPRING_SOL, OfficeTest, said
 
 from office.board import Board
 from office.folder import Day

@@ -15,7 +15,7 @@ sys.path.append(os.path.join(HERE, "tests", "client"))
 sys.path.insert(0, os.path.join(HERE, "tools"))
 
 from browser import Browser, Driver, DriverFault, has_browser  # noqa: E402
-from support import SPRING, SPRING_SOL, OFFICE, SMALL, OfficeTest, wait_until  # noqa: E402
+from support import OFFICE, SMALL, SPRING, SPRING_SOL, OfficeTest, wait_until  # noqa: E402
 
 from office.refused import Refused  # noqa: E402
 from office.web.launch import find_python  # noqa: E402

@@ -6,10 +6,10 @@ import signal
 
 from served import (
     BOX,
-    SPRING,
-    SPRING_SOL,
     DONE,
     EDITS,
+    SPRING,
+    SPRING_SOL,
     BrowserTest,
     WebTest,
     cell,

@@ -6,11 +6,11 @@ import time
 
 from served import (
     BOX,
-    SPRING,
-    SPRING_SOL,
     DONE,
     OFFICE,
     SMALL,
+    SPRING,
+    SPRING_SOL,
     BrowserTest,
     cell,
     skip_without_browser,

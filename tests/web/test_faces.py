@@ -6,10 +6,10 @@ from unittest import mock
 
 from served import (
     BOX,
-    SPRING,
-    SPRING_SOL,
     HERE,
     SMALL,
+    SPRING,
+    SPRING_SOL,
     BrowserTest,
     Shared,
     cell,

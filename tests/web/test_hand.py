@@ -2,7 +2,7 @@
 import signal
 import time
 
-from served import SPRING, SPRING_SOL, DONE, EDITS, BrowserTest, cell, skip_without_browser
+from served import DONE, EDITS, SPRING, SPRING_SOL, BrowserTest, cell, skip_without_browser
 
 # a lecture of c0109, and where it is cheapest
 FROM, BEST = (4, 1), (4, 3)

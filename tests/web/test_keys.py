@@ -2,7 +2,7 @@
 import contextlib
 import signal
 
-from served import BOX, SPRING, SPRING_SOL, DONE, BrowserTest, cell, skip_without_browser
+from served import BOX, DONE, SPRING, SPRING_SOL, BrowserTest, cell, skip_without_browser
 
 # a lecture of c0109
 FROM = (4, 1)

@@ -4,9 +4,9 @@ import time
 
 from served import (
     BOX,
+    SMALL,
     SPRING,
     SPRING_SOL,
-    SMALL,
     BrowserTest,
     WebTest,
     cell,

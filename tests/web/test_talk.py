@@ -7,9 +7,9 @@ import os
 import signal
 
 from served import (
+    SMALL,
     SPRING,
     SPRING_SOL,
-    SMALL,
     WebTest,
     skip_without_tornado,
     wait_until,
