@@ -186,6 +186,22 @@ def check_list(name, text, head, groups, folder):
     check(f"{name}: of standard input", (done.returncode, done.stdout.decode(), done.stderr.decode()), wanted)
 
 
+def check_refused_list(name, text, fault, folder):
+    """Compares what is said of a list of pairs that is refused, and of its point."""
+    file = os.path.join(folder, "list.txt")
+    write(file, text)
+    said = f"timedesk: pairs {fault}\n"
+    check_run(name, "compare", "--pairs", file, said=said, status=1)
+    code, line = fault.split()
+    sentence = {
+        "P1": "a name that is not UTF-8",
+        "P2": "expected two words, an instance and a solution of it",
+        "P3": "a name is that of a file, not of standard input",
+    }[code]
+    said += f"{file}:{line}:1: {code}: {sentence}\n"
+    check_run(f"{name}: its point", "compare", "--pairs", file, "--point", said=said, status=1)
+
+
 def check_pairs(folder):
     """Draws lists of pairs: of some instances, of which some are refused, with solutions in any order."""
     draw = random.Random(73)
@@ -223,10 +239,8 @@ def check_pairs(folder):
         (pair + "one", "P2 2"), ("one two three\n" + pair, "P2 1"), (f"{pair}\n - {solution}", "P3 3"), (f"{instance} -", "P3 1"),
         ("one\n- -", "P2 1"), (f"{pair}nowhere nowhere\n{pair}one", "P2 4"),
     ):
-        write(os.path.join(folder, "list.txt"), text.encode())
-        check_run(f"pairs {text}", "compare", "--pairs", os.path.join(folder, "list.txt"), said=f"timedesk: pairs {fault}\n", status=1)
-    write(os.path.join(folder, "list.txt"), pair.encode() + b"a\xff b\n")
-    check_run("pairs of bytes", "compare", "--pairs", os.path.join(folder, "list.txt"), said="timedesk: pairs P1 2\n", status=1)
+        check_refused_list(f"pairs {text}", text.encode(), fault, folder)
+    check_refused_list("pairs of bytes", pair.encode() + b"a\xff b\n", "P1 2", folder)
     none = os.path.join(folder, "none")
     check_run("no list of pairs", "compare", "--pairs", none, said=f"timedesk: cannot read {none}\n", status=3)
     beside = "timedesk: --pairs names the files: no INSTANCE, SOLUTION, --barred or --blocked beside it\n"

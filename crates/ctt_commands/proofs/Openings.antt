@@ -1,5 +1,5 @@
 -- Openings that are refused, and what is printed and stored of a desk.
-use Rattle.std.proofs.Common.{◌≡◌, ◌∙◌, ◌⊎◌, ⊎_elim, inl, inr, ◌<◌, ◌≤◌, ap, refl, sym, subst, ℕ, Bool, true, IsTrue, List, length, IfSome, Option, Some, None, Result, Ok, Err}
+use Rattle.std.proofs.Common.{◌≡◌, ◌∙◌, ◌⊎◌, ⊎_elim, inl, inr, ◌<◌, ◌≤◌, ap, refl, sym, subst, ℕ, Bool, true, IsTrue, List, length, IfErr, IfSome, Option, Some, None, Result, Ok, Err}
 use Rattle.std.specs.Io.KnownBytes.{Appends}
 use Rattle.std.specs.Prelude.{is_some}
 use Rattle.std.specs.Global.{Global}
@@ -27,6 +27,8 @@ use Rattle.ctt_script.specs.declared.script_fault.ScriptFault.TheVariants as scr
 use Rattle.ctt_files.specs.Faults.{IfUnwritten}
 use Rattle.ctt_files.specs.Texts.{Held, Holds, IsStart}
 use Rattle.ctt_files.specs.declared.fault.Fault.{Fault}
+use Rattle.ctt_files.specs.declared.fault.Fault.TheVariants.{Machine}
+use Rattle.ctt_files.specs.declared.fault.MachineFault.TheVariants.{CannotWrite}
 use Rattle.ctt_files.proofs.Plain.{plain_written}
 use Rattle.ctt_commands.specs.Verdicts.{VerdictFits}
 use Rattle.ctt_commands.specs.Faults.{IsRunFault, RunFaultFits}
@@ -127,3 +129,14 @@ journal_stored (Some name) before later after told i opened old new text same an
       (λ bytes is. some_weaker told (λ script. Answered i opened script old new true text) (λ script. bytes ≡ journal_text i (accepted_of (script_run i opened script))) answered (λ script all. is ∙ all.is_journal refl)),
   others_kept (Some name) before later after same stores.1,
 )
+
+-- nothing was printed if the opening is refused, and else what stands of the opened desk
+pub opened_or : (r : Result (List Placed) (ℕ × EditFault)) (S : Type 0) (P : List Placed → Type 0) → ((at : ℕ) (found : EditFault) → r ≡ Err (at, found) → S) → ((opened : List Placed) → r ≡ Ok opened → P opened)
+    → S ⊎ ((opened : List Placed) × (r ≡ Ok opened) × P opened)
+opened_or (Ok opened) S P none some = inr (opened, refl, some opened refl)
+opened_or (Err refused) S P none some = inl (none refused.0 refused.1 refl)
+
+-- the journal could not be stored, when all answers were printed
+pub unstored_after : {T : Type 0} (r : Result T Fault) (M G A : Type 0) (P : Fault → Type 0) → IfErr r (λ fault. (fault ≡ Machine CannotWrite) × G) → A → IfErr r (λ fault. IfUnwritten fault (M ⊎ (G × A)) (P fault))
+unstored_after (Ok x) M G A P is all = tt
+unstored_after (Err fault) M G A P is all = subst (λ f. IfUnwritten f (M ⊎ (G × A)) (P f)) (sym is.0) (inr (is.1, all))

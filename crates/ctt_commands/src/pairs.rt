@@ -6,7 +6,7 @@ ghost use Rattle.std.specs.Str.{bytes_eq, is_utf8};
 ghost use Rattle.ctt_files.specs.declared.fault.Fault.TheVariants.{Machine};
 ghost use Rattle.ctt_files.specs.declared.fault.MachineFault.TheVariants.{NoMemory as OutOfMemory};
 ghost use Rattle.ctt_text.specs.Words.{words};
-ghost use Rattle.ctt_commands.specs.Pairs.{IsFaultOfLine, IsFaultOfLines, IsNoPairs, IsPairsFault, NamePair, by_instance, firsts, line_value, lines_in, name_pair, pair_in, pairs_from, pairs_in, pairs_sentence, solutions_of, wanted_of, with_name};
+ghost use Rattle.ctt_commands.specs.Pairs.{IsFaultOfLine, IsFaultOfLines, IsNoPairs, IsPairsFault, NamePair, by_instance, firsts, line_value, lines_in, name_pair, pair_in, pairs_from, pairs_in, pairs_point, pairs_sentence, solutions_of, wanted_of, with_name};
 
 use ctt_files::{ContentsFault, Fault};
 use ctt_text::Words;
@@ -108,12 +108,19 @@ fn pairs_sentence(number: u8) -> &'static str
     }
 }
 
+/// Returns the line that says where the text of the file of this name is refused, and why.
+fn pairs_point(alloc: Global, file: &str, number: u8, at: u64) -> Result<String, AllocError>
+    ensures { IfOk result (λ text. string_bytes text ≡ pairs_point file.now number at) }
+{
+    let sentence = pairs_sentence(number);
+    format!(in alloc; "{file}:{at}:1: P{number}: {sentence}\n")
+}
+
 /// Returns the fault of this number in a line of the file of this name.
 fn refuse_line(alloc: Global, file: &str, number: u8, at: u64) -> Result<Fault, AllocError>
     ensures { IfOk result (IsPairsFault file.now number at) }
 {
-    let sentence = pairs_sentence(number);
-    let point = format!(in alloc; "{file}:{at}:1: P{number}: {sentence}\n")?;
+    let point = pairs_point(alloc, file, number, at)?;
     Ok(Fault::Contents(ContentsFault::Pairs { number, at, point }))
 }
 

@@ -1,6 +1,7 @@
 //! The command `run`.
 
-ghost use Rattle.std.specs.Prelude.{◌≡◌, ◌⊎◌, List, true, false, IsTrue, Ok, OnOk, IfOk, IfErr, IfSome};
+ghost use Rattle.std.specs.Prelude.{◌≡◌, ◌⊎◌, List, true, false, IsTrue, Ok, OnErr, OnOk, IfOk, IfErr, IfSome};
+ghost use Rattle.std.specs.Io.KnownBytes.{Appends};
 ghost use Rattle.std.specs.List.{AllByRecursion as Each};
 ghost use Rattle.ctt_problem.specs.Timetable.{Fits};
 ghost use Rattle.ctt_problem.specs.declared.placed.Placed.{Placed};
@@ -8,13 +9,14 @@ ghost use Rattle.ctt_edits.specs.Openings.{opening};
 ghost use Rattle.ctt_script.specs.Entries.{IsWritable};
 ghost use Rattle.ctt_script.specs.WrittenText.{journal_text};
 ghost use Rattle.ctt_files.specs.Faults.{IfUnwritten, MayHaveWritten};
+ghost use Rattle.ctt_files.specs.Output.{AppendsFront};
 ghost use Rattle.ctt_files.specs.Storing.{IsGiven, KeepOthers, Stores};
 ghost use Rattle.ctt_files.specs.declared.fault.Fault.TheVariants.{Machine};
 ghost use Rattle.ctt_files.specs.declared.fault.MachineFault.TheVariants.{CannotWrite};
 ghost use Rattle.ctt_files.specs.declared.outcome.Outcome.TheVariants.{Done};
 ghost use Rattle.ctt_commands.specs.Faults.{IsRunFault, KeptUnless, RunFaultFits};
 ghost use Rattle.ctt_commands.specs.Refusals.{IsAnswerFault, IsOfRun};
-ghost use Rattle.ctt_commands.specs.Runs.{Answered, RunsScript};
+ghost use Rattle.ctt_commands.specs.Runs.{Answered, AnswersScript, PrintsFront, RunsScript};
 
 use crate::refused::refused_opening;
 use ctt_core::JournalEntry;
@@ -76,8 +78,12 @@ fn answer<R: Source, W: Sink>(
         × (opening instance.now lectures.now ≡ Ok opened)
         × IfSome (R.left script.old) (λ text.
         Answered instance.now opened text (W.taken out.old) (W.taken out.new) wanted journal.items)) }
+    ensures flushed { OnOk result (W.unflushed out.new ≡ 0) }
     ensures unmarked { OnOk result (W.has_failed out.new ≡ W.has_failed out.old) }
 
+    ensures front { OnErr result ((out.new ≡ out.old)
+        ⊎ PrintsFront instance.now lectures.now (R.left script.old)
+        (W.taken out.old) (W.taken out.new)) }
     ensures cause { IfErr result (λ fault. IfUnwritten fault
         (W.has_failed out.new ≡ true)
         (IsAnswerFault instance.now lectures.now name (R.left script.old) fault
@@ -132,9 +138,15 @@ pub fn run<F: Files, W: Sink>(
         (RunsScript instance sides script start journal (F.held files.old) (F.held files.new)
         (W.taken out.old) (W.taken out.new)) }
     ensures done { IfOk result (λ outcome. outcome ≡ Done) }
+    ensures flushed { OnOk result (W.unflushed out.new ≡ 0) }
     ensures unmarked { OnOk result (W.has_failed out.new ≡ W.has_failed out.old) }
+    ensures front { OnErr result ((out.new ≡ out.old)
+        ⊎ AnswersScript (AppendsFront (W.taken out.old) (W.taken out.new))
+        instance sides script start (F.held files.old)) }
     ensures cause { IfErr result (λ fault. IfUnwritten fault
-        ((W.has_failed out.new ≡ true) ⊎ IsGiven journal)
+        ((W.has_failed out.new ≡ true) ⊎ (IsGiven journal
+        × AnswersScript (Appends (W.taken out.old) (W.taken out.new))
+        instance sides script start (F.held files.old)))
         (IsOfRun (F.held files.old) instance sides script start fault
         × (W.has_failed out.new ≡ W.has_failed out.old))) }
     ensures unwritten { IfErr result (λ fault. MayHaveWritten fault ⊎ (out.new ≡ out.old)) }

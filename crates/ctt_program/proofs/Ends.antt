@@ -21,6 +21,7 @@ use Rattle.ctt_words.specs.declared.job.Job.TheVariants.{Answer, Desk, Run}
 use Rattle.ctt_commands.specs.Commands.{Answers, IsLoaded}
 use Rattle.ctt_commands.specs.Faults.{KeptUnless}
 use Rattle.ctt_commands.specs.Refusals.{IsOfRun}
+use Rattle.ctt_commands.specs.Runs.{AnswersScript}
 use Rattle.ctt_commands.specs.declared.task.Task.{Task}
 use Rattle.ctt_program.specs.Desks.{DoesDesk}
 use Rattle.ctt_program.specs.Jobs.{Does, DoesCommand, Stops, StopsCommand, StopsRun}
@@ -34,6 +35,11 @@ pub fault_few : (fault : Fault) → status_of fault ≤ 3
 fault_few (Contents met) = omega arith
 fault_few (Usage met) = omega arith
 fault_few (Machine met) = omega arith
+
+fault_some : (fault : Fault) → 1 ≤ status_of fault
+fault_some (Contents met) = omega arith
+fault_some (Usage met) = omega arith
+fault_some (Machine met) = omega arith
 
 pub outcome_few : (outcome : Outcome) → outcome_status outcome ≤ 5
 outcome_few Done = omega arith
@@ -72,7 +78,7 @@ module _ {W V : Type 0} (before after : Held) (out : Stream W) (err : Stream V) 
   stops_unprinted_two : (job : Job) (fault : Fault) → Stops job fault before after out err → status_of fault ≡ 2 → IsUntouched out
   stops_unprinted_two (Answer command) fault stops two = ⊎_elim (λ undone. undone.1) (λ cut. absurd (omega (arith, ap status_of cut.0, two))) stops.cause
   stops_unprinted_two (Run instance sides script start journal) fault stops two = unprinted_two fault _ stops.printed two
-  stops_unprinted_two (Desk instance sides seats start minutes) fault stops two = unprinted_two fault _ stops.printed two
+  stops_unprinted_two (Desk instance sides seats start minutes) fault stops two = ⊎_elim (λ same. same) (λ cut. absurd (omega (arith, ap status_of cut.0, two))) stops.printed
 
   -- ---- what has ended so, with this status
 
@@ -87,6 +93,12 @@ module _ {W V : Type 0} (before after : Held) (out : Stream W) (err : Stream V) 
   ended_unprinted job status (Ok outcome) is stops told two = outcome_not_two outcome (sym is ∙ two)
   ended_unprinted job status (Err fault) is stops (inl same) two = stops_unprinted_two job fault stops (sym same ∙ two)
   ended_unprinted job status (Err fault) is stops (inr three) two = absurd (omega (arith, three, two))
+
+-- what has ended with status 0 is done
+pub ended_done : (status : ℕ) (ended : Result Outcome Fault) (P : Type 0) → OnOk ended P → IfErr ended (λ fault. (status ≡ status_of fault) ⊎ (status ≡ 3)) → status ≡ 0 → P
+ended_done status (Ok outcome) P done told zero = done
+ended_done status (Err fault) P done (inl same) zero = absurd (omega (arith, fault_some fault, same, zero))
+ended_done status (Err fault) P done (inr three) zero = absurd (omega (arith, three, zero))
 
 pub ended_known : (status : ℕ) (ended : Result Outcome Fault) → IfOk ended (λ outcome. status ≡ outcome_status outcome) → IfErr ended (λ fault. (status ≡ status_of fault) ⊎ (status ≡ 3)) → status ≤ 5
 ended_known status (Ok outcome) is told = omega (arith, is, outcome_few outcome)
@@ -109,11 +121,12 @@ run_does (Ok outcome) R err done runs = (done, runs, refl)
 run_does (Err fault) R err done runs = tt
 
 pub run_stops : {W V : Type 0} (r : Result Outcome Fault) (instance : String Global) (sides : Sides) (script : String Global) (start journal : Option (String Global)) (before after : Held) (out : Stream W) (err : Stream V)
-    → IfErr r (λ fault. IfUnwritten fault (HasFailed out ⊎ IsGiven journal) (IsOfRun before instance sides script start fault × IsUnmarked out)) → IfErr r (λ fault. MayHaveWritten fault ⊎ IsUntouched out)
+    → IfErr r (λ fault. IfUnwritten fault (HasFailed out ⊎ (IsGiven journal × AnswersScript (Writes out) instance sides script start before)) (IsOfRun before instance sides script start fault × IsUnmarked out)) → IfErr r (λ fault. MayHaveWritten fault ⊎ IsUntouched out)
+    → OnErr r (IsUntouched out ⊎ AnswersScript (WritesFront out) instance sides script start before)
     → IfErr r (λ fault. KeptUnless fault (IsUnmarked out × IsGiven journal) (after ≡ before)) → KeepOthers journal before after → IsUntouched err
     → IfErr r (λ fault. StopsRun instance sides script start journal fault before after out err)
-run_stops (Ok outcome) instance sides script start journal before after out err cause printed unstored others quiet = tt
-run_stops (Err fault) instance sides script start journal before after out err cause printed unstored others quiet = record { cause = cause; printed = printed; quiet = quiet; unstored = unstored; others = others }
+run_stops (Ok outcome) instance sides script start journal before after out err cause printed front unstored others quiet = tt
+run_stops (Err fault) instance sides script start journal before after out err cause printed front unstored others quiet = record { cause = cause; printed = printed; front = front; quiet = quiet; unstored = unstored; others = others }
 
 -- nothing was for standard error, so nothing was said
 quiet_if : {V : Type 0} (said : List ℕ) (err : Stream V) → (said ≢ []) ⊎ IsUntouched err → said ≡ [] → IsUntouched err

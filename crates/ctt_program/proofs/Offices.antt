@@ -4,7 +4,7 @@ use Rattle.std.specs.Global.{Global}
 use Rattle.std.specs.String.{string_bytes}
 use Rattle.std.specs.declared.string.String.{String}
 use Rattle.ctt_problem.specs.Problem.{Problem}
-use Rattle.ctt_files.specs.Faults.{IfUnwritten, MayHaveWritten}
+use Rattle.ctt_files.specs.Faults.{IfUnwritten}
 use Rattle.ctt_files.specs.Refusals.{IsOfInstanceIn}
 use Rattle.ctt_files.specs.Texts.{Held, IsInstanceIn}
 use Rattle.ctt_files.specs.declared.fault.Fault.{Fault}
@@ -14,7 +14,7 @@ use Rattle.ctt_files.specs.declared.sides.Sides.{Sides}
 use Rattle.ctt_files.proofs.Plain.{IsPlain, instance_in_plain, plain_written, unwritten_more}
 use Rattle.ctt_commands.specs.Refusals.{IsOfWork}
 use Rattle.ctt_commands.proofs.Plain.{opening_plain, work_plain}
-use Rattle.ctt_program.specs.Desks.{IsOfDesk, IsOfPlan, IsOfSeats, IsUnread, IsUnreadAt, IsUnreadOf, StopsDesk, Warns}
+use Rattle.ctt_program.specs.Desks.{AreCutShort, IsOfDesk, IsOfPlan, IsOfSeats, IsUnread, IsUnreadAt, IsUnreadOf, StopsDesk, Warns}
 use Rattle.ctt_program.specs.Streams.{IsUnmarked, IsUntouched, Stream, stream}
 use Rattle.ctt_program.specs.declared.desk.DeskPlan.{DeskPlan}
 
@@ -61,7 +61,7 @@ module _ {W V : Type 0} (instance : String Global) (sides : Sides) (plan : DeskP
   pub stops_unplanned : (fault : Fault) → IsOfPlan plan fault → IsUntouched out → IsUntouched err → after ≡ before → StopsDesk instance sides plan fault before after out err
   stops_unplanned fault why unprinted unsaid kept = record {
     cause = plan_written plan fault _ _ why (inl why, ap out.failed unprinted);
-    printed = inr unprinted;
+    printed = inl unprinted;
     warned = inl unsaid;
     kept = kept;
   }
@@ -70,7 +70,7 @@ module _ {W V : Type 0} (instance : String Global) (sides : Sides) (plan : DeskP
   pub stops_unread : (fault : Fault) → IsOfInstanceIn before instance sides fault → IsUntouched out → IsUntouched err → after ≡ before → StopsDesk instance sides plan fault before after out err
   stops_unread fault why unprinted unsaid kept = record {
     cause = plain_written fault _ _ (instance_in_plain before instance sides fault why) (inr (inl why), ap out.failed unprinted);
-    printed = inr unprinted;
+    printed = inl unprinted;
     warned = inl unsaid;
     kept = kept;
   }
@@ -80,18 +80,18 @@ module _ {W V : Type 0} (instance : String Global) (sides : Sides) (plan : DeskP
       → IsUntouched out → IsUntouched err ⊎ Warns (is_some plan.minutes) err → after ≡ before → StopsDesk instance sides plan fault before after out err
   stops_opened problem later fault is same why unprinted warned kept = record {
     cause = unwritten_more fault _ _ _ _ (λ any. any) (λ seats. (inr (inr (problem, is, subst (λ held. IsOfSeats plan held problem fault) same seats)), ap out.failed unprinted)) why;
-    printed = inr unprinted;
+    printed = inl unprinted;
     warned = ⊎_elim inl (λ warns. inr (inr warns)) warned;
     kept = kept;
   }
 
 -- the last lines cannot be written
 pub stops_unprinted : {W V : Type 0} (instance : String Global) (sides : Sides) (plan : DeskPlan) (before after : Held) (out : Stream W) (told : V → Option (List ℕ)) (broken : V → Bool) (old mid new : V) (fault : Fault)
-    → fault ≡ Machine CannotWrite → Warns (is_some plan.minutes) (stream told broken old mid) → (new ≡ mid) ⊎ (broken new ≡ true) → after ≡ before
+    → fault ≡ Machine CannotWrite → Warns (is_some plan.minutes) (stream told broken old mid) → (new ≡ mid) ⊎ (broken new ≡ true) → IsUntouched out ⊎ AreCutShort instance sides plan before out → after ≡ before
     → StopsDesk instance sides plan fault before after out (stream told broken old new)
-stops_unprinted instance sides plan before after out told broken old mid new fault is warns said kept = record {
+stops_unprinted instance sides plan before after out told broken old mid new fault is warns said printed kept = record {
   cause = subst (λ f. IfUnwritten f (Unit {0}) (IsOfDesk before instance sides plan f × IsUnmarked out)) (sym is) tt;
-  printed = inl (subst MayHaveWritten (sym is) tt);
+  printed = ⊎_elim inl (λ cut. inr (is, cut)) printed;
   warned = inr (⊎_elim (λ same. inr (subst (λ e. Warns (is_some plan.minutes) (stream told broken old e)) (sym same) warns)) inl said);
   kept = kept;
 }
@@ -100,6 +100,11 @@ stops_unprinted instance sides plan before after out told broken old mid new fau
 pub err_weaker : {T : Type 0} (r : Result T Fault) (P Q : Fault → Type 0) (R : Type 0) → IfErr r P → OnErr r R → ((fault : Fault) → P fault → R → Q fault) → IfErr r Q
 err_weaker (Ok x) P Q R is holds gives = tt
 err_weaker (Err fault) P Q R is holds gives = gives fault is holds
+
+-- two facts of a failure
+pub both_err : {T : Type 0} (r : Result T Fault) (P Q : Type 0) → OnErr r P → OnErr r Q → OnErr r (P × Q)
+both_err (Ok x) P Q p q = tt
+both_err (Err fault) P Q p q = (p, q)
 
 -- what holds of a success or a failure, of a result that is known to be one
 pub on_ok_at : {T : Type 0} (P : Type 0) {r : Result T Fault} {x : T} → r ≡ Ok x → OnOk r P → P

@@ -9,7 +9,7 @@ use Rattle.ctt_edits.specs.Openings.{opening}
 use Rattle.ctt_seat.specs.Attended.{IsCrewText}
 use Rattle.ctt_office.specs.declared.office_fault.OfficeFault.{OfficeFault}
 use Rattle.ctt_office.specs.declared.office_fault.OfficeFault.TheVariants as office
-use Rattle.ctt_files.specs.Faults.{IfUnwritten, MayHaveWritten}
+use Rattle.ctt_files.specs.Faults.{IfUnwritten}
 use Rattle.ctt_files.specs.Refusals.{IsOfInstanceOr}
 use Rattle.ctt_files.specs.Texts.{Held, IsInstanceIn, IsStart}
 use Rattle.ctt_files.specs.declared.fault.Fault.{Fault}
@@ -19,7 +19,7 @@ use Rattle.ctt_files.specs.declared.fault.UsageFault.TheVariants.{BadSeats}
 use Rattle.ctt_files.specs.declared.sides.Sides.{Sides}
 use Rattle.ctt_commands.specs.Refusals.{IsOfOpening, IsOfWork}
 use Rattle.ctt_program.specs.Seats.{AreBadSeats, has_standard}
-use Rattle.ctt_program.specs.Streams.{HasFailed, IsUnmarked, IsUntouched, Stream, Writes, since, until}
+use Rattle.ctt_program.specs.Streams.{HasFailed, IsUnmarked, IsUntouched, Stream, Writes, WritesFront, since, until}
 use Rattle.ctt_program.specs.declared.desk.DeskPlan.{DeskPlan}
 
 -- the lectures of the start can be placed, one by one, and make this timetable
@@ -100,10 +100,19 @@ IsOfPlan plan fault = ((fault ≡ Usage BadSeats) × AreBadSeats plan.seats.item
 abbrev pub IsOfDesk : Held → String Global → Sides → DeskPlan → Fault → Type 0
 IsOfDesk held instance sides plan fault = IsOfPlan plan fault ⊎ IsOfInstanceOr (IsOfSeats plan) held instance sides fault
 
+-- the last lines of a desk are printed only in part, since standard output fails
+pub record AreCutShort {W : Type 0} (instance : String Global) (sides : Sides) (plan : DeskPlan) (held : Held) (out : Stream W) : Type 0 where
+  pub problem : Problem
+  pub is_instance : IsInstanceIn held instance sides problem
+  pub lines : List ℕ
+  pub are_last : AreLastLines problem plan.start held lines
+  pub front : WritesFront out lines
+  pub failed : HasFailed out
+
 -- a desk stops with this fault, before or after the warning, and no file is changed but those of the
 -- seats and the minutes
 pub record StopsDesk {W V : Type 0} (instance : String Global) (sides : Sides) (plan : DeskPlan) (fault : Fault) (before after : Held) (out : Stream W) (err : Stream V) : Type 0 where
   pub cause : IfUnwritten fault (Unit {0}) (IsOfDesk before instance sides plan fault × IsUnmarked out)
-  pub printed : MayHaveWritten fault ⊎ IsUntouched out
+  pub printed : IsUntouched out ⊎ ((fault ≡ Machine CannotWrite) × AreCutShort instance sides plan before out)
   pub warned : IsUntouched err ⊎ (HasFailed err ⊎ Warns (is_some plan.minutes) err)
   pub kept : after ≡ before

@@ -19,7 +19,7 @@ use Rattle.ctt_words.specs.declared.job.Job.TheVariants.{Answer, Desk, Run}
 use Rattle.ctt_commands.specs.Commands.{Answers, IsLoaded, IsUnanswered, IsUnloaded}
 use Rattle.ctt_commands.specs.Faults.{KeptUnless}
 use Rattle.ctt_commands.specs.Refusals.{IsOfRun}
-use Rattle.ctt_commands.specs.Runs.{RunsScript}
+use Rattle.ctt_commands.specs.Runs.{AnswersScript, RunsScript}
 use Rattle.ctt_commands.specs.declared.task.Task.{Task}
 use Rattle.ctt_program.specs.Desks.{DoesDesk, StopsDesk}
 use Rattle.ctt_program.specs.Streams.{HasFailed, IsUnmarked, IsUntouched, Stream, Writes, WritesFront}
@@ -64,10 +64,12 @@ pub record StopsCommand {W V : Type 0} (command : Command) (fault : Fault) (befo
   pub kept : after ≡ before
 
 -- a run stops with this fault: its files, its start or its script have it, or something could not be
--- written; no file is changed but that of the journal, and only if it could not be stored
+-- written, which is the journal only after all answers; a prefix of these is printed; no file is
+-- changed but that of the journal, and only if it could not be stored
 pub record StopsRun {W V : Type 0} (instance : String Global) (sides : Sides) (script : String Global) (start journal : Option (String Global)) (fault : Fault) (before after : Held) (out : Stream W) (err : Stream V) : Type 0 where
-  pub cause : IfUnwritten fault (HasFailed out ⊎ IsGiven journal) (IsOfRun before instance sides script start fault × IsUnmarked out)
+  pub cause : IfUnwritten fault (HasFailed out ⊎ (IsGiven journal × AnswersScript (Writes out) instance sides script start before)) (IsOfRun before instance sides script start fault × IsUnmarked out)
   pub printed : MayHaveWritten fault ⊎ IsUntouched out
+  pub front : IsUntouched out ⊎ AnswersScript (WritesFront out) instance sides script start before
   pub quiet : IsUntouched err
   pub unstored : KeptUnless fault (IsUnmarked out × IsGiven journal) (after ≡ before)
   pub others : KeepOthers journal before after

@@ -4,6 +4,7 @@ ghost use Rattle.std.specs.Prelude.{◌≡◌, ◌⊎◌, ◌≤◌, ◌<◌, �
 ghost use Rattle.std.specs.String.{string_bytes};
 ghost use Rattle.ctt_office.specs.OfficeFaults.{IsOfficeFault};
 ghost use Rattle.ctt_files.specs.Faults.{IfUnwritten};
+ghost use Rattle.ctt_files.specs.Output.{AppendsFront};
 ghost use Rattle.ctt_files.specs.declared.fault.Fault.TheVariants.{Machine, Usage};
 ghost use Rattle.ctt_files.specs.declared.fault.MachineFault.TheVariants.{CannotWrite, NoMemory};
 ghost use Rattle.ctt_files.specs.declared.fault.UsageFault.TheVariants.{BadSeats};
@@ -276,7 +277,11 @@ fn print_lines<W: Sink, V: Sink>(
     ensures tells { OnOk result (TellsLines is_seat lines.now
         (stream W.taken W.has_failed out.old out.new)
         (stream V.taken V.has_failed err.old err.new)) }
+    ensures flushed { OnOk result ((W.unflushed out.new ≡ 0) ⊎ (out.new ≡ out.old)) }
     ensures unmarked { OnOk result (W.has_failed out.new ≡ W.has_failed out.old) }
+    ensures printed { OnErr result ((out.new ≡ out.old)
+        ⊎ (AppendsFront (W.taken out.old) (W.taken out.new) lines.now
+        × (W.has_failed out.new ≡ true))) }
     ensures cause { IfErr result (λ fault. fault ≡ Machine CannotWrite) }
     ensures said { OnErr result ((err.new ≡ err.old) ⊎ (V.has_failed err.new ≡ true)) }
 {
@@ -309,6 +314,7 @@ pub fn desk<R: Threads + Wait + Sync, F: Files, O: Office, W: Sink, V: Sink>(
     ensures stops { IfErr result (λ fault. StopsDesk job.instance job.sides job.plan fault
         (F.held files.old) (F.held files.new) (stream W.taken W.has_failed out.old out.new)
         (stream V.taken V.has_failed err.old err.new)) }
+    ensures flushed { OnOk result ((W.unflushed out.new ≡ 0) ⊎ (out.new ≡ out.old)) }
     ensures unmarked { OnOk result (W.has_failed out.new ≡ W.has_failed out.old) }
     ensures many { 64 < length job.plan.seats.items → result ≡ Err (Usage BadSeats) }
     ensures twice { has_twice job.plan.seats.items ≡ true → result ≡ Err (Usage BadSeats) }

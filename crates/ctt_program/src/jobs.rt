@@ -38,6 +38,7 @@ fn do_command<R: Threads + Wait + Sync, F: Files, W: Sink, V: Sink>(
     ensures stops { IfErr result (λ fault. StopsCommand command fault
         (F.held files.old) (F.held files.new) (stream W.taken W.has_failed out.old out.new)
         (stream V.taken V.has_failed err.old err.new)) }
+    ensures flushed { OnOk result (W.unflushed out.new ≡ 0) }
     ensures unmarked { OnOk result (W.has_failed out.new ≡ W.has_failed out.old) }
 {
     let task = load(alloc, files, command)?;
@@ -66,6 +67,7 @@ fn do_job<R: Threads + Wait + Sync, F: Files, O: Office, W: Sink, V: Sink>(
     ensures stops { IfErr result (λ fault. Stops job fault
         (F.held files.old) (F.held files.new) (stream W.taken W.has_failed out.old out.new)
         (stream V.taken V.has_failed err.old err.new)) }
+    ensures flushed { OnOk result ((W.unflushed out.new ≡ 0) ⊎ (out.new ≡ out.old)) }
     ensures unmarked { OnOk result (W.has_failed out.new ≡ W.has_failed out.old) }
 {
     match job {
@@ -143,6 +145,7 @@ fn turn_away<W: Sink, V: Sink>(alloc: Global, fault: WordsFault, out: &mut W, er
     ensures turned { IsTurned fault result (stream W.taken W.has_failed out.old out.new)
         (stream V.taken V.has_failed err.old err.new) }
     ensures known { result ≤ 3 }
+    ensures flushed { result ≡ 0 → W.unflushed out.new ≡ 0 }
     ensures unmarked { (result ≡ 3) ⊎ (W.has_failed out.new ≡ W.has_failed out.old) }
     ensures unprinted { result ≡ 2 → out.new ≡ out.old }
 {
@@ -175,6 +178,7 @@ pub fn program<R: AllocGlobal + Threads + Wait + Sync, F: Files, O: Office, W: S
     requires out { W.has_failed out.old ≡ false }
     requires err { V.has_failed err.old ≡ false }
     ensures known { result ≤ 5 }
+    ensures flushed { result ≡ 0 → (W.unflushed out.new ≡ 0) ⊎ (out.new ≡ out.old) }
     ensures unmarked { result ≡ 0 → W.has_failed out.new ≡ false }
     ensures unprinted { result ≡ 2 → out.new ≡ out.old }
     ensures unwritten { W.has_failed out.new ≡ true → result ≡ 3 }

@@ -71,7 +71,6 @@ pub(crate) const CALLS: &[Call] = calls![
     ["compare", "small.ctt", "s.sol", "clash.sol", "--strict"],
     ["compare", "small.ctt", "clash.sol", "part.sol", "word.sol", "s.sol", "--sort", "--faults"],
     ["compare", "small.ctt", "word.sol", "s.sol", "--csv", "--faults", "--point"],
-    ["compare", "--pairs", "pairs", "--json", "--faults"],
     ["page", "small.ctt", "s.sol", "--teacher", "t1", "--plain"],
     ["page", "small.ctt", "clash.sol", "--grids", "rooms"],
     ["week", "small.ctt", "s.sol", "--curriculum", "q1"],

@@ -56,7 +56,6 @@ const FILES: &[(&str, &str)] = &[
         "differs.journal",
         "journal 1\nentry 0 1\nplace top B 0 2\nrefused roomtaken geo\nEND.\n",
     ),
-    ("pairs", "small.ctt s.sol\nsmall.ctt word.sol\n"),
     ("cut.journal", "journal 1\nentry 0 1\n"),
     (
         "torn.minutes",

@@ -3,8 +3,10 @@ use Rattle.std.proofs.Crossing.{crosses}
 use denote.Param.Send.{sendable}
 use Rattle.ctt_problem.proofs.ResultLemmas.{err_same}
 use Rattle.ctt_problem.proofs.SharingLemmas.{instance_shared}
+use Rattle.ctt_edits.specs.Openings.{opening}
 use Rattle.ctt_script.specs.Entries.{IsWritable}
-use Rattle.ctt_commands.proofs.Openings.{answer_refused, answered_all, run_fits}
+use Rattle.ctt_files.proofs.OutputLemmas.{on_err, whole_front}
+use Rattle.ctt_commands.proofs.Openings.{answer_refused, answered_all, opened_or, run_fits, some_weaker}
 use Rattle.ctt_commands.proofs.running.answer.Goals as goal
 
 pub journal-requires : goal.journal-requires
@@ -29,3 +31,11 @@ returns-in-Err-clause-cause g c =
     answer_refused c.args.instance.now c.args.lectures.now c.args.name (g.R.Source.left c.args.script.now) c.in-Err.fault c.fault_of_run.result _ _ c.fault_of_run.ensures c.in-Err.ensures.cause
     (λ at found e. ⊎_elim (λ same. inl (err_same _ _ same)) (λ same. inr (err_same _ _ same)) (c.in-Err.ensures.refused at found e))
     (λ same. c.in-Err.ensures.failed (ap Err same)) (⊎_elim (λ same. inl (err_same _ _ same)) inr c.in-Err.ensures.unmarked)
+
+pub returns-in-Err-clause-front : goal.returns-in-Err-clause-front
+returns-in-Err-clause-front g c =
+    opened_or (opening c.args.instance.now c.args.lectures.now) _ _ (λ at found e. (c.in-Err.ensures.unread at found e).1) c.in-Err.ensures.front
+
+pub returns-in_err-journal-in-Ok-clause-front : goal.returns-in_err-journal-in-Ok-clause-front
+returns-in_err-journal-in-Ok-clause-front g c =
+    on_err c.from_residual.result (inr (c.in-Ok.desk.opening, c.in-Ok.ensures.opening, some_weaker (g.R.Source.left c.args.script.now) _ _ c.in-Ok.ensures.answers (λ text all. whole_front _ _ _ all)))

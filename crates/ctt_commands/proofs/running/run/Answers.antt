@@ -1,4 +1,5 @@
-use Rattle.std.proofs.Common.{◌≡◌, ◌∙◌, ap, inl, inr, refl, subst, sym, Bool, IfSome, List, Option, Some, ◌⊎◌, true, ℕ}
+use Rattle.std.proofs.Common.{◌≡◌, ◌∙◌, ⊎_elim, ap, inl, inr, refl, subst, sym, Bool, IfSome, List, Option, Some, ◌⊎◌, true, ℕ}
+use Rattle.std.specs.Io.KnownBytes.{Appends}
 use Rattle.std.specs.Prelude.{is_some}
 use Rattle.std.specs.String.{string_bytes}
 use Rattle.ctt_problem.specs.Problem.{Problem}
@@ -9,8 +10,9 @@ use Rattle.ctt_files.specs.Storing.{IsGiven}
 use Rattle.ctt_files.specs.Texts.{Held, Holds, IsStart}
 use Rattle.ctt_files.proofs.Plain.{behind_instance, instance_in_plain, on_ok_weaker, passed_on, passed_plain, plain_written, start_plain, unwritten_more}
 use Rattle.ctt_commands.specs.Refusals.{IsOfRun, IsOfScript}
-use Rattle.ctt_commands.specs.Runs.{Answered}
-use Rattle.ctt_commands.proofs.Openings.{answer_in, journal_stored, some_weaker, told_through}
+use Rattle.ctt_files.proofs.OutputLemmas.{on_err, whole_front}
+use Rattle.ctt_commands.specs.Runs.{Answered, AnswersScript}
+use Rattle.ctt_commands.proofs.Openings.{answer_in, journal_stored, some_weaker, told_through, unstored_after}
 use Rattle.ctt_commands.proofs.running.run.Goals as goal
 
 pub returns-in_err-instance-clause-cause : goal.returns-in_err-instance-clause-cause
@@ -44,7 +46,7 @@ returns-in_err-answered-clause-cause g c =
     let start : IsStart problem later c.args.start c.deref-2.result.now =
     subst (IsStart problem later c.args.start) (sym c.deref-2.ensures.value) (subst (λ (known : Held). IsStart problem known c.args.start c.in-Ok-fetch_start.lectures.items) c.in-Ok.ensures.kept c.in-Ok-fetch_start.ensures.spelled) in
     passed_on c.from_residual-in_err-answered.result fault
-    (λ told. IfUnwritten told ((g.W.Sink.has_failed c.answer-answered.new.out ≡ true) ⊎ IsGiven c.args.journal) (IsOfRun held c.args.instance c.args.sides c.args.script c.args.start told × (g.W.Sink.has_failed c.answer-answered.new.out ≡ g.W.Sink.has_failed c.args.out.now)))
+    (λ told. IfUnwritten told ((g.W.Sink.has_failed c.answer-answered.new.out ≡ true) ⊎ (IsGiven c.args.journal × AnswersScript (Appends (g.W.Sink.taken c.args.out.now) (g.W.Sink.taken c.answer-answered.new.out)) c.args.instance c.args.sides c.args.script c.args.start held)) (IsOfRun held c.args.instance c.args.sides c.args.script c.args.start told × (g.W.Sink.has_failed c.answer-answered.new.out ≡ g.W.Sink.has_failed c.args.out.now)))
     c.from_residual-in_err-answered.ensures.1
     (unwritten_more fault _ _ _ _ inl
     (λ why. (
@@ -83,3 +85,62 @@ returns-clause-runs g c =
       prints = some_weaker (held (string_bytes c.args.script)) _ _ answered (λ script all. all.prints);
       stores = journal_stored c.args.journal held _ _ (held (string_bytes c.args.script)) problem opened old new text kept answered stores;
     }) c.store_journal.ensures.stores
+
+pub returns-in_err-answered-clause-front : goal.returns-in_err-answered-clause-front
+returns-in_err-answered-clause-front g c =
+    let held : Held = g.F.Files.held c.args.files.now in
+    let later : Held = g.F.Files.held c.fetch_instance.new.files in
+    let problem : Problem = c.in_ok-instance.instance in
+    let left : Option (List ℕ) = g.F.Input.Source.left c.in-Ok.input in
+    let same : later ≡ held = c.in_ok-instance.ensures.kept in
+    let read : Holds later c.args.script (λ text. left ≡ Some text) = subst (λ name. IfSome (later name) (λ text. left ≡ Some text)) c.deref.ensures c.in-Ok.ensures.whole in
+    let whole : Holds held c.args.script (λ text. left ≡ Some text) = subst (λ (known : Held). Holds known c.args.script (λ text. left ≡ Some text)) same read in
+    on_err c.from_residual-in_err-answered.result (⊎_elim inl (λ front. inr (record {
+      problem = problem;
+      is_instance = c.in_ok-instance.ensures.spelled;
+      lectures = c.in-Ok-fetch_start.lectures.items;
+      is_start = subst (λ (known : Held). IsStart problem known c.args.start c.in-Ok-fetch_start.lectures.items) (c.in-Ok.ensures.kept ∙ same) c.in-Ok-fetch_start.ensures.spelled;
+      opened = front.0;
+      opens = ap (opening problem) (sym c.deref-2.ensures.value) ∙ front.1;
+      prints = told_through (held (string_bytes c.args.script)) left _ whole front.2;
+    })) c.in_err-answered.ensures.front)
+
+pub returns-clause-front : goal.returns-clause-front
+returns-clause-front g c =
+    let held : Held = g.F.Files.held c.args.files.now in
+    let later : Held = g.F.Files.held c.fetch_instance.new.files in
+    let problem : Problem = c.in_ok-instance.instance in
+    let left : Option (List ℕ) = g.F.Input.Source.left c.in-Ok.input in
+    let answers = c.in_ok-answered.ensures.answers in
+    let same : later ≡ held = c.in_ok-instance.ensures.kept in
+    let read : Holds later c.args.script (λ text. left ≡ Some text) = subst (λ name. IfSome (later name) (λ text. left ≡ Some text)) c.deref.ensures c.in-Ok.ensures.whole in
+    let whole : Holds held c.args.script (λ text. left ≡ Some text) = subst (λ (known : Held). Holds known c.args.script (λ text. left ≡ Some text)) same read in
+    on_err c.store_journal.result (inr (record {
+      problem = problem;
+      is_instance = c.in_ok-instance.ensures.spelled;
+      lectures = c.in-Ok-fetch_start.lectures.items;
+      is_start = subst (λ (known : Held). IsStart problem known c.args.start c.in-Ok-fetch_start.lectures.items) (c.in-Ok.ensures.kept ∙ same) c.in-Ok-fetch_start.ensures.spelled;
+      opened = answers.0;
+      opens = ap (opening problem) (sym c.deref-2.ensures.value) ∙ answers.1;
+      prints = some_weaker (held (string_bytes c.args.script)) _ _ (told_through (held (string_bytes c.args.script)) left _ whole answers.2) (λ script all. whole_front _ _ _ all.prints);
+    }))
+
+pub returns-clause-cause : goal.returns-clause-cause
+returns-clause-cause g c =
+    let held : Held = g.F.Files.held c.args.files.now in
+    let later : Held = g.F.Files.held c.fetch_instance.new.files in
+    let problem : Problem = c.in_ok-instance.instance in
+    let left : Option (List ℕ) = g.F.Input.Source.left c.in-Ok.input in
+    let answers = c.in_ok-answered.ensures.answers in
+    let same : later ≡ held = c.in_ok-instance.ensures.kept in
+    let read : Holds later c.args.script (λ text. left ≡ Some text) = subst (λ name. IfSome (later name) (λ text. left ≡ Some text)) c.deref.ensures c.in-Ok.ensures.whole in
+    let whole : Holds held c.args.script (λ text. left ≡ Some text) = subst (λ (known : Held). Holds known c.args.script (λ text. left ≡ Some text)) same read in
+    unstored_after c.store_journal.result _ _ _ _ c.store_journal.ensures.fault (record {
+      problem = problem;
+      is_instance = c.in_ok-instance.ensures.spelled;
+      lectures = c.in-Ok-fetch_start.lectures.items;
+      is_start = subst (λ (known : Held). IsStart problem known c.args.start c.in-Ok-fetch_start.lectures.items) (c.in-Ok.ensures.kept ∙ same) c.in-Ok-fetch_start.ensures.spelled;
+      opened = answers.0;
+      opens = ap (opening problem) (sym c.deref-2.ensures.value) ∙ answers.1;
+      prints = some_weaker (held (string_bytes c.args.script)) _ _ (told_through (held (string_bytes c.args.script)) left _ whole answers.2) (λ script all. all.prints);
+    })

@@ -1,4 +1,4 @@
-use Rattle.std.proofs.Common.{◌≡◌, ◌⊎◌, ◌∙◌, is_some, refl, rules, subst}
+use Rattle.std.proofs.Common.{◌≡◌, ◌⊎◌, ◌∙◌, ⊎_elim, inl, inr, is_some, refl, rules, subst}
 use Rattle.std.proofs.lemmas.Result.{IfErr-at_err, IfOk-at_ok}
 use Rattle.ctt_files.specs.Faults.{IfUnwritten}
 use Rattle.ctt_files.specs.declared.fault.Fault.TheVariants.{Machine}
@@ -6,9 +6,9 @@ use Rattle.ctt_files.specs.declared.fault.MachineFault.TheVariants.{CannotWrite}
 use Rattle.ctt_files.proofs.Plain.{on_ok_weaker, passed_on}
 use Rattle.ctt_program.specs.Desks.{AreLastLines, IsOfSeats, StopsDesk, TellsLines, Warns}
 use Rattle.ctt_program.specs.Seats.{has_standard}
-use Rattle.ctt_program.specs.Streams.{IsUntouched, stream}
+use Rattle.ctt_program.specs.Streams.{IsUntouched, WritesFront, stream}
 use Rattle.ctt_program.specs.declared.desk.DeskPlan.{DeskPlan}
-use Rattle.ctt_program.proofs.Offices.{err_weaker, on_err_at, on_ok_at, stops_opened, stops_unplanned, stops_unprinted, stops_unread}
+use Rattle.ctt_program.proofs.Offices.{both_err, err_weaker, on_err_at, on_ok_at, stops_opened, stops_unplanned, stops_unprinted, stops_unread}
 use Rattle.ctt_program.proofs.desk.desk.Goals as goal
 
 pub returns-in_err-plan-clause-stops : goal.returns-in_err-plan-clause-stops
@@ -76,5 +76,15 @@ returns-in-Ok-clause-stops g c =
     let broken = g.V.Sink.has_failed in
     let out = stream g.W.Sink.taken g.W.Sink.has_failed c.args.out.now c.print_lines.new.out in
     let warns = subst (λ (p : DeskPlan). Warns (is_some p.minutes) (stream told broken c.args.err.now c.keep-kept.new.err)) same (on_ok_at _ c.in-Ok.is c.keep-kept.ensures.warned) in
-    err_weaker c.print_lines.result (λ fault. fault ≡ Machine CannotWrite) _ _ c.print_lines.ensures.cause c.print_lines.ensures.said
-    (λ fault is said. stops_unprinted c.args.job.instance c.args.job.sides plan held later out told broken c.args.err.now c.keep-kept.new.err c.print_lines.new.err fault is warns said (c.keep-kept.ensures.kept ∙ c.in_ok-instance.ensures.kept))
+    let lines : c.deref-in-Ok.result.now ≡ c.in-Ok.lines.items = c.deref-in-Ok.ensures.value in
+    err_weaker c.print_lines.result (λ fault. fault ≡ Machine CannotWrite) _ _ c.print_lines.ensures.cause (both_err c.print_lines.result _ _ c.print_lines.ensures.said c.print_lines.ensures.printed)
+    (λ fault is left. stops_unprinted c.args.job.instance c.args.job.sides plan held later out told broken c.args.err.now c.keep-kept.new.err c.print_lines.new.err fault is warns left.0
+    (⊎_elim inl (λ cut. inr (record {
+      problem = c.in_ok-instance.instance;
+      is_instance = c.in_ok-instance.ensures.spelled;
+      lines = c.in-Ok.lines.items;
+      are_last = subst (λ (p : DeskPlan). AreLastLines c.in_ok-instance.instance p.start held c.in-Ok.lines.items) same
+          (subst (λ h. AreLastLines c.in_ok-instance.instance c.in_ok-plan.plan.start h c.in-Ok.lines.items) c.in_ok-instance.ensures.kept (IfOk-at_ok _ c.in-Ok.is c.keep-kept.ensures.lines));
+      front = subst (λ bs. WritesFront out bs) lines cut.0;
+      failed = cut.1;
+    })) left.1) (c.keep-kept.ensures.kept ∙ c.in_ok-instance.ensures.kept))

@@ -26,7 +26,7 @@ returns-in-Run-clause-stops g c =
     let out = stream g.W.Sink.taken g.W.Sink.has_failed c.args.out.now c.run.new.out in
     let err = stream g.V.Sink.taken g.V.Sink.has_failed c.args.err.now c.args.err.now in
     IfErr-weaker c.run.result _ _ (λ fault stops. subst (λ job. Stops job fault before after out err) (sym c.in-Run.is) stops)
-    (run_stops c.run.result c.in-Run.instance c.in-Run.sides c.in-Run.script c.in-Run.start c.in-Run.journal before after out err c.run.ensures.cause c.run.ensures.unwritten c.run.ensures.unstored c.run.ensures.others refl)
+    (run_stops c.run.result c.in-Run.instance c.in-Run.sides c.in-Run.script c.in-Run.start c.in-Run.journal before after out err c.run.ensures.cause c.run.ensures.unwritten c.run.ensures.front c.run.ensures.unstored c.run.ensures.others refl)
 
 pub returns-in-Desk-clause-does : goal.returns-in-Desk-clause-does
 returns-in-Desk-clause-does g c =

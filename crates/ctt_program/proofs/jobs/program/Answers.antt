@@ -2,7 +2,7 @@ use Rattle.std.proofs.Common.{◌∙◌, ⊎_elim, arith, inl, rules, sym, true�
 use Rattle.ctt_words.specs.Jobs.{HasScripts}
 use Rattle.ctt_words.proofs.Given.{job_has_scripts}
 use Rattle.ctt_program.specs.Streams.{stream}
-use Rattle.ctt_program.proofs.Ends.{ended_known, ended_marked, ended_so, ended_unprinted}
+use Rattle.ctt_program.proofs.Ends.{ended_done, ended_known, ended_marked, ended_so, ended_unprinted}
 use Rattle.ctt_program.proofs.jobs.program.Goals as goal
 
 pub do_job-ended-requires : goal.do_job-ended-requires
@@ -35,3 +35,6 @@ returns-in-Ok-clause-unwritten g c = λ failed. ⊎_elim (λ three. three) (λ s
 
 pub returns-in-Ok-clause-unprinted : goal.returns-in-Ok-clause-unprinted
 returns-in-Ok-clause-unprinted g c = ended_unprinted (g.F.Files.held c.args.files.now) (g.F.Files.held c.do_job-ended.new.files) (stream g.W.Sink.taken g.W.Sink.has_failed c.args.out.now c.do_job-ended.new.out) (stream g.V.Sink.taken g.V.Sink.has_failed c.args.err.now c.do_job-ended.new.err) c.in-Ok.asked.job c.end.result c.do_job-ended.result c.end.ensures.done c.do_job-ended.ensures.stops c.end.ensures.status
+
+pub returns-in-Ok-clause-flushed : goal.returns-in-Ok-clause-flushed
+returns-in-Ok-clause-flushed g c = ended_done c.end.result c.do_job-ended.result _ c.do_job-ended.ensures.flushed c.end.ensures.status
