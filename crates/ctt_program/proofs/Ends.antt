@@ -121,8 +121,8 @@ run_does (Ok outcome) R err done runs = (done, runs, refl)
 run_does (Err fault) R err done runs = tt
 
 pub run_stops : {W V : Type 0} (r : Result Outcome Fault) (instance : String Global) (sides : Sides) (script : String Global) (start journal : Option (String Global)) (before after : Held) (out : Stream W) (err : Stream V)
-    → IfErr r (λ fault. IfUnwritten fault (HasFailed out ⊎ (IsGiven journal × AnswersScript (Writes out) instance sides script start before)) (IsOfRun before instance sides script start fault × IsUnmarked out)) → IfErr r (λ fault. MayHaveWritten fault ⊎ IsUntouched out)
-    → OnErr r (IsUntouched out ⊎ AnswersScript (WritesFront out) instance sides script start before)
+    → IfErr r (λ fault. IfUnwritten fault (HasFailed out ⊎ (IsGiven journal × AnswersScript (λ bytes. Writes out bytes) instance sides script start before)) (IsOfRun before instance sides script start fault × IsUnmarked out)) → IfErr r (λ fault. MayHaveWritten fault ⊎ IsUntouched out)
+    → OnErr r (IsUntouched out ⊎ AnswersScript (λ bytes. WritesFront out bytes) instance sides script start before)
     → IfErr r (λ fault. KeptUnless fault (IsUnmarked out × IsGiven journal) (after ≡ before)) → KeepOthers journal before after → IsUntouched err
     → IfErr r (λ fault. StopsRun instance sides script start journal fault before after out err)
 run_stops (Ok outcome) instance sides script start journal before after out err cause printed front unstored others quiet = tt

@@ -67,9 +67,9 @@ pub record StopsCommand {W V : Type 0} (command : Command) (fault : Fault) (befo
 -- written, which is the journal only after all answers; a prefix of these is printed; no file is
 -- changed but that of the journal, and only if it could not be stored
 pub record StopsRun {W V : Type 0} (instance : String Global) (sides : Sides) (script : String Global) (start journal : Option (String Global)) (fault : Fault) (before after : Held) (out : Stream W) (err : Stream V) : Type 0 where
-  pub cause : IfUnwritten fault (HasFailed out ⊎ (IsGiven journal × AnswersScript (Writes out) instance sides script start before)) (IsOfRun before instance sides script start fault × IsUnmarked out)
+  pub cause : IfUnwritten fault (HasFailed out ⊎ (IsGiven journal × AnswersScript (λ bytes. Writes out bytes) instance sides script start before)) (IsOfRun before instance sides script start fault × IsUnmarked out)
   pub printed : MayHaveWritten fault ⊎ IsUntouched out
-  pub front : IsUntouched out ⊎ AnswersScript (WritesFront out) instance sides script start before
+  pub front : IsUntouched out ⊎ AnswersScript (λ bytes. WritesFront out bytes) instance sides script start before
   pub quiet : IsUntouched err
   pub unstored : KeptUnless fault (IsUnmarked out × IsGiven journal) (after ≡ before)
   pub others : KeepOthers journal before after

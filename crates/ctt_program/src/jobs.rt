@@ -145,7 +145,7 @@ fn turn_away<W: Sink, V: Sink>(alloc: Global, fault: WordsFault, out: &mut W, er
     ensures turned { IsTurned fault result (stream W.taken W.has_failed out.old out.new)
         (stream V.taken V.has_failed err.old err.new) }
     ensures known { result ≤ 3 }
-    ensures flushed { result ≡ 0 → W.unflushed out.new ≡ 0 }
+    ensures flushed { result ≡ 0 → (W.unflushed out.new ≡ 0) ⊎ (out.new ≡ out.old) }
     ensures unmarked { (result ≡ 3) ⊎ (W.has_failed out.new ≡ W.has_failed out.old) }
     ensures unprinted { result ≡ 2 → out.new ≡ out.old }
 {

@@ -1,5 +1,6 @@
-use Rattle.std.proofs.Common.{refl, subst, sym, IfErr, OnOk}
+use Rattle.std.proofs.Common.{inl, refl, subst, sym, IfErr, OnOk}
 use Rattle.std.proofs.lemmas.Result.{IfErr-weaker, IfOk-weaker}
+use Rattle.ctt_files.proofs.Plain.{on_ok_weaker}
 use Rattle.ctt_program.specs.Desks.{DoesDesk, StopsDesk}
 use Rattle.ctt_program.specs.Jobs.{Does, Stops}
 use Rattle.ctt_program.specs.Streams.{stream}
@@ -46,3 +47,9 @@ returns-in-Desk-clause-stops g c =
     let err = stream g.V.Sink.taken g.V.Sink.has_failed c.args.err.now c.desk.new.err in
     IfErr-weaker c.desk.result _ _ (λ fault stops. subst (λ job. Stops job fault before after out err) (sym c.in-Desk.is) stops)
     (subst (λ (j : DeskJob). IfErr c.desk.result (λ fault. StopsDesk j.instance j.sides j.plan fault before after out err)) c.new-asked.ensures c.desk.ensures.stops)
+
+pub returns-in-Answer-clause-flushed : goal.returns-in-Answer-clause-flushed
+returns-in-Answer-clause-flushed g c = on_ok_weaker c.do_command.result _ _ inl c.do_command.ensures.flushed
+
+pub returns-in-Run-clause-flushed : goal.returns-in-Run-clause-flushed
+returns-in-Run-clause-flushed g c = on_ok_weaker c.run.result _ _ inl c.run.ensures.flushed

@@ -1,4 +1,4 @@
-use Rattle.std.proofs.Common.{◌≡◌, false, inl, inr, refl, rules, subst, sym}
+use Rattle.std.proofs.Common.{◌≡◌, arith, false, inl, inr, refl, rules, subst, sym}
 use Rattle.std.specs.Io.KnownBytes.{Appends}
 use Rattle.std.specs.String.{string_bytes}
 use Rattle.ctt_files.specs.Output.{AppendsFront}
@@ -44,3 +44,15 @@ returns-in-Refused-clause-known g c = reported_few (Usage (Words c.in-Refused.te
 
 pub returns-clause-known : goal.returns-clause-known
 returns-clause-known g c = reported_few (Machine NoMemory) c.report-in-NoMemory.result c.report-in-NoMemory.ensures.status
+
+pub returns-in-Ok-clause-flushed : goal.returns-in-Ok-clause-flushed
+returns-in-Ok-clause-flushed g c = λ zero. inl c.in-Ok.ensures.flushed
+
+pub returns-in-Help-clause-flushed : goal.returns-in-Help-clause-flushed
+returns-in-Help-clause-flushed g c = λ zero. absurd (omega (arith, unwritten_three c.in-Err.fault c.report.result c.in-Err.ensures.fault c.report.ensures.status, zero))
+
+pub returns-in-Refused-clause-flushed : goal.returns-in-Refused-clause-flushed
+returns-in-Refused-clause-flushed g c = λ zero. inr refl
+
+pub returns-clause-flushed : goal.returns-clause-flushed
+returns-clause-flushed g c = λ zero. inr refl
