@@ -3,10 +3,10 @@ import threading
 
 from support import SMALL, SMALL_SOL, OfficeTest, wait_until
 
-from office.board import Board
-from office.closures import add_closure, blocked_now
-from office.folder import Day
-from office.scope import Scope
+from office.day.closure import Scope
+from office.day.closures_file import add_closure, blocked_now
+from office.day.folder import Day
+from office.terminal.board import Board
 
 HALL = Scope("room", "A", 0)
 # where a lecture of geo goes, and top, which is refused under the new rules

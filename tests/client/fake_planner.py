@@ -1,8 +1,8 @@
 """A planner whose desk says what a test wants, at the small instance."""
 from support import SMALL, SMALL_SOL
 
-from office.instance import read_instance, read_solution
-from office.timetable import Timetable
+from office.day.instance import read_instance, read_solution
+from office.day.timetable import Timetable
 
 
 class FakePlanner:

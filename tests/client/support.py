@@ -42,8 +42,8 @@ def wait_until(fact, seconds=PATIENCE):
 
 def said(told):
     """A notice, or the last one of a planner, in the words of the screen."""
-    from office.keys import KeyNames
-    from office.wording import Wording
+    from office.words.actions import KeyNames
+    from office.words.wording import Wording
 
     return Wording(KeyNames()).notice(getattr(told, "notice", told))
 
@@ -130,8 +130,8 @@ class OfficeTest(unittest.TestCase):
 
     def seat(self, day, planner, name="anna"):
         """A seat of an open office, in this process."""
-        from office.folder import Day
-        from office.seat import Seat
+        from office.day.folder import Day
+        from office.seat.seat import Seat
 
         seat = Seat(Day(self.path(day)), planner, name)
         self.addCleanup(self.leave, seat)
@@ -145,7 +145,7 @@ class OfficeTest(unittest.TestCase):
 
     def planning(self, day, planner, name="anna"):
         """A planner who has sat down."""
-        from office.planning import Planning
+        from office.work.planning import Planning
 
         planning = Planning(self.seat(day, planner, name))
         planning.begin()

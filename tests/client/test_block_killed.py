@@ -9,10 +9,10 @@ import unittest
 from changed_rules import HALL, MOVE, REROOM, Parts
 from support import HERE, PATIENCE, SMALL, SMALL_SOL, wait_until
 
-from office.closures import blocked_text, read_closures, standing
-from office.folder import Day
-from office.parts import half_made, last_part, parts_of, read_entries
-from office.seatlog import read_past
+from office.day.closures_file import blocked_text, read_closures, standing
+from office.day.folder import Day
+from office.day.parts import half_made, last_part, parts_of, read_entries
+from office.seat.seat_log import read_past
 
 KILLED = os.path.join(HERE, "tests/client/killed_office.py")
 EACH = int(os.environ.get("EACH", "9"))

@@ -13,16 +13,16 @@ sys.path.append(os.path.join(HERE, "tests"))
 from drawn import draw_instance, draw_solution  # noqa: E402
 from rules import Instance as Plain  # noqa: E402
 
-from office.board import Board  # noqa: E402
-from office.closures import blocked_text, closures_end, standing_of  # noqa: E402
-from office.edits import is_edit, read_prices  # noqa: E402
-from office.week import View  # noqa: E402
-from office.instance import read_instance, read_solution  # noqa: E402
-from office.folder import Day  # noqa: E402
-from office.parts import read_entries  # noqa: E402
-from office.overlays import CommitBox  # noqa: E402
-from office.text import cut, fit, shown, width, wrap  # noqa: E402
-from office.timetable import Timetable  # noqa: E402
+from office.day.closures_file import blocked_text, closures_end, standing_of  # noqa: E402
+from office.day.edits import is_edit, read_prices  # noqa: E402
+from office.day.folder import Day  # noqa: E402
+from office.day.instance import read_instance, read_solution  # noqa: E402
+from office.day.parts import read_entries  # noqa: E402
+from office.day.timetable import Timetable  # noqa: E402
+from office.terminal.board import Board  # noqa: E402
+from office.terminal.overlays import CommitBox  # noqa: E402
+from office.words.text import cut, fit, shown, width, wrap  # noqa: E402
+from office.work.week import View  # noqa: E402
 
 DAYS = int(os.environ.get("DAYS", "20"))
 STEPS = int(os.environ.get("STEPS", "500"))

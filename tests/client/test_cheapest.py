@@ -4,9 +4,9 @@ import random
 from support import said
 from two_screens import Two
 
-from office.board import Board
-from office.carry import MOVE, SWAP, Carry
-from office.week import View
+from office.terminal.board import Board
+from office.work.carry import MOVE, SWAP, Carry
+from office.work.week import View
 
 
 class Cheapest(Two):

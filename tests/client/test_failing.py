@@ -5,8 +5,8 @@ from support import FAKE, PROGRAM, SMALL, SMALL_SOL, OfficeTest, said, wait_unti
 from test_day import LIMITED
 from two_screens import text_of
 
-from office.board import Board
-from office.week import View
+from office.terminal.board import Board
+from office.work.week import View
 
 
 class Failing(OfficeTest):

@@ -6,8 +6,8 @@ from test_known import PLANNERS, Drawn, Seats
 
 from fake_desk import FakeDesk
 from plain_instance import lectures_of
-from office.instance import read_solution
-from office.known import Known
+from office.day.instance import read_solution
+from office.seat.known import Known
 
 DRAWS = int(os.environ.get("DRAWS", "200")) // 5
 

@@ -7,11 +7,11 @@ import time
 
 from support import FAKE, OFFICE, SMALL, SMALL_SOL, SPRING, SPRING_SOL, OfficeTest, said, wait_until
 
-import office.seat
-from office.board import Board
-from office.earlier import Earlier
-from office.seat import NoAnswer
-from office.seatlog import read_past
+import office.seat.seat
+from office.past.earlier_days import Earlier
+from office.seat.seat import NoAnswer
+from office.seat.seat_log import read_past
+from office.terminal.board import Board
 
 EDIT = "drop geo 1 2"
 TOLD = "geo: taken out of day 2, period 3"
@@ -90,12 +90,12 @@ class Faults(OfficeTest):
     def test_no_answer(self):
         board = self.board("no answer")
         board.planning.edit(EDIT)
-        patience, office.seat.PATIENCE = office.seat.PATIENCE, 0.5
+        patience, office.seat.seat.PATIENCE = office.seat.seat.PATIENCE, 0.5
         try:
             with self.assertRaises(NoAnswer):
                 self.commit(board)
         finally:
-            office.seat.PATIENCE = patience
+            office.seat.seat.PATIENCE = patience
         board.desk_ended("The desk does not answer")
         # it was accepted, as the minutes say
         self.assertIn("Your accepted drafts are on the disk: 1.", self.text(board))
@@ -131,7 +131,7 @@ class Faults(OfficeTest):
         is."""
         board = self.board(fault)
         board.planning.edit(EDIT)
-        with self.assertRaises(office.seat.DeskEnded):
+        with self.assertRaises(office.seat.seat.DeskEnded):
             self.commit(board)
         board.desk_ended("The desk has ended")
         shown = self.text(board)

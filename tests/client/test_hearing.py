@@ -4,11 +4,11 @@ from test_known import Drawn
 
 from fake_week import FakeWeek
 from plain_instance import lectures_of
-from office.edits import Redone, Story, courses_of, is_edit, read_prices
-from office.instance import read_instance, read_solution
-from office.known import Known
-from office.minutes import Minutes
-from office.timetable import Timetable
+from office.day.edits import Redone, Story, courses_of, is_edit, read_prices
+from office.day.instance import read_instance, read_solution
+from office.day.minutes import Minutes
+from office.day.timetable import Timetable
+from office.seat.known import Known
 
 
 class Reading(OfficeTest):

@@ -1,8 +1,8 @@
 """The history of a lecture or a week at the screen, and drafts taken back there."""
 from support import SMALL, OfficeTest
 
-from office.board import Board
-from office.folder import Day
+from office.day.folder import Day
+from office.terminal.board import Board
 
 
 def text_of(board):

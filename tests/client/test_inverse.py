@@ -6,13 +6,13 @@ from fake_week import FakeWeek
 from plain_instance import instance_of
 from support import PROGRAM, SMALL, SPRING, SPRING_SOL
 
-from office.drafts import make_draft
-from office.instance import read_instance, read_solution
-from office.inverse import invert as invert_by
+from office.day.instance import read_instance, read_solution
+from office.day.scratch_desk import Scratch
+from office.day.shifts import Shift
+from office.day.timetable import Timetable
+from office.past.drafts import make_draft
+from office.past.inverse import invert as invert_by
 from office.refused import Refused
-from office.scratch import Scratch
-from office.shifts import Shift
-from office.timetable import Timetable
 
 
 PLAIN = instance_of(SPRING)

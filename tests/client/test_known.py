@@ -11,12 +11,12 @@ from fake_week import FakeWeek
 from plain_instance import file_of_closures, instance_of, lectures_of
 from rules import Instance as Plain
 
-from office.closures import blocked_now
-from office.edits import Redone, Story
-from office.instance import read_instance, read_solution
-from office.known import Known
-from office.minutes import Minutes
-from office.scope import Scope
+from office.day.closure import Scope
+from office.day.closures_file import blocked_now
+from office.day.edits import Redone, Story
+from office.day.instance import read_instance, read_solution
+from office.day.minutes import Minutes
+from office.seat.known import Known
 
 DRAWS = int(os.environ.get("DRAWS", "200"))
 PLANNERS = 3

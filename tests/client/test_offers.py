@@ -4,10 +4,10 @@ import random
 from fake_planner import FakePlanner
 from support import OfficeTest, said
 
-from office.carry import MOVE, PLACE, SWAP, Carry
-from office.offers import Offer, read_offers, read_slots
-from office.scope import Closure, Scope
-from office.timetable import Lecture
+from office.day.closure import Closure, Scope
+from office.day.timetable import Lecture
+from office.work.carry import MOVE, PLACE, SWAP, Carry
+from office.work.offers import Offer, read_offers, read_slots
 from plain_desk import FAULTS
 
 GRID = (

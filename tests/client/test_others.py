@@ -1,9 +1,9 @@
 """Two seats that know of each other: marks, who is where, and pins, at the screen."""
 from support import SMALL, OfficeTest
 
-from office.board import Board
-from office.folder import Day
-from office.pins import read_pins
+from office.day.folder import Day
+from office.day.pins import read_pins
+from office.terminal.board import Board
 
 
 def text_of(board):

@@ -4,11 +4,11 @@ import os
 from changed_rules import MOVE, REROOM, Parts, text_of
 from support import SMALL, SMALL_SOL, said, wait_until
 
-from office.closures import read_closures, standing
-from office.folder import Day
-from office.parts import parts_of, read_entries
-from office.scope import Scope
-from office.seatlog import read_past
+from office.day.closure import Scope
+from office.day.closures_file import read_closures, standing
+from office.day.folder import Day
+from office.day.parts import parts_of, read_entries
+from office.seat.seat_log import read_past
 
 
 class Screens(Parts):

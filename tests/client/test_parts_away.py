@@ -1,9 +1,9 @@
 """A draft that was left open over a change of the rules."""
 from changed_rules import MOVE, REROOM, Parts, text_of
 
-from office.parts import parts_of
-from office.scope import Scope
-from office.seatlog import read_past
+from office.day.closure import Scope
+from office.day.parts import parts_of
+from office.seat.seat_log import read_past
 
 
 class Away(Parts):

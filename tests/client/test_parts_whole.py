@@ -5,9 +5,9 @@ import os
 from changed_rules import MOVE, Parts
 from support import PROGRAM
 
-from office.closures import read_closures, standing
-from office.folder import Day
-from office.parts import half_made, parts_of
+from office.day.closures_file import read_closures, standing
+from office.day.folder import Day
+from office.day.parts import half_made, parts_of
 
 
 class Whole(Parts):

@@ -4,12 +4,12 @@ import signal
 
 from support import SMALL, SMALL_SOL, SPRING, SPRING_SOL, OfficeTest, said, wait_until
 
-from office.board import Board
-from office.carry import MOVE, PLACE, SWAP, Carry
-from office.earlier import Earlier
-from office.week import View, cells_of
-from office.seat import DeskEnded
-from office.timetable import Lecture
+from office.day.timetable import Lecture
+from office.past.earlier_days import Earlier
+from office.seat.seat import DeskEnded
+from office.terminal.board import Board
+from office.work.carry import MOVE, PLACE, SWAP, Carry
+from office.work.week import View, cells_of
 
 BEST = "move c0109 4 1 r04 4 3"
 # as it is said where the old room is not known

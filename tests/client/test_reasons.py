@@ -2,14 +2,14 @@
 from fake_planner import FakePlanner
 from support import SMALL, SMALL_SOL, SPRING, OfficeTest, said
 
-from office.carry import SWAP, Carry
-from office.instance import read_instance, read_solution
-from office.keys import KeyNames
-from office.labels import Labels, Name
-from office.reasons import reason, short_reason, slot_reason
-from office.scope import Closure, Scope
-from office.timetable import Lecture, Timetable
-from office.wording import Wording
+from office.data.labels import Labels, Name
+from office.day.closure import Closure, Scope
+from office.day.instance import read_instance, read_solution
+from office.day.timetable import Lecture, Timetable
+from office.words.actions import KeyNames
+from office.words.reasons import reason, short_reason, slot_reason
+from office.words.wording import Wording
+from office.work.carry import SWAP, Carry
 
 
 class Told(OfficeTest):

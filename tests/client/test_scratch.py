@@ -3,13 +3,13 @@ import unittest
 
 from support import PROGRAM, SMALL, SMALL_SOL, OfficeTest
 
-from office.folder import Day
-from office.instance import read_instance, read_solution
-from office.instance_files import written
-from office.parts import last_part
+from office.data.instance_files import written
+from office.day.folder import Day
+from office.day.instance import read_instance, read_solution
+from office.day.parts import last_part
+from office.day.scratch_desk import Scratch, scratch_of
+from office.day.timetable import Lecture
 from office.refused import Refused
-from office.scratch import Scratch, scratch_of
-from office.timetable import Lecture
 
 RUN = [PROGRAM, "run", SMALL, "-"]
 PLACED = [Lecture(*row) for row in read_solution(SMALL_SOL)]

@@ -4,13 +4,13 @@ from fake_week import FakeWeek
 from fake_words import words_of
 from support import SMALL, SMALL_SOL, SPRING, SPRING_SOL, OfficeTest, said
 
-from office.board import Board
-from office.carry import MOVE, PLACE, SWAP, Carry
-from office.folder import Day
-from office.grid import Grid
-from office.reasons import reason
-from office.timetable import Lecture
-from office.week import View
+from office.day.folder import Day
+from office.day.timetable import Lecture
+from office.terminal.board import Board
+from office.terminal.grid import Grid
+from office.words.reasons import reason
+from office.work.carry import MOVE, PLACE, SWAP, Carry
+from office.work.week import View
 from plain_desk import FAULTS
 from plain_instance import instance_of
 

@@ -5,9 +5,9 @@ import re
 from support import SPRING, SPRING_SOL, OfficeTest, said
 from two_screens import BEST, Two, text_of
 
-from office.board import Board
-from office.commit_notes import read_commit_notes
-from office.folder import Day
+from office.day.commit_notes import read_commit_notes
+from office.day.folder import Day
+from office.terminal.board import Board
 
 
 class Meant(Two):

@@ -1,8 +1,8 @@
 """Drafts that are put aside and made again, and edits that are taken back and made again."""
 from two_screens import BEST, Two
 
-from office.board import Board
-from office.folder import Day
+from office.day.folder import Day
+from office.terminal.board import Board
 
 
 class Variants(Two):

@@ -18,9 +18,9 @@ from served import (
     wait_until,
 )
 
-from office.keys import ACTIONS, ANSWERS
-from office.web.actions import BUTTONS, ELSEWHERE, button, key_table, keys_of
+from office.web.action_names import BUTTONS, ELSEWHERE, button, key_table, keys_of
 from office.web.verbs import Turn
+from office.words.actions import ACTIONS, ANSWERS
 
 ACTS = os.path.join(HERE, "tools/office/web/static/acts.js")
 # what the page calls by a button, as the screen has it by the same key twice

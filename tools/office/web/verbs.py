@@ -2,25 +2,25 @@
 that it has seen; edits are made of them here, of known names and ranges alone."""
 from __future__ import annotations
 
-from typing import Any, Callable, Dict, List, Optional
+from typing import Any, Callable, Optional
 
-from office.carry import MOVE, PLACE, SWAP
-from office.instance import Instance
-from office.notice import Question, say
-from office.offers import Offer
-from office.timetable import Lecture, Slot
-from office.web.asking import Asking, Shown
+from office.day.instance import Instance
+from office.day.timetable import Lecture, Slot
 from office.web.guard import Fault
-from office.week import KINDS, View
+from office.web.questions import Asking, Shown
+from office.words.notice import Question, say
+from office.work.carry import MOVE, PLACE, SWAP
+from office.work.offers import Offer
+from office.work.week import VIEW_KINDS, View
 
-Data = Dict[str, Any]
+Data = dict[str, Any]
 # letters of a line that is typed by hand
 LINE = 500
 # actions beside which a lecture may be held
 LOOKS = ("edits", "history", "pin", "who", "findings")
 
 
-class Told:
+class Request:
     """What a request says, of names and ranges that are known."""
 
     def __init__(self, instance: Instance, data: Data) -> None:
@@ -41,13 +41,13 @@ class Told:
 
     def view(self, name: str = "view") -> View:
         found, instance = self.data.get(name), self.instance
-        known: Dict[str, Any] = {
+        known: dict[str, Any] = {
             "curriculum": instance.curricula,
             "teacher": instance.teachers,
             "room": instance.rooms,
             "course": instance.courses,
         }
-        if not isinstance(found, list) or len(found) != 2 or found[0] not in KINDS:
+        if not isinstance(found, list) or len(found) != 2 or found[0] not in VIEW_KINDS:
             raise Fault(400, "whose week?")
         if not isinstance(found[1], str) or found[1] not in known[found[0]]:
             raise Fault(400, f"no {found[0]} of this name")
@@ -87,7 +87,7 @@ class Turn:
     """A request at the work of one window. Each act answers what is to be asked then, if anything
     is."""
 
-    def __init__(self, shown: Shown, told: Told) -> None:
+    def __init__(self, shown: Shown, told: Request) -> None:
         self.shown, self.work, self.told = shown, shown.work, told
 
     def show(self) -> None:
@@ -156,7 +156,7 @@ class Turn:
             return self.work.drafting.type_line(line)
         return None
 
-    def acts(self) -> Dict[str, Callable[[], Optional[Question]]]:
+    def acts(self) -> dict[str, Callable[[], Optional[Question]]]:
         """The actions that ask nothing but their name, and perhaps a lecture."""
         drafting, asking = self.work.drafting, Asking(self.shown)
         return {
@@ -191,14 +191,14 @@ def hold_again(shown: Shown, instance: Instance, held: Any) -> None:
     """What was held when the server was another one is held again."""
     if not isinstance(held, dict) or shown.work.carry is not None:
         return
-    told = Told(instance, {"lecture": held})
+    told = Request(instance, {"lecture": held})
     if held.get("kind") == PLACE:
         shown.work.pick_up_missing(told.course(held.get("course")))
     elif held.get("kind") in (MOVE, SWAP):
         shown.work.pick_up(told.lecture(), held["kind"])
 
 
-VERBS: Dict[str, Callable[[Turn], Optional[Question]]] = {
+VERBS: dict[str, Callable[[Turn], Optional[Question]]] = {
     name: getattr(Turn, name)
     for name in (
         "show next_week pick_up pick_up_missing swap_instead move_instead put_down lay_down "
@@ -206,4 +206,4 @@ VERBS: Dict[str, Callable[[Turn], Optional[Question]]] = {
     ).split()
 }
 # after these the other windows of the seat may see something else
-CHANGES: List[str] = ["put_down", "take_out", "line", "act", "answer"]
+CHANGES: list[str] = ["put_down", "take_out", "line", "act", "answer"]
