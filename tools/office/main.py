@@ -68,7 +68,8 @@ def add_web(commands: Commands) -> None:
     add_places(one)
     key = "make a new key for a seat, or for `reader`; the old link ends"
     one.add_argument("--new-key", metavar="SEAT", help=key)
-    one.add_argument("--links", action="store_true", help="print the links of seats that are served")
+    links = "print the links of seats that are served"
+    one.add_argument("--links", action="store_true", help=links)
 
 
 def add_others(commands: Commands) -> None:

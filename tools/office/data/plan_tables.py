@@ -64,8 +64,8 @@ MANY = 1_000_000
 
 
 class Tables:
-    """A folder of tables as it is read; what is wrong is collected. The lectures are tried at a desk
-    of the program."""
+    """A folder of tables as it is read; what is wrong is collected. Its lectures are tried at a
+    desk of the program."""
 
     def __init__(self, folder: str, program: list[str]) -> None:
         self.folder, self.program = folder, program

@@ -1,1 +1,1 @@
-"""The folder of a day, with its rules, its timetable and its edits, and the office that keeps it."""
+"""The folder of a day, its rules, its timetable and its edits, and the office that keeps it."""

@@ -67,7 +67,8 @@ def find_period(text: str, day: Optional[int], instance: Instance, labels: Label
 def find_scope(words: list[str], instance: Instance, labels: Labels) -> Scope:
     """What is meant by `room r04 wed 2`; without a period the whole day, without a day all days."""
     if not 2 <= len(words) <= 4 or words[0] not in BLOCKABLE:
-        told = f"{', '.join(BLOCKABLE[:-1])} or {BLOCKABLE[-1]}, a name, and perhaps a day and a period"
+        kinds = f"{', '.join(BLOCKABLE[:-1])} or {BLOCKABLE[-1]}"
+        told = f"{kinds}, a name, and perhaps a day and a period"
         raise Refused(f"{told}: {' '.join(words)}", WORDS)
     kind, typed, *when = words
     codes: dict[str, Iterable[str]] = {

@@ -156,7 +156,8 @@ class Running:
             self.begin_part()
         except (Refused, OSError):
             path = self.day.path
-            announce(f"the day stops: office open {path} goes on with it, office close {path} ends it")
+            goes_on, ends = f"office open {path} goes on with it", f"office close {path} ends it"
+            announce(f"the day stops: {goes_on}, {ends}")
             raise
         announce(f"open again, with part {self.part.number} of the day")
 

@@ -51,7 +51,8 @@ def diff_lines(one: At, other: At, what: Optional[Subject], labels: Labels) -> l
 
 def whose(one: At, other: At, kind: str, typed: str, labels: Labels) -> Subject:
     """Whose lectures are compared: something that one of the instances has, by code or by name."""
-    codes = dict.fromkeys(code for at in (one, other) for code in subject_names(at.instance, ())[kind])
+    named = [subject_names(at.instance, ())[kind] for at in (one, other)]
+    codes = dict.fromkeys(code for names in named for code in names)
     return Subject(kind, labels.find(kind, typed, list(codes)))
 
 

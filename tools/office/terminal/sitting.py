@@ -95,13 +95,15 @@ class PlainSitting:
     def tell_owner(self) -> None:
         """Tells whose draft is here, if somebody else has left it."""
         if self.seat.owner:
-            announce(f"{self.seat.owner} has left a draft here; a commit is logged for who makes it")
+            told = "has left a draft here; a commit is logged for who makes it"
+            announce(f"{self.seat.owner} {told}")
 
     def tell_earlier(self) -> None:
         """Tells which edits of an earlier day were neither accepted nor given up."""
         name, edits = unfinished_before(self.seat.day, self.seat.planner)
         if edits and not self.seat.offer:
-            announce(f"edits of {name} that were not accepted, to be typed or at the screen made again:")
+            told = "that were not accepted, to be typed or at the screen made again:"
+            announce(f"edits of {name} {told}")
             for edit in edits:
                 announce(f"    {edit}")
 

@@ -1,5 +1,5 @@
-"""A lecture that is picked up: what each slot would cost, or why it cannot stand there. All of it is
-what the desk says: one answer for the whole grid, and one more for a slot of which all rooms are
+"""A lecture that is picked up: what each slot would cost, or why it cannot stand there. All of it
+is what the desk says: one answer for the whole grid, and one more for a slot of which all rooms are
 wanted."""
 from __future__ import annotations
 
