@@ -10,7 +10,7 @@ from urllib.parse import quote
 from office.data.labels import Labels, Term
 from office.data.one_week import OneWeek
 from office.data.time_zones import ClockChange, Offset, changes, check_zone, offsets
-from office.day.timetable import Lecture, Slot
+from office.day.lecture import Lecture, Slot
 from office.refused import CONTENT, Refused
 from office.words.text import shown
 

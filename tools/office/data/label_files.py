@@ -9,7 +9,7 @@ from typing import Optional
 
 from office.data.labels import KINDS, PLAN, WEEKDAYS, Labels, Name, Term, Time
 from office.data.tables import Column, Faults, Row, read_table
-from office.day.timetable import Slot
+from office.day.lecture import Slot
 from office.refused import Refused
 
 FILES = ("labels.csv", "times.csv", "term.csv")

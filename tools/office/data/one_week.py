@@ -6,7 +6,7 @@ from typing import NamedTuple
 
 from office.data.labels import Labels, clock
 from office.day.costs import COSTS
-from office.day.timetable import Lecture, Slot
+from office.day.lecture import Lecture, Slot
 from office.past.timetable_at import At
 from office.words.text import counted, shown
 from office.work.week import View, alone_points, by_slot, courses_of_view, of_view

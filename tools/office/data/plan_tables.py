@@ -12,7 +12,7 @@ from office.data.tables import Column, Faults, Row, read_table
 from office.day.closure import BLOCKABLE as CLOSED, Closure, Scope
 from office.day.closures_file import blocked_now
 from office.day.instance import Course, Instance
-from office.day.timetable import Lecture, Slot
+from office.day.lecture import Lecture, Slot
 from office.seat.seat import user_name
 
 CODE = Column("code", ("id",), is_needed=False)

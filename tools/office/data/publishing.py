@@ -15,9 +15,9 @@ from office.data.changed_weeks import by_view, changes_between
 from office.data.label_files import read_labels
 from office.data.site import Published, Site
 from office.day.folder import Day, lock
+from office.day.lecture import Lecture
 from office.day.parts import DayMinutes
 from office.day.shifts import Shift
-from office.day.timetable import Lecture
 from office.past.timetable_at import read_at
 from office.refused import Refused
 from office.words.text import counted

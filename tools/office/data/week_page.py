@@ -5,7 +5,7 @@ import os
 from functools import lru_cache
 from html import escape
 from office.data.one_week import OneWeek, cost_line
-from office.day.timetable import Slot
+from office.day.lecture import Slot
 from office.words.text import shown, width as columns_of
 
 HERE = os.path.dirname(os.path.abspath(__file__))

@@ -10,7 +10,7 @@ import os
 from typing import NamedTuple, Optional
 
 from office.day.folder import Day
-from office.day.timetable import Lecture
+from office.day.lecture import Lecture
 
 
 class AtWork(NamedTuple):

@@ -6,15 +6,15 @@ from __future__ import annotations
 import json
 import os
 import re
-from typing import Any, NamedTuple
+from typing import Any, NamedTuple, Optional
 
 from office.day.closure import Closure
 from office.day.closures_file import read_closures, standing_of
 from office.day.desk_words import words_of
 from office.day.folder import Day, read_text
 from office.day.instance import Instance, read_instance, read_solution
+from office.day.lecture import Lecture
 from office.day.minutes import Entry, Minutes
-from office.day.timetable import Lecture
 from office.refused import Refused
 
 FOLDER = re.compile(r"part([1-9][0-9]*)\Z")
@@ -116,7 +116,6 @@ def half_made(day: Day) -> list[str]:
     return [day.file(name) for name in names if FOLDER.match(name[:-4]) and name.endswith(".new")]
 
 
-# what stands in the list of what the program has set aside
 class Aside(NamedTuple):
     """A lecture that was set aside, and why."""
 
@@ -124,17 +123,22 @@ class Aside(NamedTuple):
     fault: str
 
 
-def read_aside(path: str) -> list[Aside]:
-    """What was set aside, as the program lists it."""
-    found = []
-    for line in read_text(path).split("\n"):
+    @staticmethod
+    def parse(line: str) -> Optional[Aside]:
+        """What a line says that was set aside; None if it is another line."""
         _, is_aside, rest = line.partition(": set aside ")
         words = words_of(rest)
-        if is_aside and len(words) > 4:
-            course, room, day, period, *why = words
-            lecture = Lecture(course, room, int(day), int(period.rstrip(":")))
-            found.append(Aside(lecture, " ".join(why)))
-    return found
+        if not is_aside or len(words) <= 4:
+            return None
+        course, room, day, period, *why = words
+        lecture = Lecture(course, room, int(day), int(period.rstrip(":")))
+        return Aside(lecture, " ".join(why))
+
+
+def read_aside(path: str) -> list[Aside]:
+    """What was set aside, as the program lists it."""
+    found = map(Aside.parse, read_text(path).split("\n"))
+    return [aside for aside in found if aside is not None]
 
 
 class RuleChange(NamedTuple):

@@ -5,11 +5,13 @@ from __future__ import annotations
 from dataclasses import dataclass
 from typing import Iterable
 
+from office.day.edits import Edit
 from office.day.folder import Day
+from office.day.lecture import Lecture, Slot
 from office.day.minutes import Entry
 from office.day.parts import Part, read_parts
 from office.day.shifts import Shift, shifts_of
-from office.day.timetable import Lecture, Slot, Timetable
+from office.day.timetable import Timetable
 from office.past.authors import NO_FACTS, CommitFacts, read_commit_facts
 from office.seat.seat import read_sitter
 
@@ -26,7 +28,7 @@ class Draft:
     name: str
     time: str
     why: str
-    edits: list[str]
+    edits: list[Edit]
     # what stands elsewhere after it than before; what its edits have taken back is left out
     shifts: list[Shift]
 
@@ -78,7 +80,7 @@ def are_exchanged(one: Shift, other: Shift) -> bool:
     return is_crossed and one.course != other.course
 
 
-def make_draft(timetable: Timetable, edits: Iterable[str]) -> list[Shift]:
+def make_draft(timetable: Timetable, edits: Iterable[Edit]) -> list[Shift]:
     """Makes the edits of an accepted draft, and answers what has become of the lectures."""
     found: list[Shift] = []
     for edit in edits:
@@ -94,8 +96,8 @@ def drafts_of(part: Part, entries: Iterable[Entry], told: dict[int, CommitFacts]
     for entry in entries:
         name, time, why = told.get(entry.number, NO_FACTS)
         name = name or read_sitter(part.day, entry.planner)[0]
-        shifts = make_draft(timetable, entry.edits())
-        found.append(Draft(entry.number, entry.planner, name, time, why, entry.edits(), shifts))
+        shifts = make_draft(timetable, entry.edits)
+        found.append(Draft(entry.number, entry.planner, name, time, why, entry.edits, shifts))
     return found
 
 

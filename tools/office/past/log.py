@@ -10,9 +10,9 @@ from office.day.closure import Closure
 from office.day.costs import COSTS, Costs
 from office.day.folder import Day
 from office.day.instance import Instance
+from office.day.lecture import Lecture
 from office.day.parts import FIRST, RuleChange, changes_of, instance_of
 from office.day.shifts import Shift
-from office.day.timetable import Lecture
 from office.past.drafts import Draft, exchanged, read_part_drafts
 from office.past.replay import play_costs
 from office.past.subjects import Subject, find_subject
@@ -82,7 +82,7 @@ def draft_object(
             }
             for shift in touched
         ],
-        "edits": draft.edits,
+        "edits": list(map(str, draft.edits)),
         "cost": {"before": cost_object(costs[0]), "after": cost_object(costs[1])},
     }
 

@@ -8,14 +8,17 @@ import getpass
 import os
 import select
 import time
-from typing import Callable, Optional
+from typing import Callable, Optional, Union
 
 from office.day.desk_words import decoded, encoded, has_words
+from office.day.edits import Edit
 from office.day.folder import Day, lock, read_text
 from office.day.open_drafts import end_work
 from office.day.parts import last_part, read_parts
 from office.day.processes import now
 from office.refused import Refused
+from office.seat.answers import Answer, read_answer
+from office.seat.calls import Turn, read_call
 from office.seat.seat_log import SeatLog, read_past, settle
 
 
@@ -97,7 +100,9 @@ class Seat:
         self.log = SeatLog(day.log(planner))
         # what the log said when this client had heard what was under way
         self.past = past = read_past(day.log(planner))
-        self.story, self.waiting, self.offer = past.story, past.waiting, past.offer
+        self.state, self.waiting, self.offer = past.state, past.waiting, past.offer
+        # whether the last answer was as it had to be, by what was known
+        self.fits = True
         # whose draft is here, if it is somebody else's
         self.owner = past.owner() if past.owner() != self.name else ""
         self._heard = b""
@@ -138,7 +143,7 @@ class Seat:
         """Goes away: the desk goes on, and an open draft stays as it is."""
         with contextlib.suppress(OSError):
             self.log.noted("went away")
-        if not self.story.is_open:
+        if not self.state.is_open:
             end_work(self.day, self.planner)
         for end in (self._lines, self.answers, self._lock):
             if end != CLOSED:
@@ -191,11 +196,11 @@ class Seat:
         was accepted if the minutes have it."""
         number, parts = self.part.number, read_parts(self.day)
         before = [entry for part, entries in parts if part.number < number for entry in entries]
-        self.settled = settle(self.story, self.waiting, before, self.planner)
+        self.settled = settle(self.state, self.waiting, before, self.planner)
         for accepted in self.settled:
             self.log.noted(f"accepted {accepted}")
         self.log.noted(f"part {number} {len(before)}", is_kept=True)
-        self.story.begin_part(len(before), self.waiting)
+        self.state.begin_part(len(before), self.waiting)
         self.unanswered = list(self.waiting)
         self.waiting.clear()
         self.past = read_past(self.day.log(self.planner))
@@ -203,7 +208,7 @@ class Seat:
     def made_again(self) -> None:
         """Notes that all edits that the last part has left were made again or refused."""
         self.log.noted("again", is_kept=True)
-        self.story.again = []
+        self.state.again = []
 
     def take_over(self) -> None:
         """Notes that who sits here now goes on with somebody else's draft."""
@@ -213,7 +218,7 @@ class Seat:
     def forget_ended(self) -> None:
         """Notes that the edits of the last draft are given up."""
         self.log.noted("forgets")
-        self.story.forget()
+        self.state.forget()
 
     def send(self, line: str) -> None:
         """Sends a line, which is in the log before."""
@@ -263,21 +268,21 @@ class Seat:
         line, self._heard = self._heard.split(b"\n", 1)
         return decoded(line)
 
-    def take(self, answer: str) -> str:
-        """Takes up an answer to the first line that waits for one, and answers this line."""
+    def take(self, text: str) -> Answer:
+        """Takes up an answer to the first line that waits for one."""
+        answer = read_answer(text)
         self.log.heard(answer)
         asked = self.waiting.pop(0) if self.waiting else ""
-        self.story.hear(asked, answer)
-        return asked
-
-    def ask(self, line: str) -> str:
-        """Sends a line, and waits for its answer."""
-        self.send(line)
-        answer = self.read(PATIENCE)
-        if answer is None:
-            raise NoAnswer
-        self.take(answer)
+        self.fits = self.state.apply(read_call(asked), answer)
         return answer
+
+    def ask(self, call: Union[Edit, Turn, str]) -> Answer:
+        """Says something to the desk, and waits for its answer."""
+        self.send(str(call))
+        text = self.read(PATIENCE)
+        if text is None:
+            raise NoAnswer
+        return self.take(text)
 
     def catch_up(self) -> list[str]:
         """Hears the answers that were under way when somebody sat here last: a word that nothing

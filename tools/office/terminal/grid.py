@@ -3,7 +3,7 @@ from __future__ import annotations
 
 from typing import NamedTuple, Optional
 
-from office.day.timetable import Slot
+from office.day.lecture import Slot
 from office.words.text import fit, shown, signed, width as columns_of
 from office.words.wording import Wording
 from office.work.carry import SWAP, Carry
@@ -48,7 +48,7 @@ def price_in_cell(wording: Wording, carry: Carry, slot: Slot) -> str:
     offers = carry.cheapest(slot)
     if not offers:
         return wording.notice(carry.short_reason(slot))
-    kind = "course" if carry.kind == SWAP else "room"
+    kind = "course" if carry.kind is SWAP else "room"
     return f"{signed(offers[0].price)} {wording.short(kind, offers[0].about)}"
 
 

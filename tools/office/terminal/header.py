@@ -3,8 +3,9 @@ from __future__ import annotations
 
 from typing import Optional
 
-from office.day.costs import COSTS, read_costs
-from office.day.timetable import Lecture, Slot
+from office.day.costs import COSTS
+from office.day.lecture import Lecture, Slot
+from office.seat.answers import costs_in
 from office.terminal.grid import Row
 from office.words.actions import FREE, key_of, row_of
 from office.words.text import counted, cut, fit, shown, width as columns
@@ -57,7 +58,7 @@ class Header:
         title = f" week of {self.wording.view(*work.view)}{self.missing_text()}"
         title += self.others_text()
         if work.carry is not None:
-            what = "picked up to swap" if work.carry.kind == SWAP else "picked up"
+            what = "picked up to swap" if work.carry.kind is SWAP else "picked up"
             title = f" {self.wording.course(work.carry.course)} is {what};{title}"
         last: Row = [(fit(title, width), "title")]
         if planning.is_open and planning.foretold:
@@ -89,7 +90,7 @@ class Header:
 
     def points_text(self, name: str) -> str:
         """What a course costs by itself, and which curricula have it."""
-        costs = read_costs(self.planning.look(f"coursecost {name}"))
+        costs = costs_in(self.planning.look(f"coursecost {name}"))
         told = ", ".join(f"{kind} {points}" for kind, points in costs.items() if points)
         curricula = " ".join(
             self.wording.short("curriculum", one)
@@ -116,7 +117,7 @@ class Header:
         lecture = next(iter(cell.lectures), None)
         carry, wording, where = self.work.carry, self.wording, self.wording.slot(cursor)
         if carry is not None:
-            told = wording.notice(carry.told(cursor))
+            told = wording.notice(carry.notice(cursor))
             lines = [self.course_text(carry.course), f"{where}: {told}"]
             lines.append(self.here_text(lecture) if lecture else "")
         elif lecture is not None:

@@ -4,6 +4,7 @@ from __future__ import annotations
 
 from typing import Any, Callable, Container, Generic, Mapping, Optional, Sequence, TypeVar
 
+from office.day.edits import Edit
 from office.terminal.grid import Row
 from office.words.actions import BY_NAME, key_of
 from office.words.notice import Notice, Question
@@ -222,7 +223,7 @@ class CommitBox(Overlay):
         box: Box,
         renewed: Callable[[Box], Box],
         wording: Wording,
-        commit: Callable[[list[str], str], None],
+        commit: Callable[[list[Edit], str], None],
         names: Container[str],
     ) -> None:
         self.box, self.renewed, self.wording, self.commit = box, renewed, wording, commit

@@ -179,7 +179,7 @@ def go_on(sitting: PlainSitting) -> int:
         try:
             return sitting.go_on()
         except DeskEnded:
-            if sitting.seat.story.has_left or not sitting.seat.is_over():
+            if sitting.seat.state.has_left or not sitting.seat.is_over():
                 raise
             sitting.watch_rules()
 
@@ -197,7 +197,7 @@ def sit_plain(day: Day, planner: int, name: Optional[str]) -> int:
     except DeskEnded:
         with contextlib.suppress(DeskEnded):
             sitting.hear()
-        if seat.story.has_left:
+        if seat.state.has_left:
             return 0
         announce(DEAD)
     except NoAnswer:

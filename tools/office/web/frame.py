@@ -4,8 +4,8 @@ from __future__ import annotations
 from typing import Any, Iterable, Sequence
 
 from office.day.instance import Instance
+from office.day.lecture import Lecture
 from office.day.shifts import Shift
-from office.day.timetable import Lecture
 from office.words.text import counted, shown
 from office.words.wording import Wording
 from office.work.week import View, courses_of_view

@@ -5,14 +5,14 @@ from __future__ import annotations
 from typing import Any
 
 from office.day.closure import Closure
-from office.day.costs import read_costs
-from office.day.timetable import Lecture, Slot
+from office.day.edits import Edit
+from office.day.lecture import Lecture, Slot
+from office.seat.answers import Offer, costs_in
 from office.web.frame import Frame
 from office.words.closure_notices import blocked_here_notice, by_notice, closure_notice
 from office.words.notice import NOTHING, Notice, say
 from office.words.text import counted
 from office.work.carry import SWAP, Carry
-from office.work.offers import Offer
 from office.work.planning import Planning
 from office.work.week import Cell, View, by_slot, courses_of_view, of_view, weeks_of
 from office.work.work import Work
@@ -23,7 +23,7 @@ Data = dict[str, Any]
 class Picture:
     """What a window draws of a planner's work."""
 
-    def __init__(self, frame: Frame, work: Work, prices: dict[str, int]) -> None:
+    def __init__(self, frame: Frame, work: Work, prices: dict[Edit, int]) -> None:
         # what each edit has cost when it was made, as far as that is known
         self.frame, self.work, self.prices = frame, work, prices
         self.planning: Planning = work.planning
@@ -168,7 +168,7 @@ class Picture:
         course = planning.instance.courses[name]
         lectures = planning.lectures(f"course {name}")
         days = len({lecture.day for lecture in lectures})
-        costs = read_costs(planning.look(f"coursecost {name}"))
+        costs = costs_in(planning.look(f"coursecost {name}"))
         told = ", ".join(f"{kind} {points}" for kind, points in costs.items() if points)
         return [
             f"{counted(course.students, 'student')}, "
@@ -206,10 +206,10 @@ class Picture:
         is none."""
         best = carry.best()
         return {
-            "kind": carry.kind,
+            "kind": carry.kind.value,
             **self.frame.course(carry.course),
             "about": self.frame.about(View("course", carry.course)),
-            "hint": self.wording.notice(carry.best_told()),
+            "hint": self.wording.notice(carry.best_notice()),
             "at": carry.slot,
             "room": carry.lecture.room if carry.lecture else None,
             "room_said": self.wording.short("room", carry.lecture.room) if carry.lecture else "",
@@ -233,5 +233,5 @@ class Picture:
         return [self.offer(carry, offer) for offer in carry.at(slot)] if carry else []
 
     def offer(self, carry: Carry, offer: Offer) -> list[Any]:
-        kind = "course" if carry.kind == SWAP else "room"
+        kind = "course" if carry.kind is SWAP else "room"
         return [offer.price, offer.about, self.wording.short(kind, offer.about)]

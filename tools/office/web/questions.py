@@ -4,8 +4,8 @@ from __future__ import annotations
 from functools import partial
 from typing import Any, Callable, NamedTuple, Optional
 
+from office.day.lecture import Lecture, Slot
 from office.day.shifts import shifts_of
-from office.day.timetable import Lecture, Slot
 from office.past.variants import Variant
 from office.web.guard import Fault
 from office.words.notice import Notice, Question, say

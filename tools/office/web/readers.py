@@ -46,7 +46,7 @@ class Readers:
             is_last = self.minutes.part.is_last()
             entries = self.minutes.read_on()
             for entry in entries:
-                for edit in entry.edits():
+                for edit in entry.edits:
                     self.timetable.make(edit)
             is_new = is_new or bool(entries) or not is_last
             if is_last:

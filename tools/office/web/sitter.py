@@ -9,6 +9,7 @@ from functools import partial
 from typing import Any, Callable, Optional
 
 from office.day.costs import COSTS
+from office.day.edits import Edit
 from office.day.folder import Day, is_locked
 from office.refused import Refused
 from office.seat.seat import DEAD, DeskEnded, NoAnswer, Seat, read_sitter
@@ -19,7 +20,7 @@ from office.web.messages import notice_data, question_data
 from office.web.news_sent import Heard, last_news
 from office.web.picture import Picture
 from office.web.questions import WHY, Shown
-from office.web.verbs import CHANGES, VERBS, Request, Turn, hold_again
+from office.web.verbs import CHANGES, VERBS, Request, WindowTurn, hold_again
 from office.web.windows import Window, Windows
 from office.words.notice import NOTHING, Question, say
 from office.work.part_stepping import waiting_notice
@@ -52,7 +53,7 @@ class Sitter:
         # what is asked of who has sat down, until it is answered in one of his windows
         self.first: Optional[Question] = None
         # by how much each edit of the draft has changed the cost when it was made
-        self.prices: dict[str, int] = {}
+        self.prices: dict[Edit, int] = {}
         self._waiting = 0
         # whether the windows were told that the desk does not answer
         self._is_slow = False
@@ -192,7 +193,7 @@ class Sitter:
             return {"offers": picture.offers(told.slot("at"))}
         if verb == "print":
             return self._print(shown)
-        accepted, cost = len(planning.seat.story.accepted), sum(planning.costs().values())
+        accepted, cost = len(planning.seat.state.accepted), sum(planning.costs().values())
         planning.notice = planning.alarm = NOTHING
         self._act(shown, verb, told)
         if shown.work.is_done or self.begun.is_done:
@@ -205,7 +206,7 @@ class Sitter:
         }
         if verb in CHANGES:
             found["others"] = self._pictures(window)
-            found["committed"] = len(planning.seat.story.accepted) > accepted
+            found["committed"] = len(planning.seat.state.accepted) > accepted
         return found
 
     # from one part of the day to the next
@@ -253,7 +254,7 @@ class Sitter:
             return
         shown.ask(None)
         if verb != "close":
-            question = VERBS[verb](Turn(shown, told))
+            question = VERBS[verb](WindowTurn(shown, told))
             if question is not None:
                 shown.ask(question)
 

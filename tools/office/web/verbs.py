@@ -5,15 +5,17 @@ from __future__ import annotations
 from typing import Any, Callable, Optional
 
 from office.day.instance import Instance
-from office.day.timetable import Lecture, Slot
+from office.day.lecture import Lecture, Slot
+from office.seat.calls import Turn, read_call
 from office.web.guard import Fault
 from office.web.questions import Asking, Shown
 from office.words.notice import Question, say
 from office.work.carry import MOVE, PLACE, SWAP
-from office.work.offers import Offer
 from office.work.week import VIEW_KINDS, View
 
 Data = dict[str, Any]
+# what is picked up to be moved or to be swapped, by the word of the page
+PICKED = {kind.value: kind for kind in (MOVE, SWAP)}
 # letters of a line that is typed by hand
 LINE = 500
 # actions beside which a lecture may be held
@@ -83,7 +85,7 @@ class Request:
         return Lecture(self.course(found.get("course")), room, *self._slot(found.get("at")))
 
 
-class Turn:
+class WindowTurn:
     """A request at the work of one window. Each act answers what is to be asked then, if anything
     is."""
 
@@ -97,8 +99,8 @@ class Turn:
         self.work.show_next_week(self.told.lecture())
 
     def pick_up(self) -> Optional[Question]:
-        kind = self.told.data.get("kind")
-        if kind not in (MOVE, SWAP):
+        kind = PICKED.get(str(self.told.data.get("kind")))
+        if kind is None:
             raise Fault(400, "to move or to swap?")
         return self.work.pick_up(self.told.lecture(), kind)
 
@@ -127,7 +129,7 @@ class Turn:
         price, about = self.told.number("price"), self.told.data.get("about")
         seen = [one for one in carry.at(slot) if (one.price, one.about) == (price, about)]
         # one that was never offered is refused as one that is offered no more
-        return self.work.put_down(slot, seen[0] if seen else Offer(price, "", str(about)))
+        return self.work.put_down(slot, seen[0] if seen else None)
 
     def lay_down(self) -> None:
         self.work.lay_down()
@@ -148,9 +150,10 @@ class Turn:
         if not line:
             return None
         self.work.carry = None
-        if line == "leave":
+        call = read_call(line)
+        if call is Turn.LEAVE:
             self.work.leave()
-        elif line == "commit":
+        elif call is Turn.COMMIT:
             Asking(self.shown).show_box()
         else:
             return self.work.drafting.type_line(line)
@@ -192,14 +195,15 @@ def hold_again(shown: Shown, instance: Instance, held: Any) -> None:
     if not isinstance(held, dict) or shown.work.carry is not None:
         return
     told = Request(instance, {"lecture": held})
-    if held.get("kind") == PLACE:
+    kind = PICKED.get(str(held.get("kind")))
+    if held.get("kind") == PLACE.value:
         shown.work.pick_up_missing(told.course(held.get("course")))
-    elif held.get("kind") in (MOVE, SWAP):
-        shown.work.pick_up(told.lecture(), held["kind"])
+    elif kind is not None:
+        shown.work.pick_up(told.lecture(), kind)
 
 
-VERBS: dict[str, Callable[[Turn], Optional[Question]]] = {
-    name: getattr(Turn, name)
+VERBS: dict[str, Callable[[WindowTurn], Optional[Question]]] = {
+    name: getattr(WindowTurn, name)
     for name in (
         "show next_week pick_up pick_up_missing swap_instead move_instead put_down lay_down "
         "take_out best missing line act"

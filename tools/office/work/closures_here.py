@@ -6,7 +6,7 @@ from typing import NamedTuple, Optional
 
 from office.day.closure import Closure, Scope
 from office.day.closures_file import add_closure, blocked_now, lifted_now, read_closures, standing
-from office.day.timetable import Lecture, Slot
+from office.day.lecture import Lecture, Slot
 from office.words.closure_notices import closure_notice
 from office.words.notice import Notice, say
 from office.work.planning import Planning

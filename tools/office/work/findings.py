@@ -7,8 +7,9 @@ from functools import partial
 from typing import Any, Callable, NamedTuple, Optional
 
 from office.day.desk_words import encoded
+from office.day.lecture import Slot
 from office.day.program import Left
-from office.day.timetable import Slot, Timetable
+from office.day.timetable import Timetable
 from office.refused import Refused
 from office.words.notice import Notice, Question, say
 from office.work.planning import Planning

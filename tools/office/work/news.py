@@ -4,12 +4,13 @@ from __future__ import annotations
 from collections import Counter
 from dataclasses import dataclass
 from office.day.commit_notes import notes_path, read_commit_notes
-from office.day.desk_words import words_of
 from office.day.folder import Day, file_size
+from office.day.lecture import Lecture
 from office.day.minutes import Entry
 from office.day.shifts import Shift, undo_shifts
-from office.day.timetable import Lecture, Timetable
+from office.day.timetable import Timetable
 from office.past.authors import CommitFacts, commits_of, read_pasts
+from office.seat.answers import Row
 from office.seat.seat import read_sitter
 from office.words.notice import Notice, say
 
@@ -26,15 +27,11 @@ class Accepted:
     def all(self) -> list[Shift]:
         return [shift for shifts in self.shifts for shift in shifts]
 
-    def changes(self, row: str) -> bool:
-        """Whether a row, as `course geo` or `slot 0 1`, is another one after the draft than
-        before."""
-        kind, *rest = words_of(row)
+    def changes(self, row: Row) -> bool:
+        """Whether a row is another one after the draft than before."""
 
         def is_in(lecture: Lecture) -> bool:
-            if kind == "slot":
-                return lecture.slot == (int(rest[0]), int(rest[1]))
-            return lecture.course == rest[0]
+            return lecture.slot == row.slot if row.slot is not None else lecture.course == row.name
 
         was = Counter(one.was for one in self.all() if one.was and is_in(one.was))
         return was != Counter(one.now for one in self.all() if one.now and is_in(one.now))

@@ -3,9 +3,9 @@ from __future__ import annotations
 
 from typing import Callable, Optional
 
+from office.day.lecture import Lecture
 from office.day.open_drafts import AtWork
 from office.day.pins import Pin
-from office.day.timetable import Lecture
 from office.seat.courtesies import SeatStatus, who_sits
 from office.words.closure_notices import blocked_here_notice
 from office.words.notice import NOTHING, Notice, Question, say

@@ -51,7 +51,7 @@ def step_over(planning: Planning) -> Stepped:
 def make_again(planning: Planning) -> Remade:
     """Makes the draft again that was open when the part before has ended, if there was one. Nothing
     is committed by it. A draft of somebody else waits for who sits here to take it over."""
-    seat, kept = planning.seat, planning.seat.story.again
+    seat, kept = planning.seat, planning.seat.state.again
     if not kept or seat.owner:
         return Remade()
     # who was broken off while he did it has some of them already

@@ -6,9 +6,10 @@ from typing import Iterable, NamedTuple
 
 from office.day.closure import Closure
 from office.day.instance import Instance
+from office.day.lecture import Lecture, Slot
 from office.day.open_drafts import AtWork
 from office.day.pins import Pin
-from office.day.timetable import Lecture, Slot, Timetable
+from office.day.timetable import Timetable
 from office.work.planning import Planning
 
 VIEW_KINDS = ("curriculum", "teacher", "room", "course")
@@ -91,7 +92,7 @@ def of_view(timetable: Timetable, view: View) -> list[Lecture]:
     """The lectures of a view in a timetable that is known."""
     if view.kind == "room":
         return timetable.of_room(view.name)
-    return timetable.look(view.words()) or []
+    return timetable.look(view) or []
 
 
 def lectures_of_view(planning: Planning, view: View) -> list[Lecture]:
