@@ -7,9 +7,10 @@ from typing import NamedTuple
 from office.data.labels import Labels, clock
 from office.day.costs import COSTS
 from office.day.lecture import Lecture, Slot
+from office.day.rules import alone_points, students_without_seat
 from office.past.timetable_at import At
 from office.words.text import counted, shown
-from office.work.week import View, alone_points, by_slot, courses_of_view, of_view
+from office.work.week import View, by_slot, courses_of_view, of_view
 
 CSV_HEADS = (
     "day,period,weekday,from,to,course,course name,room,room name,teacher,teacher name,students"
@@ -80,11 +81,11 @@ class OneWeek:
     def costs(self, lecture: Lecture) -> str:
         """What a lecture costs where it stands, in words; empty if nothing."""
         instance = self.at.instance
-        short = instance.courses[lecture.course].students - instance.rooms[lecture.room]
+        short = students_without_seat(instance, lecture)
         of_course = instance.curricula_of[lecture.course]
         curricula = [self.view.name] if self.view.kind == "curriculum" else of_course
         alone = alone_points(self.at.timetable, curricula, lecture.slot)
-        parts = [f"{counted(short, 'student')} without a seat"] if short > 0 else []
+        parts = [f"{counted(short, 'student')} without a seat"] if short else []
         parts += [f"stands alone: {counted(alone, 'point')}"] if alone else []
         return "; ".join(parts)
 

@@ -1,6 +1,6 @@
 """A timetable as a planner's client knows it: what stands where.
 
-It knows no rule. What may stand where, and why an edit is refused, the desk says.
+What may stand where, and why an edit is refused, the desk says.
 """
 from __future__ import annotations
 

@@ -5,6 +5,7 @@ from typing import Optional
 
 from office.day.costs import COSTS
 from office.day.lecture import Lecture, Slot
+from office.day.rules import students_without_seat
 from office.seat.answers import costs_in
 from office.terminal.grid import Row
 from office.words.actions import FREE, key_of, row_of
@@ -103,8 +104,8 @@ class Header:
     def room_text(self, lecture: Lecture) -> str:
         instance = self.planning.instance
         seats = instance.rooms[lecture.room]
-        short = instance.courses[lecture.course].students - seats
-        lacking = f", {counted(short, 'student')} without one" if short > 0 else ""
+        short = students_without_seat(instance, lecture)
+        lacking = f", {counted(short, 'student')} without one" if short else ""
         return f"room {self.wording.room(lecture.room)}, {counted(seats, 'seat')}{lacking}"
 
     def here_text(self, lecture: Lecture) -> str:

@@ -7,6 +7,7 @@ from typing import Any
 from office.day.closure import Closure
 from office.day.edits import Edit
 from office.day.lecture import Lecture, Slot
+from office.day.rules import students_without_seat
 from office.seat.answers import Offer, costs_in
 from office.web.frame import Frame
 from office.words.closure_notices import blocked_here_notice, by_notice, closure_notice
@@ -109,7 +110,7 @@ class Picture:
         }
 
     def cell(self, slot: Slot, cell: Cell, gone: list[Lecture], newest: list[Lecture]) -> Data:
-        rooms, courses = self.planning.instance.rooms, self.planning.instance.courses
+        rooms = self.planning.instance.rooms
         changed = self.work.changed_here(slot) if cell.is_others else None
         brief = self.frame.brief
         return {
@@ -118,7 +119,7 @@ class Picture:
                 {
                     **self.frame.lecture(one),
                     "seats": rooms[one.room],
-                    "short": max(0, courses[one.course].students - rooms[one.room]),
+                    "short": signs.short,
                     "alone": signs.alone,
                 }
                 for one, signs in zip(cell.lectures, cell.signs)
@@ -182,8 +183,8 @@ class Picture:
         """The lecture at the cursor, with the weeks in which it stands."""
         wording, instance = self.wording, self.planning.instance
         seats = instance.rooms[lecture.room]
-        short = instance.courses[lecture.course].students - seats
-        lacking = f", {counted(short, 'student')} without one" if short > 0 else ""
+        short = students_without_seat(instance, lecture)
+        lacking = f", {counted(short, 'student')} without one" if short else ""
         room = f"room {wording.room(lecture.room)}, {counted(seats, 'seat')}{lacking}"
         cell = self.work.cells()[lecture.slot]
         changed = self.work.changed_here(lecture.slot) if cell.is_others else None

@@ -9,11 +9,12 @@ from typing import Any, Callable, NamedTuple, Optional
 from office.day.desk_words import encoded
 from office.day.lecture import Slot
 from office.day.program import Left
+from office.day.rules import alone_points
 from office.day.timetable import Timetable
 from office.refused import Refused
 from office.words.notice import Notice, Question, say
 from office.work.planning import Planning
-from office.work.week import View, alone_points
+from office.work.week import View
 
 # the groups of the page, in its order
 GROUPS = (
