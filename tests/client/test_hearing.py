@@ -101,7 +101,8 @@ class Reading(OfficeTest):
             self.assertEqual((edit.inverse("C").before(), edit.inverse().after()), ends_of(edit))
         self.assertEqual(Edit.parse("swap a 0 0 b 1 1").courses(), ["a", "b"])
         self.assertEqual(str(Edit.parse("  drop a 00 01")), "drop a 0 1")
-        for line in ("", "drop a 0", "drop a 0 0 0", "drop a 0 x", "price drop a 0 0", "move a 0 0"):
+        wrong = ("", "drop a 0", "drop a 0 0 0", "drop a 0 x", "price drop a 0 0", "move a 0 0")
+        for line in wrong:
             self.assertIsNone(Edit.parse(line), line)
         self.assertFalse(Edit.parse("drop a 0 0").inverse("A").may_be(Edit.place("a", "B", (0, 0))))
 

@@ -102,7 +102,7 @@ class Logs(OfficeTest):
         self.assertLessEqual(len(past.waiting), 1)
 
     def test_read_twice(self):
-        """Who reads a log up to a line, and goes on with what follows, knows what the whole says."""
+        """What is fed line by line is what the whole log says."""
         for seed in range(DRAWS // 4):
             self.setUp()
             self.play(seed)

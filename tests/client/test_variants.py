@@ -50,7 +50,7 @@ class Variants(Two):
         self.assertIn(f"drop: {told}", text)
         text = self.type_keys(anna, "d", "down", "d")
         self.assertIn("move -> drop", text)
-        self.assertIn("In what they differ now is not known", text)
+        self.assertIn("Cannot compare them: the program gave no answer.", text)
         self.type_keys(anna, "escape", "N", "enter")
         self.assertEqual(lines_of(anna.planning.edits()), [BEST])
 

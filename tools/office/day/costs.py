@@ -4,6 +4,13 @@ from __future__ import annotations
 from typing import Mapping, Union
 
 COSTS = ("capacity", "days", "compactness", "stability")
+# what each counts
+MEANINGS = {
+    "capacity": "a point for each student without a seat",
+    "days": "five for each day that a course is taught on too few",
+    "compactness": "two for each lecture of a curriculum that stands alone on its day",
+    "stability": "one for each further room of a course",
+}
 Costs = dict[str, int]
 
 

@@ -36,8 +36,8 @@ SLOTS = ("was", "now")
 
 @dataclass(frozen=True)
 class Edit:
-    """A lecture of `course` comes from a slot to another one, and into a room; of a swap the lecture
-    of `other` comes back. What is not there before, or after, has no slot."""
+    """A lecture of `course` comes from a slot to another one, and into a room; of a swap the
+    lecture of `other` comes back. What is not there before, or after, has no slot."""
 
     kind: Kind
     course: str

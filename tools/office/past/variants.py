@@ -73,7 +73,8 @@ class Variants:
 
     def _keep(self, name: str, edits: list[Edit]) -> None:
         self.kept[name] = edits
-        self.planning.seat.log.noted(f"aside {json.dumps([name, list(map(str, edits))])}", is_kept=True)
+        text = json.dumps([name, list(map(str, edits))])
+        self.planning.seat.log.noted(f"aside {text}", is_kept=True)
 
     def put_aside(self, name: str) -> None:
         """Puts the edits of the draft, or of a stale one, aside under a name, and begins anew."""

@@ -8,7 +8,7 @@ from concurrent.futures import ThreadPoolExecutor
 from functools import partial
 from typing import Any, Callable, Optional
 
-from office.day.costs import COSTS
+from office.day.costs import COSTS, MEANINGS
 from office.day.edits import Edit
 from office.day.folder import Day, is_locked
 from office.refused import Refused
@@ -137,6 +137,7 @@ class Sitter:
             "name": self.frame.wording.safe(planning.seat.name),
             "keys": key_table(),
             "parts": COSTS,
+            "meanings": MEANINGS,
             "farewell": FAREWELL,
             **self.frame.told(),
             "news": last_news(planning, self.frame.wording),

@@ -140,7 +140,7 @@ VARIANTS = {
     "{missing}",
     "compared": "{name} -> {second}",
     "same variants": "Both lead to the same timetable now.",
-    "not compared": "In what they differ now is not known: the program does not say it.",
+    "not compared": "Cannot compare them: the program gave no answer.",
 }
 # what the program finds
 FINDINGS = {
