@@ -106,8 +106,8 @@ class Seat:
         # whose draft is here, if it is somebody else's
         self.owner = past.owner() if past.owner() != self.name else ""
         self._received = b""
-        # the drafts that were accepted, and the lines that were sent, of which no answer came before
-        # the last part ended
+        # the drafts that were accepted, and the lines that were sent, of which no answer came
+        # before the last part ended
         self.settled: list[int] = []
         self.unanswered: list[str] = []
         if past.part != self.part.number:
