@@ -4,6 +4,7 @@ import os
 import re
 import shutil
 import subprocess
+import sys
 import unittest
 
 from served import HERE
@@ -52,6 +53,16 @@ class Files(unittest.TestCase):
             if name.endswith(".py") and name != "__init__.py"
         ]
         self.assertEqual(len(names), len(set(names)))
+
+    def test_as_a_module(self):
+        """`python3 -m office` is `office`."""
+        module = [sys.executable, "-B", "-m", "office", "--help"]
+        script = [os.path.join(HERE, "office"), "--help"]
+        done = [
+            subprocess.run(words, capture_output=True, text=True, cwd=TOOLS, check=True)
+            for words in (module, script)
+        ]
+        self.assertEqual(done[0].stdout, done[1].stdout)
 
     def test_nothing_from_elsewhere(self):
         """No address of another host, no text set as markup, no script or style inside a page."""
