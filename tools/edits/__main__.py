@@ -7,6 +7,7 @@ bad, has no verdict, or is refused by another clause than its record says. The l
 from __future__ import annotations
 
 import argparse
+import contextlib
 import os
 import sys
 import tempfile
@@ -14,7 +15,7 @@ import threading
 import time
 from concurrent.futures import ThreadPoolExecutor
 from dataclasses import dataclass, field
-from typing import Dict, List, Mapping, Optional, Sequence
+from typing import Dict, Iterator, List, Mapping, Optional, Sequence
 
 from . import records
 from .edit import Edit, read_all
@@ -46,6 +47,7 @@ class Asked:
     every: bool
     write: bool
     verbose: bool
+    kept: str
 
 
 class Run:
@@ -92,6 +94,17 @@ class Run:
         self.say(*outcome.lines, f"{name}: {counted}, {outcome.failed} failed")
         return outcome
 
+    @contextlib.contextmanager
+    def _kept(self, name: str) -> Iterator[str]:
+        """The folder in which checks of a crate keep what they proved."""
+        if self._asked.kept:
+            folder = os.path.join(self._asked.kept, name)
+            os.makedirs(folder, exist_ok=True)
+            yield folder
+        else:
+            with tempfile.TemporaryDirectory(prefix="edits-") as folder:
+                yield folder
+
     def _say_check(self, line: str) -> None:
         if self._asked.verbose:
             self.say(line)
@@ -103,7 +116,7 @@ class Run:
             outcome.failed += len(left)
             outcome.lines.append(f"{crate.name}: {', '.join(lacking)} below it are not built")
             return
-        with tempfile.TemporaryDirectory(prefix="edits-") as kept:
+        with self._kept(crate.name) as kept:
             found = Trying(crate, kept, self._say_check).try_all(left)
         for edit in left:
             self._judge(crate, found[edit.name], known.get(edit.name),
@@ -136,6 +149,7 @@ def words() -> argparse.ArgumentParser:
     ask.add_argument("--all", action="store_true", help="try those whose record holds, too")
     ask.add_argument("--write", action="store_true", help="write what refused each, and the page")
     ask.add_argument("--page", action="store_true", help="print the page that records make")
+    ask.add_argument("--kept", default="", help="a folder for what checks prove, for a next run")
     ask.add_argument("--verbose", action="store_true", help="print a line for each check")
     ask.add_argument("--lanes", type=int, default=1, help="how many crates are tried at once")
     ask.add_argument("crates", nargs="*", help="these alone")
@@ -163,8 +177,9 @@ def main() -> int:
     """Runs the command."""
     said = words().parse_args()
     edits = os.path.abspath(said.edits or said.tree)
+    kept = os.path.abspath(said.kept) if said.kept else ""
     kit = Kit(said.tree)
-    run = Run(kit, Asked(edits, said.all, said.write, said.verbose))
+    run = Run(kit, Asked(edits, said.all, said.write, said.verbose, kept))
     if said.page:
         print(made_page(kit, run), end="")
         return 0

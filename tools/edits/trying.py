@@ -122,12 +122,10 @@ class Trying:
         """Tries groups, and gives those of whose edits nothing is known yet."""
         undecided: List[Trial] = []
         while queue:
-            group = queue.pop(0)
+            group, texts, others = self._together(queue.pop(0))
+            if others:
+                queue.append(others)
             if len(group) == 1:
-                undecided += group
-                continue
-            texts = self._texts_of(group)
-            if texts is None:
                 undecided += group
                 continue
             said = self._check(texts, sorted({it for one in group for it in one.only}), len(group))
@@ -138,15 +136,19 @@ class Trying:
             undecided += [it for it in group if not self._is_decided(it, said, texts)]
         return undecided
 
-    def _texts_of(self, group: Sequence[Trial]) -> Optional[Dict[str, str]]:
-        """The texts with all edits of a group in them, or None where one is in another's way."""
+    def _together(self, group: Sequence[Trial]
+                  ) -> Tuple[List[Trial], Dict[str, str], List[Trial]]:
+        """Those of a group that can be made together, the texts with them, and the others."""
         texts: Dict[str, str] = {}
+        made: List[Trial] = []
+        others: List[Trial] = []
         for trial in group:
             try:
                 texts.update(apply(trial.edit, {**self.crate.texts, **texts}))
+                made.append(trial)
             except BadEdit:
-                return None
-        return texts
+                others.append(trial)
+        return made, texts, others
 
     def _check(self, texts: Mapping[str, str], only: Sequence[str], count: int) -> Said:
         begun = time.monotonic()
