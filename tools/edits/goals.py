@@ -48,12 +48,9 @@ def declaration_at(text: str, line: int) -> str:
 
 def names_of(function: Function, crate: str, said: Said) -> List[str]:
     """The names under which a check speaks of a function and of the closures in it."""
-    whole = f"{crate}::{function.path}"
-    if function.is_named:
-        return [it for it in said.functions if it == whole or it.startswith(whole + "::")]
-    start = f"{crate}::{function.module}::" if function.module else f"{crate}::"
-    ending = f"::{function.name}"
-    return [it for it in said.functions if it.startswith(start) and it.endswith(ending)]
+    below = {it: it[len(crate) + 2 :] for it in said.functions if it.startswith(f"{crate}::")}
+    found = [it for it, name in below.items() if function.is_called(name)]
+    return [it for it in below if any(it == one or it.startswith(one + "::") for one in found)]
 
 
 def folder_of(name: str, crate: str) -> str:

@@ -82,9 +82,10 @@ def _lines_of(crate: Crate, records: Mapping[str, Record]) -> Tuple[List[str], i
     for call in public_calls(crate):
         if not call.clauses:
             continue
-        shown.add(call.path)
         lines.append(f"- `{call.path}`")
-        refusals = by_function.get(call.path, [])
+        names = [it for it in by_function if call.is_called(it)]
+        shown |= set(names)
+        refusals = [it for name in names for it in by_function[name]]
         # one clause alone has the goal `returns`, whatever its name
         is_single = len(call.clauses) == 1
         for clause in call.clauses:

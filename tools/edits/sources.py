@@ -28,8 +28,23 @@ class Function:
 
     @property
     def path(self) -> str:
-        """Its path below the crate; of a method of a trait the module's alone is known."""
+        """Its path below the crate, by the module that its code is in."""
         return "::".join(it for it in (self.module, self.owner, self.name) if it)
+
+    @property
+    def asked(self) -> str:
+        """What a check is asked for: a method by its type, whose module may be another; that of a
+        trait by the module alone.
+        """
+        if not self.is_named:
+            return self.module
+        return f"{self.owner}::{self.name}" if self.owner else self.path
+
+    def is_called(self, name: str) -> bool:
+        """Whether a check can mean it by a name below the crate."""
+        if not self.is_named:
+            return name.startswith(self.module) and name.endswith(f"::{self.name}")
+        return name == self.path or f"::{name}".endswith(f"::{self.owner}::{self.name}")
 
     def has(self, line: int) -> bool:
         """Whether the line is one of its."""

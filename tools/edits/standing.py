@@ -74,9 +74,9 @@ class Standing:
                 continue
             function = function_at(functions_in(change.path, text), line)
             if function is not None:
-                module = "proofs/" + function.module.replace("::", "/")
+                module = "" if function.owner else function.module.replace("::", "/")
+                part = "/" + "/".join(it for it in (function.owner, function.name, "") if it) + "/"
                 found += [
-                    it for it in crate.texts
-                    if it.startswith(module) and f"/{function.name}/" in it
+                    it for it in crate.texts if it.startswith(f"proofs/{module}") and part in it
                 ]
         return list(dict.fromkeys(found))

@@ -58,7 +58,7 @@ class Trial:
     @property
     def only(self) -> List[str]:
         """What a check has to be asked for: its functions, or the modules of methods of traits."""
-        return sorted({it.path if it.is_named else it.module for _, it in self.functions})
+        return sorted({it.asked for _, it in self.functions})
 
 
 def trial_of(edit: Edit, texts: Mapping[str, str]) -> Trial:
@@ -125,10 +125,15 @@ class Trying:
             group, texts, others = self._together(queue.pop(0))
             if others:
                 queue.append(others)
-            if len(group) == 1:
+            if len(group) < 2:
                 undecided += group
                 continue
             said = self._check(texts, sorted({it for one in group for it in one.only}), len(group))
+            unknown = {it for one in group for it in one.only if f"`{it}`" in said.last}
+            if said.status == 2 and unknown:
+                undecided += [it for it in group if unknown & set(it.only)]
+                queue.insert(0, [it for it in group if not unknown & set(it.only)])
+                continue
             if not said.functions:
                 half = len(group) // 2
                 queue[:0] = [group[:half], group[half:]]
