@@ -16,7 +16,7 @@ from office.label_files import LABELS_COLUMNS
 from office.labels import KINDS, PLAN
 from office.new_folder import new_folder, write_files
 from office.plan_tables import Tables
-from office.program import output, program_words
+from office.program import build, output, program_words
 from office.refused import MACHINE, Refused, Silent
 from office.tables import read_bytes, write_table
 from office.text import counted
@@ -91,6 +91,7 @@ def import_folder(source: str, folder: str, unproved: bool) -> int:
     if not os.path.isdir(source):
         raise Refused(f"there is no folder {source}")
     program = program_words(unproved)
+    build(program)
     tables = Tables(source, program)
     instance = tables.read()
     files = files_of(tables, instance)
