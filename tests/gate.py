@@ -177,7 +177,7 @@ class Gate(SmallTree):
         """A build of sources that were changed since is not noted, and it is said."""
         self.tell(proofs=f"echo new >'{self.top}/crates/low/src/lib.rt'" + PROVED)
         lines = self.run_gate()
-        self.assertIn("the sources have changed since", "\n".join(lines))
+        self.assertIn("the sources have changed since it began", "\n".join(lines))
         self.assertFalse((self.top / "crates/ctt_tool/out/built.sums").exists())
 
     def test_interrupted(self):

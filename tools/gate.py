@@ -68,7 +68,8 @@ def failures(run: Run) -> list[str]:
     for outcome in run.outcomes:
         if outcome.failed:
             kept = (LOGS / f"{outcome.name}.txt").relative_to(TOP)
-            lines.append(f"FAILED: {outcome.name}: {outcome.failure()} ({kept})")
+            where = f" ({kept})" if outcome.times else ""
+            lines.append(f"FAILED: {outcome.name}: {outcome.failure()}{where}")
     for need, names in run.lacking.items():
         why = "was not built" if run.proves else f"is not there ({BUILD[need]} builds it)"
         lines.append(f"FAILED: the program of {need.value} {why}, so not run: {' '.join(names)}")

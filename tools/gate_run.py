@@ -311,6 +311,11 @@ class Run:
         """Takes the program of a crate, if tests need it."""
         for need in Need:
             if need.value == crate:
-                self.awaited[need].settle(gate_tree.fetch(self.tree(), crate))
-                if need == Need.PROGRAM and not gate_tree.note_build(self.tree()):
-                    self.say("the sources have changed since: ./timedesk will build them anew")
+                try:
+                    has_come = gate_tree.fetch(self.tree(), crate)
+                except OSError as error:
+                    has_come = False
+                    self.say(f"the program of {crate} could not be fetched: {error}")
+                if need == Need.PROGRAM and has_come and not gate_tree.note_build(self.tree()):
+                    self.say("the build is not noted: the sources have changed since it began")
+                self.awaited[need].settle(has_come)
