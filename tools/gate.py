@@ -62,6 +62,10 @@ def read_words(words: Optional[Sequence[str]] = None) -> Work:
     return Work(rows, gate_tree.count_lanes(), asked.edits, asked.write)
 
 
+def in_order(names: Sequence[str]) -> str:
+    return " ".join(sorted(names, key=NAMES.index))
+
+
 def failures(run: Run) -> list[str]:
     """A line for each part that has failed, and for what was not there to be run."""
     lines = []
@@ -72,7 +76,7 @@ def failures(run: Run) -> list[str]:
             lines.append(f"FAILED: {outcome.name}: {outcome.failure()}{where}")
     for need, names in run.lacking.items():
         why = "was not built" if run.proves else f"is not there ({BUILD[need]} builds it)"
-        lines.append(f"FAILED: the program of {need.value} {why}, so not run: {' '.join(names)}")
+        lines.append(f"FAILED: the program of {need.value} {why}, so not run: {in_order(names)}")
     return lines
 
 
