@@ -113,7 +113,7 @@ with tempfile.TemporaryDirectory() as room:
     equals("the manual as it was", (top / "docs/timedesk.1").read_bytes(), (HERE / "docs/timedesk.1").read_bytes())
     equals("the completions as they were", (top / "docs/completion.bash").read_bytes(), (HERE / "docs/completion.bash").read_bytes())
     # an option of office is its parser's
-    words = top / "tools/office/block_words.py"
+    words = top / "tools/office/commands_blocking.py"
     words.write_text(words.read_text(encoding="utf-8").replace('"--why"', '"--reason"'), encoding="utf-8")
     equals("an option of office", run(top, "--check")[0], 1)
     equals("an option of office that is written", run(top, "--write"), (0, ""))

@@ -10,7 +10,7 @@ HERE = os.path.dirname(os.path.dirname(os.path.dirname(os.path.abspath(__file__)
 sys.path.insert(0, os.path.join(HERE, "tools"))
 sys.dont_write_bytecode = True
 
-from office import new_part, running  # noqa: E402
+from office.day import next_part, open_office  # noqa: E402
 from office.main import main  # noqa: E402
 
 AT, OFFICE = int(os.environ["KILL_AT"]), os.getpid()
@@ -71,7 +71,7 @@ steps = Steps()
 sys.addaudithook(hook)
 for each in WRAPPED:
     setattr(os, each, wrapped(each))
-running.Running.change = counted_change(running.Running.change)
-assert new_part.os is os
+open_office.Running.change = counted_change(open_office.Running.change)
+assert next_part.os is os
 if __name__ == "__main__":
     sys.exit(main())

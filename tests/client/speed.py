@@ -15,7 +15,7 @@ sys.path.insert(0, os.path.dirname(os.path.abspath(__file__)))
 
 from support import OfficeTest  # noqa: E402
 
-from office.board import Board  # noqa: E402
+from office.terminal.board import Board  # noqa: E402
 
 # a move, a swap that is taken back, a lecture out and in again, pages and lists, a commit
 ROUND = (

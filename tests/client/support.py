@@ -42,10 +42,22 @@ def wait_until(fact, seconds=PATIENCE):
 
 def said(told):
     """A notice, or the last one of a planner, in the words of the screen."""
-    from office.keys import KeyNames
-    from office.wording import Wording
+    from office.words.actions import KeyNames
+    from office.words.wording import Wording
 
     return Wording(KeyNames()).notice(getattr(told, "notice", told))
+
+
+def make_edit(planning, line):
+    """Makes an edit, which is written as a line of the desk; answers whether it was made."""
+    from office.day.edits import Edit
+
+    return planning.edit(Edit.parse(line))
+
+
+def lines_of(edits):
+    """Edits as lines of the desk."""
+    return [str(edit) for edit in edits]
 
 
 def is_alive(number):
@@ -130,8 +142,8 @@ class OfficeTest(unittest.TestCase):
 
     def seat(self, day, planner, name="anna"):
         """A seat of an open office, in this process."""
-        from office.folder import Day
-        from office.seat import Seat
+        from office.day.folder import Day
+        from office.seat.seat import Seat
 
         seat = Seat(Day(self.path(day)), planner, name)
         self.addCleanup(self.leave, seat)
@@ -145,7 +157,7 @@ class OfficeTest(unittest.TestCase):
 
     def planning(self, day, planner, name="anna"):
         """A planner who has sat down."""
-        from office.planning import Planning
+        from office.work.planning import Planning
 
         planning = Planning(self.seat(day, planner, name))
         planning.begin()

@@ -5,8 +5,8 @@ from at_terminals import TO_BEST
 from support import OFFICE, SPRING, SPRING_SOL, OfficeTest, wait_until
 from terminal import Terminals, has_tmux
 
-from office.folder import Day
-from office.parts import parts_of
+from office.day.folder import Day
+from office.day.parts import parts_of
 
 LINE = "r04 is blocked on day 5: heating (ben at seat 1); 4 lectures are missing now"
 

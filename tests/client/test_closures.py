@@ -6,8 +6,10 @@ from fake_week import FakeWeek
 from plain_instance import instance_of
 from support import PROGRAM, SMALL, OfficeTest
 
-from office.block import find_scope
-from office.closures import (
+from office.data.label_files import read_labels
+from office.day.blocking import find_scope
+from office.day.closure import Scope
+from office.day.closures_file import (
     add_closure,
     blocked_now,
     blocked_text,
@@ -19,13 +21,11 @@ from office.closures import (
     standing,
     standing_of,
 )
-from office.folder import Day
-from office.instance import read_instance
-from office.label_files import read_labels
-from office.lines import one_line
+from office.day.folder import Day
+from office.day.instance import read_instance
+from office.day.scratch_desk import Scratch
+from office.day.shared_lines import one_line
 from office.refused import Refused
-from office.scope import Scope
-from office.scratch import Scratch
 
 R, T, C = Scope("room", "A", 0), Scope("teacher", "t1", None, 1), Scope("course", "geo", 1, 2)
 

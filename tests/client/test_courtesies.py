@@ -5,11 +5,11 @@ import threading
 
 from support import OfficeTest
 
-from office.at_work import AtWork, OthersAtWork, end_work, keep_work, read_work
-from office.folder import Day
-from office.lines import add_line, read_lines
-from office.pins import pin, pins_path, read_pins, unpin
-from office.timetable import Lecture
+from office.day.folder import Day
+from office.day.lecture import Lecture
+from office.day.open_drafts import AtWork, OthersAtWork, end_work, keep_work, read_work
+from office.day.pins import pin, pins_path, read_pins, unpin
+from office.day.shared_lines import add_line, read_lines
 
 
 class Lines(OfficeTest):

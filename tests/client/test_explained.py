@@ -6,8 +6,8 @@ import unittest
 
 from support import OfficeTest
 
-from office.explained import explained
-from office.program import output, run_on_files
+from office.day.file_faults import explained
+from office.day.program import output, run_on_files
 
 CODE = "timedesk: solution S4 2\n"
 PLACE = "plan.sol:1:5: S4: no room r99\n"

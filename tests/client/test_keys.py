@@ -6,10 +6,11 @@ import string
 
 from support import HERE, OfficeTest
 
-from office.help import help_lines
-from office.keys import ACTIONS, ANSWERS, BY_NAME, FREE, KeyNames, key_of, row_of
-from office.sentences import SENTENCES
-from office.text import width
+from office.day.costs import COSTS, MEANINGS
+from office.terminal.help_page import help_lines
+from office.words.actions import ACTIONS, ANSWERS, BY_NAME, FREE, KeyNames, key_of, row_of
+from office.words.sentences import SENTENCES
+from office.words.text import width
 
 
 def said_codes():
@@ -18,7 +19,7 @@ def said_codes():
         with open(path) as file:
             tree = ast.parse(file.read())
         for node in ast.walk(tree):
-            if isinstance(node, ast.ImportFrom) and node.module == "office.notice":
+            if isinstance(node, ast.ImportFrom) and node.module == "office.words.notice":
                 break
         else:
             # another function of this name
@@ -39,7 +40,7 @@ class Keys(OfficeTest):
         self.assertEqual(len(names), len(set(names)))
 
     def test_each_action_is_done(self):
-        from office.board import Board
+        from office.terminal.board import Board
         from support import SMALL
 
         self.open("day", SMALL, "1")
@@ -51,6 +52,13 @@ class Keys(OfficeTest):
         for action in ACTIONS:
             if action.help:
                 self.assertIn(f"{key_of(action.name):>6}  {action.help}", lines)
+
+    def test_help_has_each_cost(self):
+        """What each part of the cost counts is said once for both faces."""
+        self.assertEqual(tuple(MEANINGS), COSTS)
+        (line,) = [line for line in help_lines() if line.startswith("Costs: ")]
+        for part, counts in MEANINGS.items():
+            self.assertIn(f"{part} is {counts}", line)
 
     def test_rows_of_keys(self):
         for names in FREE:

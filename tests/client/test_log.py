@@ -6,8 +6,8 @@ import re
 
 from support import SPRING, SPRING_SOL, OfficeTest
 
-from office.commit_notes import CommitNote, keep_commit_note
-from office.folder import Day
+from office.day.commit_notes import CommitNote, keep_commit_note
+from office.day.folder import Day
 from office.main import main
 
 SWAP = "c0109 (day 5, period 2, r01) <-> c0078 (day 4, period 2, r06)"

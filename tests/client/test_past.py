@@ -1,8 +1,8 @@
 """What a day was after each of its drafts."""
 from support import SMALL, SPRING, SPRING_SOL, OfficeTest
 
-from office.at import parse_at, read_at
-from office.folder import Day
+from office.day.folder import Day
+from office.past.timetable_at import parse_at, read_at
 from office.refused import Refused
 
 

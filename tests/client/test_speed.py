@@ -5,9 +5,9 @@ import time
 from speed import press_keys
 from support import SPRING, SPRING_SOL, OfficeTest, said
 
-from office.board import Board
-from office.instance import read_instance, read_solution
-from office.timetable import Timetable
+from office.day.instance import read_instance, read_solution
+from office.day.timetable import Timetable
+from office.terminal.board import Board
 
 COURSES, ROOMS, DAYS, PERIODS = 2000, 80, 10, 10
 

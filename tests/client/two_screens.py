@@ -1,8 +1,8 @@
 """Two planners at spring, each at a screen."""
 from support import SPRING, SPRING_SOL, OfficeTest
 
-from office.board import Board
-from office.week import View
+from office.terminal.board import Board
+from office.work.week import View
 
 BEST = "move c0109 4 1 r04 4 3"
 

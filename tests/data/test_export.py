@@ -10,18 +10,18 @@ from io import StringIO
 from support import HERE, PROGRAM
 from test_import import Tables
 
-from office.closures import (
+from office.data.exporting import export_day
+from office.data.importing import import_folder
+from office.data.label_files import read_labels
+from office.day.closure import Scope
+from office.day.closures_file import (
     blocked_now,
     blocked_text,
     closures_path,
     closures_text,
     read_closures,
 )
-from office.exporting import export_day
-from office.folder import Day
-from office.importing import import_folder
-from office.label_files import read_labels
-from office.scope import Scope
+from office.day.folder import Day
 
 sys.path.insert(0, os.path.join(HERE, "tests"))
 from drawn import PIECES, draw_instance, draw_solution  # noqa: E402

@@ -8,11 +8,11 @@ from io import StringIO
 from plain_instance import instance_of, lectures_of
 from support import HERE, PROGRAM, OfficeTest
 
-from office.closures import read_closures
-from office.folder import Day
-from office.importing import import_folder
-from office.label_files import read_labels
-from office.scope import Scope
+from office.data.importing import import_folder
+from office.data.label_files import read_labels
+from office.day.closure import Scope
+from office.day.closures_file import read_closures
+from office.day.folder import Day
 from office.refused import Refused
 
 SHEETS = os.path.join(HERE, "tests/data/sheets")

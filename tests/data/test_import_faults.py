@@ -4,7 +4,7 @@ import unittest
 
 from test_import import Tables
 
-from office.importing import import_folder
+from office.data.importing import import_folder
 from office.refused import Refused
 
 # for each file a text to be replaced, the text in its place, and what is then wrong

@@ -5,8 +5,8 @@ import unittest
 
 from support import SMALL, OfficeTest
 
-from office.label_files import read_date, read_labels, read_minute
-from office.labels import Labels
+from office.data.label_files import read_date, read_labels, read_minute
+from office.data.labels import Labels
 from office.refused import Refused
 
 NAMES = """kind,code,name,short name

@@ -14,10 +14,10 @@ from plain_instance import instance_of
 from support import HERE, PATIENCE, SMALL, SMALL_SOL, wait_until
 from test_weeks import LABELS, TERM, Weeks, small_times
 
-from office.changes import by_view, changes_between
-from office.instance import read_instance
-from office.site import file_name
-from office.timetable import Lecture
+from office.data.changed_weeks import by_view, changes_between
+from office.data.site import file_name
+from office.day.instance import read_instance
+from office.day.lecture import Lecture
 
 MOVED = "Geometrie für Anfänger (geo): Thu 12:15, Hall 2, left (A) -> Thu 10:15, Hall 2, left (A)"
 # publishes with a stop before so many files are written

@@ -11,12 +11,12 @@ from browser import Pages, read_calendar, with_browser, with_reader
 from plain_instance import instance_of, lectures_of
 from support import PROGRAM, SMALL, SMALL_SOL, SPRING, SPRING_SOL, OfficeTest, said
 
-from office.board import Board
-from office.folder import Day
-from office.ics import folded
+from office.data.calendars import folded
+from office.data.time_zones import changes, check_zone, offsets
+from office.day.folder import Day
 from office.refused import Refused
-from office.week import View
-from office.zones import changes, check_zone, offsets
+from office.terminal.board import Board
+from office.work.week import View
 
 LABELS = """kind,code,name
 course,alg,"Linear Algebra; or, \\ a course"

@@ -18,9 +18,9 @@ from served import (
     wait_until,
 )
 
-from office.keys import ACTIONS, ANSWERS
-from office.web.actions import BUTTONS, ELSEWHERE, button, key_table, keys_of
-from office.web.verbs import Turn
+from office.web.action_names import BUTTONS, ELSEWHERE, button, key_table, keys_of
+from office.web.verbs import WindowTurn
+from office.words.actions import ACTIONS, ANSWERS
 
 ACTS = os.path.join(HERE, "tools/office/web/static/acts.js")
 # what the page calls by a button, as the screen has it by the same key twice
@@ -54,7 +54,7 @@ class Tables(unittest.TestCase):
     def test_each_action_is_done(self):
         """By the page, or by what the page asks."""
         page = done_by_the_page() - BY_BUTTON
-        asked = set(Turn(mock.MagicMock(), mock.MagicMock()).acts())
+        asked = set(WindowTurn(mock.MagicMock(), mock.MagicMock()).acts())
         self.assertEqual(page & asked, set())
         self.assertEqual(page | asked, {action.name for action in ACTIONS} - set(ELSEWHERE))
 

@@ -9,7 +9,8 @@ import unittest
 from served import HERE
 
 STATIC = os.path.join(HERE, "tools/office/web/static")
-PACKAGE = os.path.join(HERE, "tools/office/web")
+PACKAGE = os.path.join(HERE, "tools/office")
+FOLDERS = ("", "day", "seat", "work", "words", "terminal", "past", "data", "web")
 TOOLS = os.path.join(HERE, "tools")
 
 
@@ -28,7 +29,7 @@ class Files(unittest.TestCase):
             (STATIC, ".js", 250),
             (STATIC, ".css", 350),
             (STATIC, ".html", 350),
-            (PACKAGE, ".py", 350),
+            *((os.path.join(PACKAGE, folder), ".py", 350) for folder in FOLDERS),
         ):
             found = self.files(folder, ending)
             self.assertTrue(found)
@@ -39,6 +40,18 @@ class Files(unittest.TestCase):
                     self.assertLessEqual(len(line), 100, f"{path}:{number}")
                     self.assertEqual(line, line.rstrip(), f"{path}:{number}")
                     self.assertNotIn("\t", line)
+
+    def test_folders(self):
+        """The package has these folders, and no two of its modules have one name."""
+        found = [name for name in os.listdir(PACKAGE) if os.path.isdir(os.path.join(PACKAGE, name))]
+        self.assertEqual({"", *found} - {"__pycache__"}, set(FOLDERS))
+        names = [
+            name
+            for _, _, files in os.walk(PACKAGE)
+            for name in files
+            if name.endswith(".py") and name != "__init__.py"
+        ]
+        self.assertEqual(len(names), len(set(names)))
 
     def test_nothing_from_elsewhere(self):
         """No address of another host, no text set as markup, no script or style inside a page."""
@@ -71,7 +84,7 @@ class Files(unittest.TestCase):
     def test_checked(self):
         """Names, forms and spaces, as eslint.json has them. Debian's modules may be none of this
         node's."""
-        words = ["eslint", "--no-eslintrc", "-c", os.path.join(PACKAGE, "eslint.json")]
+        words = ["eslint", "--no-eslintrc", "-c", os.path.join(PACKAGE, "web/eslint.json")]
         done = subprocess.run(
             [*words, "-f", "unix", *self.files(STATIC, ".js")],
             capture_output=True,
@@ -84,7 +97,9 @@ class Files(unittest.TestCase):
     def test_typed(self):
         """Each function of the office and of these tools has types, and they hold, in the oldest
         Python that runs it."""
-        words = ["mypy", "--strict", "--python-version", "3.8", "--cache-dir", os.devnull]
-        words += ["-p", "office", "-m", "flags", "-m", "strip_checks"]
+        words = ["mypy", "--strict", "--python-version", "3.9", "--cache-dir", os.devnull]
+        words += ["-p", "office", "-p", "edits"]
+        for name in ("flags", "strip_checks", "gate"):
+            words += ["-m", name]
         done = subprocess.run(words, capture_output=True, text=True, cwd=TOOLS)
         self.assertEqual(done.returncode, 0, done.stdout + done.stderr)

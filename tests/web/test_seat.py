@@ -15,8 +15,8 @@ from served import (
     wait_until,
 )
 
-from office.commit_notes import CommitNote, keep_commit_note
-from office.folder import Day
+from office.day.commit_notes import CommitNote, keep_commit_note
+from office.day.folder import Day
 
 # a lecture of c0109, where it is cheapest, and what ben does with it
 FROM, BEST = (4, 1), (4, 3)

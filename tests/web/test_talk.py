@@ -15,8 +15,8 @@ from served import (
     wait_until,
 )
 
-from office.commit_notes import CommitNote, keep_commit_note
-from office.folder import Day
+from office.day.commit_notes import CommitNote, keep_commit_note
+from office.day.folder import Day
 
 FROM, BEST = (4, 1), (4, 3)
 SEEN = {"course": "c0109", "room": "r01", "at": FROM}

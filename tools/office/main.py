@@ -7,10 +7,10 @@ import sys
 from typing import Optional
 
 from office.arguments import Commands, add_command, planner
-from office.block_words import add_blocks
-from office.data import add_data
-from office.folder import Day
-from office.past import add_past
+from office.commands_blocking import add_blocks
+from office.commands_data import add_data
+from office.commands_past import add_past
+from office.day.folder import Day
 from office.refused import MACHINE, Refused
 from office.web.launch import add_places, serve, web_of
 
@@ -68,7 +68,8 @@ def add_web(commands: Commands) -> None:
     add_places(one)
     key = "make a new key for a seat, or for `reader`; the old link ends"
     one.add_argument("--new-key", metavar="SEAT", help=key)
-    one.add_argument("--links", action="store_true", help="print the links of seats that are served")
+    links = "print the links of seats that are served"
+    one.add_argument("--links", action="store_true", help=links)
 
 
 def add_others(commands: Commands) -> None:
@@ -112,8 +113,8 @@ def names_day_alone(words: argparse.Namespace) -> bool:
 
 
 def open_by(words: argparse.Namespace, top: argparse.ArgumentParser) -> int:
-    from office.imported import take_imported
-    from office.opening import Plan, open_day, plan_after
+    from office.data.imported import take_imported
+    from office.day.opening import Plan, open_day, plan_after
 
     take_imported(words)
     day = Day(words.day)
@@ -129,7 +130,7 @@ def open_by(words: argparse.Namespace, top: argparse.ArgumentParser) -> int:
         plan.labels, plan.web = words.labels or plan.labels, web_of(day, words)
         return open_day(plan, words.unproved)
     if day.is_there() and names_day_alone(words):
-        from office.reopening import reopen_day
+        from office.day.reopening import reopen_day
 
         return reopen_day(day, web_of(day, words))
     if (
@@ -156,16 +157,16 @@ def do(words: argparse.Namespace, top: argparse.ArgumentParser) -> int:
         return done
     day = Day(words.day)
     if words.command == "sit":
-        from office.sitting import sit_down
+        from office.terminal.sitting import sit_down
 
         return sit_down(day, words.planner, words.name, words.plain)
     if words.command == "web":
         return serve(day, words)
     if words.command == "status":
-        from office.status import print_status
+        from office.day.status import print_status
 
         return print_status(day)
-    from office.closing import close_day
+    from office.day.closing import close_day
 
     return close_day(day, words.wait)
 

@@ -1,16 +1,16 @@
 """What is said alike at each seat: the words, the colours of courses, and what has a name."""
 from __future__ import annotations
 
-from typing import Any, Dict, Iterable, Sequence
+from typing import Any, Iterable, Sequence
 
-from office.instance import Instance
-from office.shifts import Shift
-from office.text import counted, shown
-from office.timetable import Lecture
-from office.week import View, courses_of_view
-from office.wording import Wording
+from office.day.instance import Instance
+from office.day.lecture import Lecture
+from office.day.shifts import Shift
+from office.words.text import counted, shown
+from office.words.wording import Wording
+from office.work.week import View, courses_of_view
 
-Data = Dict[str, Any]
+Data = dict[str, Any]
 # what is said with a sign: a price, and those of the parts
 PRICES = ("price", "parts")
 # hues that are told apart, in an order in which the first few lie far from each other
@@ -34,10 +34,10 @@ class PageWording(Wording):
         return super().shifts(shifts).replace(" -> ", " → ").replace(" <-> ", " ⇄ ")
 
 
-def hues_of(instance: Instance) -> Dict[str, int]:
+def hues_of(instance: Instance) -> dict[str, int]:
     """A hue for each course, one that as few as can be of its teacher's and curricula's others
     have, so that the cards of a week differ."""
-    hues: Dict[str, int] = {}
+    hues: dict[str, int] = {}
     used = [0] * len(HUES)
     for name in instance.courses:
         near = [hues[mate] for mate in instance.mates[name] if mate in hues]
@@ -58,7 +58,7 @@ class Frame:
         """Days, periods, slots and names, with which a window begins."""
         instance, wording = self.instance, self.wording
         days, periods = range(instance.days), range(instance.periods)
-        named: Dict[str, Iterable[str]] = {
+        named: dict[str, Iterable[str]] = {
             "curriculum": instance.curricula,
             "teacher": instance.teachers,
             "room": instance.rooms,

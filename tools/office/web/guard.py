@@ -4,10 +4,10 @@ from __future__ import annotations
 
 import hmac
 import re
-from typing import Dict, List, NamedTuple, Optional, Set
+from typing import NamedTuple, Optional
 
 from office.refused import Refused
-from office.web.keys import READER, Keys
+from office.web.seat_keys import READER, Keys
 
 # scripts, styles and pictures come from here alone, nothing is inline, nothing frames the page
 POLICY = (
@@ -46,14 +46,14 @@ class Head(NamedTuple):
     method: str
     path: str
     query: str
-    fields: Dict[str, List[str]]
+    fields: dict[str, list[str]]
 
     def get(self, name: str) -> Optional[str]:
         values = self.fields.get(name.lower())
         return values[0] if values else None
 
 
-def read_logins(path: str, known: Set[str]) -> Dict[str, str]:
+def read_logins(path: str, known: set[str]) -> dict[str, str]:
     """Whose login is which seat."""
     try:
         with open(path, encoding="utf-8") as file:
@@ -75,11 +75,11 @@ def read_logins(path: str, known: Set[str]) -> Dict[str, str]:
 class Guard:
     """Refuses who has neither key nor login, and whoever was led here by another page."""
 
-    def __init__(self, keys: Keys, hosts: Set[str]) -> None:
+    def __init__(self, keys: Keys, hosts: set[str]) -> None:
         self.keys, self.hosts = keys, {host.lower() for host in hosts}
         # where the proxy says who has logged in, and whose login is which seat
         self.login_header: Optional[str] = None
-        self.logins: Dict[str, str] = {}
+        self.logins: dict[str, str] = {}
 
     def check_form(self, head: Head) -> None:
         """What is not plainly a request of the page is refused."""
@@ -100,7 +100,7 @@ class Guard:
         """A name that somebody else has led to this address is none of ours."""
         host = (head.get("Host") or "").lower()
         if not LOOPBACK.match(host) and host not in self.hosts:
-            raise Fault(421, "this is no name of this office")
+            raise Fault(421, "unknown host name")
 
     def check_origin(self, head: Head) -> None:
         """A browser says which page asks: it has to be ours. That the key has a header of its own,

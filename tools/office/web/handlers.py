@@ -5,7 +5,7 @@ import asyncio
 import json
 import sys
 import traceback
-from typing import TYPE_CHECKING, Any, Dict, List, Optional
+from typing import Any, Optional, TYPE_CHECKING
 
 import tornado.iostream
 import tornado.web
@@ -20,11 +20,11 @@ if TYPE_CHECKING:
 # seconds between two signs of life, and that one who listens may take to hear something
 ALIVE, TAKES = 15.0, 20.0
 WINDOW = "X-Window"
-Data = Dict[str, Any]
+Data = dict[str, Any]
 
 
 def head_of(request: httputil.HTTPServerRequest) -> Head:
-    fields: Dict[str, List[str]] = {}
+    fields: dict[str, list[str]] = {}
     for name, value in request.headers.get_all():
         fields.setdefault(name.lower(), []).append(value)
     return Head(request.method or "", request.path, request.query, fields)
@@ -87,7 +87,7 @@ class Missing(Handler):
         raise Fault(404, "nothing is here")
 
 
-class Page(Handler):
+class PageFile(Handler):
     """A file of the page. It has nothing of the day."""
 
     def get(self, path: str) -> None:
@@ -99,7 +99,7 @@ class Page(Handler):
     head = get
 
 
-class Asking(Handler):
+class Keyed(Handler):
     """A request of somebody who has a key."""
 
     def check(self) -> None:
@@ -116,7 +116,7 @@ class Asking(Handler):
         return name
 
 
-class Verb(Asking):
+class Verb(Keyed):
     """Something is asked, or done."""
 
     def check(self) -> None:
@@ -146,7 +146,7 @@ class Verb(Asking):
         return found
 
 
-class News(Asking):
+class NewsStream(Keyed):
     """What changes, a line of JSON each, as long as the window listens."""
 
     listened: Optional[Window] = None
@@ -188,14 +188,14 @@ class News(Asking):
             self.listened.end()
 
 
-def routes(office: Office) -> List[Any]:
+def routes(office: Office) -> list[Any]:
     """Which handler has which path."""
     own = {"office": office}
     pages = "|".join(sorted(map(_escaped, office.pages), reverse=True))
     return [
-        (r"/api/news", News, own),
+        (r"/api/news", NewsStream, own),
         (r"/api/([a-z_]{1,20})", Verb, own),
-        (f"({pages})", Page, own),
+        (f"({pages})", PageFile, own),
     ]
 
 

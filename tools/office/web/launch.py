@@ -6,10 +6,10 @@ import os
 import re
 import subprocess
 import sys
-from typing import List, NamedTuple, Optional
+from typing import NamedTuple, Optional
 
-from office.folder import Day
-from office.program import HERE
+from office.day.folder import Day
+from office.day.program import HERE
 from office.refused import WORDS, Refused
 
 # set where the Python was chosen for its tornado, and by who wants a certain one
@@ -64,7 +64,7 @@ def places_of(words: argparse.Namespace) -> Served:
     return Served(words.socket, words.port, words.url, words.login_header, words.logins)
 
 
-def words_of_places(served: Served) -> List[str]:
+def words_of_places(served: Served) -> list[str]:
     """The words that say the same again."""
     found = []
     for name, value in zip(("socket", "port", "url", "login-header", "logins"), served):
@@ -85,12 +85,12 @@ def find_python() -> str:
     raise Refused(LACKING)
 
 
-def server_words(day: Day, served: Served) -> List[str]:
+def server_words(day: Day, served: Served) -> list[str]:
     """The command that serves the seats."""
     return [find_python(), os.path.join(HERE, "office"), "web", day.path, *words_of_places(served)]
 
 
-def web_of(day: Day, words: argparse.Namespace) -> List[str]:
+def web_of(day: Day, words: argparse.Namespace) -> list[str]:
     """The command that serves the seats of a day beside its office; none if it is not wanted."""
     served = places_of(words)
     if words.web:
@@ -102,7 +102,7 @@ def web_of(day: Day, words: argparse.Namespace) -> List[str]:
 
 def serve(day: Day, words: argparse.Namespace) -> int:
     """Does `office web`."""
-    from office.web.keys import make_key, print_links
+    from office.web.seat_keys import make_key, print_links
 
     day.facts()
     served = places_of(words)

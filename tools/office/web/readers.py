@@ -3,20 +3,20 @@ from __future__ import annotations
 
 import contextlib
 import copy
-from typing import Any, Dict, Optional
+from typing import Any, Optional
 
-from office.folder import Day
-from office.parts import DayMinutes
-from office.timetable import Timetable
+from office.day.folder import Day
+from office.day.parts import DayMinutes
+from office.day.timetable import Timetable
 from office.web.frame import Frame
 from office.web.guard import Fault
-from office.web.verbs import Told
+from office.web.verbs import Request
 from office.web.windows import Window, Windows
-from office.week import View, all_views, blocked_at, by_slot, of_view
+from office.work.week import View, all_views, blocked_at, by_slot, of_view
 
 # so many may read at once
 MOST = 200
-Data = Dict[str, Any]
+Data = dict[str, Any]
 
 
 class Readers:
@@ -46,7 +46,7 @@ class Readers:
             is_last = self.minutes.part.is_last()
             entries = self.minutes.read_on()
             for entry in entries:
-                for edit in entry.edits():
+                for edit in entry.edits:
                     self.timetable.make(edit)
             is_new = is_new or bool(entries) or not is_last
             if is_last:
@@ -55,7 +55,7 @@ class Readers:
             self._begin()
 
     async def answer(self, window: Window, verb: str, data: Data) -> Data:
-        told = Told(self.instance, data)
+        told = Request(self.instance, data)
         if verb not in ("hello", "show"):
             raise Fault(403, "who reads changes nothing")
         if verb == "show":

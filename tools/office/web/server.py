@@ -9,26 +9,26 @@ import signal
 import socket as sockets
 import time
 from collections import OrderedDict
-from typing import Any, Dict, List, Optional, Set
+from typing import Any, Optional
 
 import tornado.httpserver
 import tornado.netutil
 from tornado import httputil
 from tornado.iostream import IOStream
 
-from office.at import instance_of
-from office.folder import Day
-from office.label_files import Watched
+from office.data.label_files import Watched
+from office.day.folder import Day
+from office.day.parts import instance_of
 from office.refused import Refused
-from office.web.actions import KeyNames
+from office.web.action_names import BrowserKeyNames
 from office.web.frame import Frame, PageWording, isolated
 from office.web.guard import BODY, HEAD, Guard, read_logins
 from office.web.handlers import application
-from office.web.keys import READER, file_of, links_of, lock_server, read_keys
 from office.web.launch import Served
-from office.web.pages import read_pages
 from office.web.readers import Readers
+from office.web.seat_keys import READER, file_of, links_of, lock_server, read_keys
 from office.web.sitter import Sitter
+from office.web.static_files import read_pages
 from office.web.windows import Window
 
 # seconds in which a head and a body have to come, and between two looks for news
@@ -39,7 +39,7 @@ STRANGERS, FILES = 500, 4096
 LONGEST_PATH = 107
 # how long the windows have to hear that all is over
 FAREWELL = 0.3
-Data = Dict[str, Any]
+Data = dict[str, Any]
 
 
 class Connections:
@@ -79,13 +79,13 @@ class Office:
         self.connections = Connections()
         self.labels = Watched(day.path)
         self.frame = frame = Frame(
-            instance_of(day), PageWording(KeyNames(), self.labels.labels, isolated)
+            instance_of(day), PageWording(BrowserKeyNames(), self.labels.labels, isolated)
         )
         self.readers = Readers(day, frame)
         self.sitters = [Sitter(day, planner, frame) for planner in range(day.facts()["planners"])]
         self.keys_at = self.stat_keys()
         self.closes: Optional[float] = None
-        self.people: List[Data] = []
+        self.people: list[Data] = []
 
     def place(self, who: str) -> Any:
         return self.readers if who == READER else self.sitters[int(who)]
@@ -133,7 +133,7 @@ class Office:
         for sitter in self.sitters:
             await sitter.leave()
 
-    def places(self) -> List[Any]:
+    def places(self) -> list[Any]:
         return [*self.sitters, self.readers]
 
     def is_over(self) -> bool:
@@ -150,7 +150,7 @@ class Office:
             for sitter in self.sitters:
                 sitter.tell({"people": people})
 
-    def who_sits(self) -> List[Data]:
+    def who_sits(self) -> list[Data]:
         return [one for one in (sitter.person() for sitter in self.sitters) if one]
 
     def tell_closing(self) -> None:
@@ -186,7 +186,7 @@ class Office:
                 self.place(name).windows.end_all()
 
 
-def hosts_of(url: Optional[str]) -> Set[str]:
+def hosts_of(url: Optional[str]) -> set[str]:
     return {url.split("//", 1)[1].split("/", 1)[0]} if url else set()
 
 

@@ -6,26 +6,27 @@ import asyncio
 import contextlib
 from concurrent.futures import ThreadPoolExecutor
 from functools import partial
-from typing import Any, Callable, Dict, List, Optional
+from typing import Any, Callable, Optional
 
-from office.costs import COSTS
-from office.folder import Day, is_locked
-from office.notice import NOTHING, Question, say
-from office.planning import Planning
-from office.print_week import page_of
+from office.day.costs import COSTS, MEANINGS
+from office.day.edits import Edit
+from office.day.folder import Day, is_locked
 from office.refused import Refused
-from office.seat import DEAD, DeskEnded, NoAnswer, Seat, read_sitter
-from office.stepping import waiting_told
-from office.web.actions import key_table
-from office.web.answers import Picture
-from office.web.asking import WHY, Shown
+from office.seat.seat import DEAD, DeskEnded, NoAnswer, Seat, read_sitter
+from office.web.action_names import key_table
 from office.web.frame import Frame
 from office.web.guard import Fault
-from office.web.heard import Heard, last_news
-from office.web.telling import notice_data, question_data
-from office.web.verbs import CHANGES, VERBS, Told, Turn, hold_again
+from office.web.messages import notice_data, question_data
+from office.web.news_sent import Heard, last_news
+from office.web.picture import Picture
+from office.web.questions import WHY, Shown
+from office.web.verbs import CHANGES, VERBS, Request, WindowTurn, hold_again
 from office.web.windows import Window, Windows
-from office.work import Work
+from office.words.notice import NOTHING, Question, say
+from office.work.part_stepping import waiting_notice
+from office.work.planning import Planning
+from office.work.week_printing import page_of
+from office.work.work import Work
 
 # so many requests of a seat may wait for their turn; a seat without a window is left after so many
 # seconds; letters of a name
@@ -38,7 +39,7 @@ FAREWELL = (
     "The office has closed: what you have committed is on the disk, and open edits are offered "
     "again on the next day."
 )
-Data = Dict[str, Any]
+Data = dict[str, Any]
 
 
 class Sitter:
@@ -52,7 +53,7 @@ class Sitter:
         # what is asked of who has sat down, until it is answered in one of his windows
         self.first: Optional[Question] = None
         # by how much each edit of the draft has changed the cost when it was made
-        self.prices: Dict[str, int] = {}
+        self.prices: dict[Edit, int] = {}
         self._waiting = 0
         # whether the windows were told that the desk does not answer
         self._is_slow = False
@@ -115,7 +116,7 @@ class Sitter:
 
     def _hello(self, window: Window, data: Data) -> Data:
         """Sits down, if nobody does yet, and tells all with which a window begins."""
-        told = Told(self.frame.instance, data)
+        told = Request(self.frame.instance, data)
         if self.planning is None:
             last = self.name or read_sitter(self.day, self.planner)[0]
             name = told.text("login", NAME) or told.text("name", NAME)
@@ -136,6 +137,7 @@ class Sitter:
             "name": self.frame.wording.safe(planning.seat.name),
             "keys": key_table(),
             "parts": COSTS,
+            "meanings": MEANINGS,
             "farewell": FAREWELL,
             **self.frame.told(),
             "news": last_news(planning, self.frame.wording),
@@ -160,7 +162,7 @@ class Sitter:
 
     def _tell_waiting(self, seat: Seat, seconds: float) -> None:
         """The windows are told that the desk does not answer; this runs in the seat's thread."""
-        told = self.frame.wording.notice(waiting_told(seat, seconds))
+        told = self.frame.wording.notice(waiting_notice(seat, seconds))
         self._is_slow = True
         self.loop.call_soon_threadsafe(self.tell, {"waits": told})
 
@@ -183,7 +185,7 @@ class Sitter:
         if self.planning is None:
             raise Fault(410, "this window is not known here: it begins anew")
         shown, planning = self._shown(window), self.planning
-        told = Told(self.frame.instance, data)
+        told = Request(self.frame.instance, data)
         picture = Picture(self.frame, shown.work, self.prices)
         if verb == "about":
             lecture = told.lecture()
@@ -192,7 +194,7 @@ class Sitter:
             return {"offers": picture.offers(told.slot("at"))}
         if verb == "print":
             return self._print(shown)
-        accepted, cost = len(planning.seat.story.accepted), sum(planning.costs().values())
+        accepted, cost = len(planning.seat.state.accepted), sum(planning.costs().values())
         planning.notice = planning.alarm = NOTHING
         self._act(shown, verb, told)
         if shown.work.is_done or self.begun.is_done:
@@ -205,7 +207,7 @@ class Sitter:
         }
         if verb in CHANGES:
             found["others"] = self._pictures(window)
-            found["committed"] = len(planning.seat.story.accepted) > accepted
+            found["committed"] = len(planning.seat.state.accepted) > accepted
         return found
 
     # from one part of the day to the next
@@ -238,7 +240,7 @@ class Sitter:
         told = notice_data(self.frame.wording, say("page made", path=page.name))
         return {"page": page._asdict(), "notice": told}
 
-    def _act(self, shown: Shown, verb: str, told: Told) -> None:
+    def _act(self, shown: Shown, verb: str, told: Request) -> None:
         """Does what is asked, and keeps what is to be asked then."""
         if self.first is not None and verb == "answer":
             self.first = None
@@ -253,7 +255,7 @@ class Sitter:
             return
         shown.ask(None)
         if verb != "close":
-            question = VERBS[verb](Turn(shown, told))
+            question = VERBS[verb](WindowTurn(shown, told))
             if question is not None:
                 shown.ask(question)
 
@@ -273,10 +275,10 @@ class Sitter:
             self.prices[planning.edits()[-1]] = found["price"]
         return found
 
-    def _others(self, but: Optional[Window] = None) -> List[Window]:
+    def _others(self, but: Optional[Window] = None) -> list[Window]:
         return [one for one in self.windows.all() if one is not but and one.is_listening]
 
-    def _pictures(self, but: Optional[Window] = None) -> List[Any]:
+    def _pictures(self, but: Optional[Window] = None) -> list[Any]:
         """What each other window draws now."""
         return [(one, {"picture": self._picture(self._shown(one))}) for one in self._others(but)]
 

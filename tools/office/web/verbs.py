@@ -2,25 +2,27 @@
 that it has seen; edits are made of them here, of known names and ranges alone."""
 from __future__ import annotations
 
-from typing import Any, Callable, Dict, List, Optional
+from typing import Any, Callable, Optional
 
-from office.carry import MOVE, PLACE, SWAP
-from office.instance import Instance
-from office.notice import Question, say
-from office.offers import Offer
-from office.timetable import Lecture, Slot
-from office.web.asking import Asking, Shown
+from office.day.instance import Instance
+from office.day.lecture import Lecture, Slot
+from office.seat.calls import Turn, read_call
 from office.web.guard import Fault
-from office.week import KINDS, View
+from office.web.questions import Asking, Shown
+from office.words.notice import Question, say
+from office.work.carry import MOVE, PLACE, SWAP
+from office.work.week import VIEW_KINDS, View
 
-Data = Dict[str, Any]
+Data = dict[str, Any]
+# what is picked up to be moved or to be swapped, by the word of the page
+PICKED = {kind.value: kind for kind in (MOVE, SWAP)}
 # letters of a line that is typed by hand
 LINE = 500
 # actions beside which a lecture may be held
 LOOKS = ("edits", "history", "pin", "who", "findings")
 
 
-class Told:
+class Request:
     """What a request says, of names and ranges that are known."""
 
     def __init__(self, instance: Instance, data: Data) -> None:
@@ -41,13 +43,13 @@ class Told:
 
     def view(self, name: str = "view") -> View:
         found, instance = self.data.get(name), self.instance
-        known: Dict[str, Any] = {
+        known: dict[str, Any] = {
             "curriculum": instance.curricula,
             "teacher": instance.teachers,
             "room": instance.rooms,
             "course": instance.courses,
         }
-        if not isinstance(found, list) or len(found) != 2 or found[0] not in KINDS:
+        if not isinstance(found, list) or len(found) != 2 or found[0] not in VIEW_KINDS:
             raise Fault(400, "whose week?")
         if not isinstance(found[1], str) or found[1] not in known[found[0]]:
             raise Fault(400, f"no {found[0]} of this name")
@@ -83,11 +85,11 @@ class Told:
         return Lecture(self.course(found.get("course")), room, *self._slot(found.get("at")))
 
 
-class Turn:
+class WindowTurn:
     """A request at the work of one window. Each act answers what is to be asked then, if anything
     is."""
 
-    def __init__(self, shown: Shown, told: Told) -> None:
+    def __init__(self, shown: Shown, told: Request) -> None:
         self.shown, self.work, self.told = shown, shown.work, told
 
     def show(self) -> None:
@@ -97,8 +99,8 @@ class Turn:
         self.work.show_next_week(self.told.lecture())
 
     def pick_up(self) -> Optional[Question]:
-        kind = self.told.data.get("kind")
-        if kind not in (MOVE, SWAP):
+        kind = PICKED.get(str(self.told.data.get("kind")))
+        if kind is None:
             raise Fault(400, "to move or to swap?")
         return self.work.pick_up(self.told.lecture(), kind)
 
@@ -127,7 +129,7 @@ class Turn:
         price, about = self.told.number("price"), self.told.data.get("about")
         seen = [one for one in carry.at(slot) if (one.price, one.about) == (price, about)]
         # one that was never offered is refused as one that is offered no more
-        return self.work.put_down(slot, seen[0] if seen else Offer(price, "", str(about)))
+        return self.work.put_down(slot, seen[0] if seen else None)
 
     def lay_down(self) -> None:
         self.work.lay_down()
@@ -148,15 +150,16 @@ class Turn:
         if not line:
             return None
         self.work.carry = None
-        if line == "leave":
+        call = read_call(line)
+        if call is Turn.LEAVE:
             self.work.leave()
-        elif line == "commit":
+        elif call is Turn.COMMIT:
             Asking(self.shown).show_box()
         else:
             return self.work.drafting.type_line(line)
         return None
 
-    def acts(self) -> Dict[str, Callable[[], Optional[Question]]]:
+    def acts(self) -> dict[str, Callable[[], Optional[Question]]]:
         """The actions that ask nothing but their name, and perhaps a lecture."""
         drafting, asking = self.work.drafting, Asking(self.shown)
         return {
@@ -191,19 +194,20 @@ def hold_again(shown: Shown, instance: Instance, held: Any) -> None:
     """What was held when the server was another one is held again."""
     if not isinstance(held, dict) or shown.work.carry is not None:
         return
-    told = Told(instance, {"lecture": held})
-    if held.get("kind") == PLACE:
+    told = Request(instance, {"lecture": held})
+    kind = PICKED.get(str(held.get("kind")))
+    if held.get("kind") == PLACE.value:
         shown.work.pick_up_missing(told.course(held.get("course")))
-    elif held.get("kind") in (MOVE, SWAP):
-        shown.work.pick_up(told.lecture(), held["kind"])
+    elif kind is not None:
+        shown.work.pick_up(told.lecture(), kind)
 
 
-VERBS: Dict[str, Callable[[Turn], Optional[Question]]] = {
-    name: getattr(Turn, name)
+VERBS: dict[str, Callable[[WindowTurn], Optional[Question]]] = {
+    name: getattr(WindowTurn, name)
     for name in (
         "show next_week pick_up pick_up_missing swap_instead move_instead put_down lay_down "
         "take_out best missing line act"
     ).split()
 }
 # after these the other windows of the seat may see something else
-CHANGES: List[str] = ["put_down", "take_out", "line", "act", "answer"]
+CHANGES: list[str] = ["put_down", "take_out", "line", "act", "answer"]

@@ -4,14 +4,14 @@ from __future__ import annotations
 import asyncio
 import time
 from collections import deque
-from typing import Any, Deque, Dict, List, Optional
+from typing import Any, Deque, Optional
 
 from office.web.guard import Fault
 
 # events that may wait for a window, windows of one seat, and the seconds after which one that
 # neither listens nor asks is forgotten
 WAIT, MOST, SILENT = 32, 4, 90.0
-Data = Dict[str, Any]
+Data = dict[str, Any]
 
 
 class Window:
@@ -65,7 +65,7 @@ class Windows:
 
     def __init__(self, most: int = MOST) -> None:
         self.most = most
-        self.by_name: Dict[str, Window] = {}
+        self.by_name: dict[str, Window] = {}
         self.gone_since = time.monotonic()
 
     def meet(self, name: str) -> Window:
@@ -113,7 +113,7 @@ class Windows:
             del self.by_name[window.name]
             self.gone_since = time.monotonic()
 
-    def all(self) -> List[Window]:
+    def all(self) -> list[Window]:
         return list(self.by_name.values())
 
     def end_all(self) -> None:

@@ -20,7 +20,7 @@ export function drawCosts({ picture, day }) {
   const parts = day.parts.map((part) =>
     el(
       "div",
-      { cls: "part" },
+      { cls: "part", title: day.meanings[part] },
       el("span", { cls: "label" }, part),
       el("span", { cls: "value" }, number(costs[part] ?? 0)),
       base ? delta((costs[part] ?? 0) - base[part]) : null

@@ -1,0 +1,70 @@
+"""The commands that take data in and out. Each takes in what it needs alone."""
+from __future__ import annotations
+
+import argparse
+
+from office.arguments import Commands, add_at, add_command
+from office.data.labels import KINDS
+from office.day.folder import Day
+
+FORMS = {
+    "html": "as a page for a browser, and for one sheet of A4",
+    "csv": "as a table for a spreadsheet",
+    "ics": "as a calendar: an event for each lecture in each week of the term",
+}
+
+
+def add_data(commands: Commands) -> None:
+    told = "make an instance, a start and labels of the tables of an office"
+    one = commands.add_parser(
+        "import", help=told, description=told[0].upper() + told[1:] + ".", allow_abbrev=False
+    )
+    one.add_argument("folder", metavar="FOLDER", help="the tables: courses.csv, rooms.csv ..")
+    add_output(one, "DIR")
+    one.set_defaults(do=do_import)
+    one = add_command(commands, "export", "write the tables of a day, with its timetable")
+    add_output(one, "FOLDER")
+    add_at(one)
+    one.set_defaults(do=do_export)
+    one = add_command(commands, "publish", "write the weeks of a day for a web server")
+    one.add_argument("folder", metavar="DIR", help="the folder, a link to its newest version")
+    follow = "again after each accepted draft, until the day is closed"
+    one.add_argument("--follow", action="store_true", help=follow)
+    told = "tell whose weeks have changed as JSON, one in a line"
+    one.add_argument("--json", action="store_true", help=told)
+    one.set_defaults(do=do_publish)
+
+
+def add_output(command: argparse.ArgumentParser, name: str) -> None:
+    told = "the folder that is made"
+    command.add_argument("-o", "--output", metavar=name, dest="into", required=True, help=told)
+
+
+def add_view(command: argparse.ArgumentParser) -> None:
+    """Adds whose week is meant, and the form in which it is told."""
+    kinds = command.add_mutually_exclusive_group()
+    for kind in KINDS:
+        told = f"the week of this {kind} alone, by its code or its name"
+        kinds.add_argument(f"--{kind}", metavar=kind.upper(), help=told)
+    forms = command.add_mutually_exclusive_group()
+    for form, told in FORMS.items():
+        forms.add_argument(f"--{form}", dest="form", action="store_const", const=form, help=told)
+    command.add_argument("--costs", action="store_true", help="with what lectures cost")
+
+
+def do_import(words: argparse.Namespace) -> int:
+    from office.data.importing import import_folder
+
+    return import_folder(words.folder, words.into, words.unproved)
+
+
+def do_export(words: argparse.Namespace) -> int:
+    from office.data.exporting import export_day
+
+    return export_day(Day(words.day), words.at, words.into)
+
+
+def do_publish(words: argparse.Namespace) -> int:
+    from office.data.publishing import publish
+
+    return publish(Day(words.day), words.folder, words.follow, words.json)

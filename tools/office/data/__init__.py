@@ -1,0 +1,1 @@
+"""What goes in and out of an office: tables, labels, pages, calendars, and what is published."""

@@ -1,0 +1,224 @@
+"""Readers of labels: a folder with `labels.csv`, `times.csv` and `term.csv`, each of which may be
+missing. A day has its own in its folder."""
+from __future__ import annotations
+
+import datetime
+import os
+import re
+from typing import Optional
+
+from office.data.labels import KINDS, PLAN, WEEKDAYS, Labels, Name, Term, Time
+from office.data.tables import Column, Faults, Row, read_table
+from office.day.lecture import Slot
+from office.refused import Refused
+
+FILES = ("labels.csv", "times.csv", "term.csv")
+# as many as the desk takes
+SLOTS = 2000
+
+LABELS_COLUMNS = (
+    Column("kind"),
+    Column("code"),
+    Column("name", is_needed=False),
+    Column("short name", ("short",), is_needed=False),
+)
+TIMES_COLUMNS = (
+    Column("day"),
+    Column("period"),
+    Column("weekday", is_needed=False),
+    Column("from", ("begins", "start"), is_needed=False),
+    Column("to", ("ends", "end"), is_needed=False),
+)
+TERM_COLUMNS = (
+    Column("what", ("kind",)),
+    Column("from", ("first", "first day")),
+    Column("to", ("last", "last day"), is_needed=False),
+    Column("name", is_needed=False),
+)
+
+
+def read_weekday(text: str) -> Optional[int]:
+    """The weekday of a name or of its first three letters."""
+    for number, weekday in enumerate(WEEKDAYS):
+        if text.lower() in (weekday.lower(), weekday[:3].lower()):
+            return number
+    return None
+
+
+def read_minute(text: str) -> Optional[int]:
+    """The minute of its day that a clock shows."""
+    found = re.fullmatch(r"(\d{1,2}):(\d\d)(?::00)?(?: ?([AaPp])\.?[Mm]\.?)?", text, re.ASCII)
+    if found is None:
+        return None
+    hour, minute, half = int(found[1]), int(found[2]), found[3]
+    if minute > 59 or not (1 <= hour <= 12 if half else hour <= 23):
+        return None
+    if half:
+        hour = hour % 12 + 12 * (half in "Pp")
+    return 60 * hour + minute
+
+
+def read_date(text: str) -> Optional[datetime.date]:
+    """A date as 2026-10-12 or as 12.10.2026; with slashes it could be either of two."""
+    found = re.fullmatch(r"(\d{4})-(\d{1,2})-(\d{1,2})", text, re.ASCII)
+    parts = found.groups() if found else ()
+    if not found:
+        found = re.fullmatch(r"(\d{1,2})\.(\d{1,2})\.(\d{4})", text, re.ASCII)
+        parts = found.groups()[::-1] if found else ()
+    try:
+        return datetime.date(*map(int, parts)) if parts else None
+    except ValueError:
+        return None
+
+
+def take_name(labels: Labels, row: Row) -> None:
+    """Takes up a row of labels.csv."""
+    kind, code = row.needed("kind").lower(), row.needed("code")
+    if not kind or not code:
+        return
+    if kind not in (*KINDS, PLAN):
+        row.fault(f"the kind is not {', '.join(KINDS)} or {PLAN}: {kind}")
+    elif " " in code:
+        row.fault(f"the code has a blank: {code}")
+    elif (kind, code) in labels.names:
+        row.fault(f"the {kind} {code} has a label already")
+    elif kind == PLAN and labels.title:
+        row.fault(f"there is an {PLAN} already")
+    else:
+        labels.names[kind, code] = Name(row["name"], row["short name"])
+        if kind == PLAN:
+            labels.title = row["name"] or code
+
+
+def take_weekday(labels: Labels, row: Row, day: int) -> None:
+    """Takes up the weekday of a row of times.csv: one for each day."""
+    weekday = read_weekday(row["weekday"])
+    if weekday is None:
+        row.fault(f"the weekday is not Mon to Sun: {row['weekday']}")
+    elif labels.weekdays.setdefault(day, weekday) != weekday:
+        row.fault(f"day {day + 1} was {labels.day(day)} before, and is {row['weekday']} here")
+    elif list(labels.weekdays.values()).count(weekday) > 1:
+        row.fault(f"two days are {labels.day(day)}")
+
+
+def take_time(labels: Labels, row: Row, slot: Slot) -> None:
+    """Takes up from when to when a slot is, by a row of times.csv."""
+    begins, ends = read_minute(row.needed("from")), read_minute(row.needed("to"))
+    for column, minute in (("from", begins), ("to", ends)):
+        if row[column] and minute is None:
+            row.fault(f"{column}: {row[column]} is no time as 10:15")
+    if begins is None or ends is None:
+        return
+    if begins >= ends:
+        row.fault(f"it ends at {row['to']}, and does not begin before that")
+    labels.times[slot] = Time(begins, ends)
+
+
+def take_slots(labels: Labels, rows: list[Row]) -> list[Slot]:
+    """Takes up times.csv: its slots, in the order of its rows."""
+    slots: dict[Slot, int] = {}
+    for row in rows:
+        day, period = row.count("day", 1, SLOTS), row.count("period", 1, SLOTS)
+        if day is None or period is None:
+            continue
+        slot = day - 1, period - 1
+        if slot in slots:
+            row.fault(f"day {day}, period {period} stands in row {slots[slot]} already")
+            continue
+        slots[slot] = row.number
+        if row["weekday"]:
+            take_weekday(labels, row, slot[0])
+        if row["from"] or row["to"]:
+            take_time(labels, row, slot)
+    for slot, number in slots.items():
+        before = labels.times.get((slot[0], slot[1] - 1))
+        if slot in labels.times and before and before.ends > labels.times[slot].begins:
+            rows[0].faults.add("times.csv", number, "it begins before the period before it ends")
+    return list(slots)
+
+
+def take_dates(labels: Labels, rows: list[Row]) -> None:
+    """Takes up term.csv."""
+    days_off: list[tuple[datetime.date, datetime.date]] = []
+    teaching: list[tuple[datetime.date, datetime.date, str]] = []
+    for row in rows:
+        what = row.needed("what").lower()
+        if what == "zone":
+            if labels.zone is not None:
+                row.fault("there is a zone already")
+            labels.zone = row.needed("name") or None
+        elif what in ("teaching", "off"):
+            ends = [read_date(row[column] or row["from"]) for column in ("from", "to")]
+            if row.needed("from") and None in ends:
+                row.fault("a date is not as 2026-10-12 or 12.10.2026")
+            first, last = ends
+            if first is None or last is None:
+                continue
+            if first > last:
+                row.fault("it ends before it begins")
+            if what == "off":
+                days_off.append((first, last))
+            elif teaching:
+                row.fault("teaching has a row already")
+            else:
+                teaching.append((first, last, row["name"]))
+        elif what:
+            row.fault(f"this is not teaching, off or zone: {what}")
+    for first, last, name in teaching:
+        labels.term = Term(first, last, days_off, name)
+
+
+def take_labels(folder: str, faults: Faults) -> tuple[Labels, list[Slot]]:
+    """The labels of a folder, and the slots that its times have."""
+    labels = Labels()
+    for row in read_table(folder, "labels.csv", LABELS_COLUMNS, faults) or []:
+        take_name(labels, row)
+    slots = take_slots(labels, read_table(folder, "times.csv", TIMES_COLUMNS, faults) or [])
+    take_dates(labels, read_table(folder, "term.csv", TERM_COLUMNS, faults) or [])
+    return labels, slots
+
+
+def has_labels(folder: str) -> bool:
+    return any(os.path.exists(os.path.join(folder, file)) for file in FILES)
+
+
+def stamps(folder: str) -> list[tuple[int, int, int]]:
+    """What tells whether the labels of a folder have changed."""
+    found = []
+    for file in FILES:
+        try:
+            told = os.stat(os.path.join(folder, file))
+        except OSError:
+            found.append((0, 0, 0))
+        else:
+            found.append((told.st_mtime_ns, told.st_ino, told.st_size))
+    return found
+
+
+class Watched:
+    """The labels of a day, as long as somebody looks at it: they are read again when one of their
+    files has changed. If something is wrong in them, those before stay."""
+
+    def __init__(self, folder: str) -> None:
+        self.folder, self._stamps = folder, stamps(folder)
+        self.labels = read_labels(folder)
+
+    def read_on(self) -> bool:
+        """Whether there are new labels."""
+        found = stamps(self.folder)
+        if found == self._stamps:
+            return False
+        self._stamps = found
+        try:
+            self.labels = read_labels(self.folder)
+        except Refused:
+            return False
+        return True
+
+
+def read_labels(folder: str) -> Labels:
+    """The labels of a folder, without any if it has none. All that is wrong in them is said."""
+    faults = Faults()
+    labels, _ = take_labels(folder, faults)
+    faults.refuse(f"the labels in {folder}")
+    return labels

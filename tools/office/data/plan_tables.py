@@ -1,0 +1,288 @@
+"""The tables of an office, read into an instance, a start and labels."""
+from __future__ import annotations
+
+import os
+from typing import Optional
+
+from office.data.codes import Codes, word_of
+from office.data.label_files import SLOTS, TIMES_COLUMNS, read_minute, read_weekday, take_labels
+from office.data.labels import KINDS, PLAN
+from office.data.start_faults import find_faults
+from office.data.tables import Column, Faults, Row, read_table
+from office.day.closure import BLOCKABLE as CLOSED, Closure, Scope
+from office.day.closures_file import blocked_now
+from office.day.instance import Course, Instance
+from office.day.lecture import Lecture, Slot
+from office.seat.seat import user_name
+
+CODE = Column("code", ("id",), is_needed=False)
+SHORT = Column("short name", ("short",), is_needed=False)
+DAY = Column("day", ("weekday",))
+PERIOD = Column("period", ("time", "from"), is_needed=False)
+COLUMNS = {
+    "courses.csv": (
+        CODE,
+        Column("name", ("course", "title"), is_needed=False),
+        SHORT,
+        Column("teacher", ("lecturer",)),
+        Column("lectures", ("lectures a week",)),
+        Column("minimum days", ("min days",), is_needed=False),
+        Column("students", ("size",)),
+    ),
+    "rooms.csv": (
+        CODE,
+        Column("name", ("room",), is_needed=False),
+        SHORT,
+        Column("seats", ("capacity",)),
+    ),
+    "curricula.csv": (
+        CODE,
+        Column("name", ("curriculum",), is_needed=False),
+        SHORT,
+        Column("course"),
+    ),
+    "unavailable.csv": (
+        Column("course", is_needed=False),
+        Column("teacher", ("lecturer",), is_needed=False),
+        DAY,
+        PERIOD,
+    ),
+    "barred.csv": (Column("course"), Column("room")),
+    "blocked.csv": (
+        Column("kind"),
+        *(Column(kind, is_needed=False) for kind in ("room", "teacher", "course")),
+        DAY,
+        PERIOD,
+        Column("why", ("reason",), is_needed=False),
+    ),
+    "lectures.csv": (Column("course"), Column("room"), DAY, PERIOD._replace(is_needed=True)),
+}
+NEEDED = ("courses.csv", "rooms.csv", "curricula.csv", "unavailable.csv")
+LIMITS = {"course": 2000, "room": 1000, "curriculum": 20_000}
+# how many lectures a course has whose number could not be read, so that nothing follows from it
+MANY = 1_000_000
+
+
+class Tables:
+    """A folder of tables as it is read; what is wrong is collected. Its lectures are tried at a
+    desk of the program."""
+
+    def __init__(self, folder: str, program: list[str]) -> None:
+        self.folder, self.program = folder, program
+        self.faults = Faults()
+        self.labels, slots = take_labels(folder, self.faults)
+        self.days = 1 + max((day for day, _ in slots), default=-1)
+        self.periods = 1 + max((period for _, period in slots), default=-1)
+        self.check_slots(slots)
+        self.codes = {kind: Codes(kind, self.labels) for kind in KINDS}
+        self.courses: dict[str, Course] = {}
+        self.rooms: dict[str, int] = {}
+        self.curricula: dict[str, list[str]] = {}
+        self.closed: dict[str, set[Slot]] = {}
+        self.barred: Optional[set[tuple[str, str]]] = None
+        # each with its row
+        self.closures: Optional[list[Closure]] = None
+        self.start: Optional[list[tuple[Row, Lecture]]] = None
+
+    def read(self) -> Instance:
+        """Reads all tables. What is wrong is refused at once."""
+        self.take_courses()
+        self.take_rooms()
+        self.take_curricula()
+        self.take_unavailable()
+        self.take_barred()
+        self.take_closures()
+        for kind, most in LIMITS.items():
+            if len(self.codes[kind].names) > most:
+                file = "curricula.csv" if kind == "curriculum" else f"{kind}s.csv"
+                self.faults.add(file, 0, f"more than {most} are too many")
+        plan = [code for kind, code in self.labels.names if kind == PLAN]
+        name = plan[0] if plan else word_of(os.path.basename(os.path.abspath(self.folder)), "plan")
+        instance = Instance(
+            name,
+            self.days,
+            self.periods,
+            self.courses,
+            self.rooms,
+            self.curricula,
+            self.closed,
+            self.barred or set(),
+        )
+        instance.block(self.closures or [])
+        self.take_lectures(instance)
+        self.faults.refuse(f"the tables in {self.folder}")
+        return instance
+
+    def rows(self, file: str) -> Optional[list[Row]]:
+        rows = read_table(self.folder, file, COLUMNS[file], self.faults)
+        if rows is None and file in NEEDED:
+            heads = ", ".join(column.name for column in COLUMNS[file])
+            self.faults.add(file, 0, f"the file is missing; its columns are {heads}")
+        return rows
+
+    def check_slots(self, slots: list[Slot]) -> None:
+        """The times have a row for each slot of each day, so that they say how many there are."""
+        there = set(slots)
+        if not os.path.exists(os.path.join(self.folder, "times.csv")):
+            heads = ", ".join(column.name for column in TIMES_COLUMNS)
+            told = f"the file is missing: a row for each slot, with the columns {heads}"
+            self.faults.add("times.csv", 0, told)
+        elif self.days * self.periods > SLOTS:
+            self.faults.add("times.csv", 0, f"more than {SLOTS} slots are too many")
+        elif "times.csv" not in self.faults.found:
+            slots = [(day, period) for day in range(self.days) for period in range(self.periods)]
+            lacking = [f"day {d + 1}, period {p + 1}" for d, p in slots if (d, p) not in there]
+            if lacking:
+                self.faults.add("times.csv", 0, f"no row for {'; '.join(lacking)}")
+
+    # what has codes
+
+    def coded(self, kind: str, file: str) -> list[tuple[Row, str]]:
+        """The rows of a table, each with the code of what it is about."""
+        codes, rows, found = self.codes[kind], self.rows(file) or [], []
+        codes.is_read = bool(rows) or file not in self.faults.found
+        codes.written.update(row["code"] for row in rows)
+        for row in rows:
+            if not row["code"] and not row["name"]:
+                row.fault("the name is empty, and the code too")
+                continue
+            code = codes.take(row, row["name"], row["code"], row["short name"])
+            if code is not None:
+                found.append((row, code))
+        return found
+
+    def once(self, kind: str, file: str) -> list[tuple[Row, str]]:
+        """The same where each code has one row."""
+        found, first = [], self.codes[kind].rows
+        for row, code in self.coded(kind, file):
+            if first[code] == row.number:
+                found.append((row, code))
+            else:
+                row.fault(f"the {kind} {row['name'] or code} stands in row {first[code]} already")
+        return found
+
+    def take_courses(self) -> None:
+        for row, code in self.once("course", "courses.csv"):
+            typed = row.needed("teacher")
+            teacher = self.codes["teacher"].take(row, typed) if typed else None
+            lectures, students = row.count("lectures"), row.count("students")
+            least = row.count("minimum days") if row["minimum days"] else 1
+            self.courses[code] = Course(
+                code,
+                # nobody else is called so
+                teacher or self.codes["teacher"].make(f"row-{row.number}"),
+                MANY if lectures is None else lectures,
+                least or 0,
+                students or 0,
+            )
+            self.closed[code] = set()
+        self.codes["teacher"].is_read = self.codes["course"].is_read
+
+    def take_rooms(self) -> None:
+        for row, code in self.once("room", "rooms.csv"):
+            self.rooms[code] = row.count("seats") or 0
+
+    def take_curricula(self) -> None:
+        """A row for each course of a curriculum; one without a course is that of an empty one."""
+        for row, code in self.coded("curriculum", "curricula.csv"):
+            members = self.curricula.setdefault(code, [])
+            course = self.codes["course"].find(row, "course") if row["course"] else None
+            if course is not None and course not in members:
+                members.append(course)
+
+    # slots
+
+    def day_of(self, row: Row) -> Optional[int]:
+        """The day of a cell with its number or its weekday; None is a fault."""
+        typed = row.needed("day")
+        weekday = read_weekday(typed)
+        named = [day for day, of_week in self.labels.weekdays.items() if of_week == weekday]
+        if named:
+            return named[0]
+        if "times.csv" in self.faults.found or not typed:
+            return None
+        if typed.isascii() and typed.isdigit() and 1 <= int(typed) <= self.days:
+            return int(typed) - 1
+        row.fault(f"the day is not 1 to {self.days}, nor a weekday of times.csv: {typed}")
+        return None
+
+    def periods_of(self, row: Row, day: int) -> list[int]:
+        """The periods of a cell with a number or a time, all of the day for an empty cell; none is
+        a fault."""
+        typed = row["period"]
+        if not typed:
+            return list(range(self.periods))
+        minute = read_minute(typed)
+        for (on, period), time in self.labels.times.items():
+            if on == day and time.begins == minute:
+                return [period]
+        if typed.isascii() and typed.isdigit() and 1 <= int(typed) <= self.periods:
+            return [int(typed) - 1]
+        if "times.csv" not in self.faults.found:
+            told = f"1 to {self.periods}, nor when one begins by times.csv"
+            row.fault(f"the period is not {told}: {typed}")
+        return []
+
+    def slots_of(self, row: Row) -> list[Slot]:
+        day = self.day_of(row)
+        return [] if day is None else [(day, period) for period in self.periods_of(row, day)]
+
+    # the other tables
+
+    def take_unavailable(self) -> None:
+        """Rows about a course, or about a teacher with all courses that he has."""
+        for row in self.rows("unavailable.csv") or []:
+            courses: list[str] = []
+            if bool(row["course"]) == bool(row["teacher"]):
+                row.fault("there is to be a course, or a teacher")
+            elif row["course"]:
+                course = self.codes["course"].find(row, "course")
+                courses = [] if course is None else [course]
+            else:
+                teacher = self.codes["teacher"].find(row, "teacher")
+                courses = [c.name for c in self.courses.values() if c.teacher == teacher]
+            slots = self.slots_of(row)
+            for course in courses:
+                self.closed.get(course, set()).update(slots)
+
+    def take_barred(self) -> None:
+        rows = self.rows("barred.csv")
+        if rows is None:
+            return
+        self.barred = set()
+        for row in rows:
+            course = self.codes["course"].find(row, "course")
+            room = self.codes["room"].find(row, "room")
+            if course is not None and room is not None:
+                self.barred.add((course, room))
+
+    def take_closures(self) -> None:
+        """Rows about a room, a teacher or a course that cannot be used on a day, or in a slot."""
+        rows = self.rows("blocked.csv")
+        if rows is None:
+            return
+        self.closures = []
+        for row in rows:
+            kind, name = row.needed("kind").lower(), None
+            if kind in CLOSED:
+                name = self.codes[kind].find(row, kind)
+            elif kind:
+                row.fault(f"the kind is not room, teacher or course: {kind}")
+            for slot in self.slots_of(row)[: None if row["period"] else 1]:
+                if name is not None:
+                    scope = Scope(kind, name, slot[0], slot[1] if row["period"] else None)
+                    self.closures.append(blocked_now(scope, user_name(), None, row["why"]))
+
+    def take_lectures(self, instance: Instance) -> None:
+        rows = self.rows("lectures.csv")
+        if rows is None:
+            return
+        self.start = []
+        for row in rows:
+            course = self.codes["course"].find(row, "course")
+            room = self.codes["room"].find(row, "room")
+            slots = self.slots_of(row) if row.needed("period") else []
+            if course in instance.courses and room in instance.rooms and slots:
+                self.start.append((row, Lecture(course, room, *slots[0])))
+        if self.start:
+            find_faults(self.program, instance, self.labels, self.start)

@@ -1,0 +1,191 @@
+"""`office publish`: the weeks of a day as a folder for a web server. The folder is a link to its
+newest version, so that readers see an old one or a new one and no mixture, whatever happens."""
+from __future__ import annotations
+
+import contextlib
+import datetime
+import json
+import os
+import shutil
+import sys
+import time
+from typing import NamedTuple, Optional
+
+from office.data.changed_weeks import by_view, changes_between
+from office.data.label_files import read_labels
+from office.data.site import Published, Site
+from office.day.folder import Day, lock
+from office.day.lecture import Lecture
+from office.day.parts import DayMinutes
+from office.day.shifts import Shift
+from office.past.timetable_at import read_at
+from office.refused import Refused
+from office.words.text import counted
+
+STATE = "published.json"
+# how many publishings are remembered
+REMEMBERED = 100
+# how many seconds `--follow` waits before it looks again
+PACE = 0.5
+# whose weeks are told of: a room and a course read no mail
+PEOPLE = ("teacher", "curriculum")
+
+
+class State(NamedTuple):
+    """What a publishing leaves to the next one."""
+
+    lectures: list[Lecture]
+    history: list[Published]
+
+
+def read_state(text: Optional[bytes]) -> Optional[State]:
+    if text is None:
+        return None
+    found = json.loads(text)
+    history = []
+    for one in found["history"]:
+        changes = [Shift(*(row and Lecture(*row) for row in pair)) for pair in one["changes"]]
+        history.append(Published(one["time"], changes))
+    return State([Lecture(*row) for row in found["lectures"]], history)
+
+
+def state_text(state: State) -> bytes:
+    history = [{"time": one.time, "changes": one.changes} for one in state.history]
+    return (json.dumps({"lectures": state.lectures, "history": history}) + "\n").encode()
+
+
+def without_stamps(text: bytes) -> bytes:
+    """A calendar without when it was made."""
+    return b"\n".join(line for line in text.split(b"\n") if not line.startswith(b"DTSTAMP:"))
+
+
+class Folder:
+    """A folder that is published: a link to its newest version, which stands beside it."""
+
+    def __init__(self, path: str) -> None:
+        self.path = os.path.abspath(path)
+        self.versions = os.path.join(
+            os.path.dirname(self.path), f".{os.path.basename(self.path)}.published"
+        )
+        if os.path.islink(self.path):
+            target = os.path.join(os.path.dirname(self.path), os.readlink(self.path))
+            if os.path.dirname(os.path.abspath(target)) != self.versions:
+                raise Refused(f"{path} is a link to elsewhere, and is not written over")
+        elif os.path.isdir(self.path) and not os.listdir(self.path):
+            os.rmdir(self.path)
+        elif os.path.exists(self.path):
+            raise Refused(f"{path} is there already, was not published, and is not written over")
+        os.makedirs(self.versions, exist_ok=True)
+        held = lock(os.path.join(self.versions, "lock"))
+        if held is None:
+            raise Refused(f"{path} is being published already")
+        self.held = held
+
+    def newest(self) -> int:
+        """The number of the version that is seen; 0 for none."""
+        return int(os.path.basename(os.readlink(self.path))) if os.path.islink(self.path) else 0
+
+    def version(self, number: int) -> str:
+        return os.path.join(self.versions, str(number))
+
+    def old(self, name: str) -> Optional[bytes]:
+        """What a file of the version that is seen has."""
+        try:
+            with open(os.path.join(self.path, name), "rb") as file:
+                return file.read()
+        except FileNotFoundError:
+            return None
+
+    def settled(self, files: dict[str, bytes]) -> dict[str, bytes]:
+        """The files, with the old calendar in place of one that says the same."""
+        found = dict(files)
+        for name, text in files.items():
+            old = self.old(name) if name.endswith(".ics") else None
+            if old is not None and without_stamps(old) == without_stamps(text):
+                found[name] = old
+        return found
+
+    def is_as(self, files: dict[str, bytes]) -> bool:
+        """Whether the version that is seen has these files and no others."""
+        there = {
+            os.path.relpath(os.path.join(folder, name), self.path)
+            for folder, _, names in os.walk(self.path)
+            for name in names
+        }
+        return there == set(files) and all(self.old(name) == files[name] for name in files)
+
+    def write(self, files: dict[str, bytes]) -> None:
+        """Makes a new version, and lets it be seen. A file that has not changed is the old one."""
+        number = self.newest() + 1
+        version = self.version(number)
+        shutil.rmtree(version, ignore_errors=True)
+        for folder in {os.path.dirname(name) for name in files}:
+            os.makedirs(os.path.join(version, folder), exist_ok=True)
+        for name, text in files.items():
+            new = os.path.join(version, name)
+            if self.old(name) == text:
+                with contextlib.suppress(OSError):
+                    os.link(os.path.join(self.path, name), new)
+                    continue
+            with open(new, "wb") as file:
+                file.write(text)
+                file.flush()
+                os.fsync(file.fileno())
+        link = f"{self.versions}/newest"
+        with contextlib.suppress(FileNotFoundError):
+            os.remove(link)
+        os.symlink(os.path.join(os.path.basename(self.versions), str(number)), link)
+        os.replace(link, self.path)
+        self.remove_but(number)
+
+    def remove_but(self, number: int) -> None:
+        """Removes old versions. The last one stays for those who are reading it."""
+        for name in os.listdir(self.versions):
+            if name.isdigit() and int(name) not in (number - 1, number):
+                shutil.rmtree(self.version(int(name)), ignore_errors=True)
+
+
+def publish_once(day: Day, folder: Folder, is_json: bool) -> None:
+    """Publishes the newest timetable of a day, and says whose weeks have changed."""
+    at, labels = read_at(day), read_labels(day.path)
+    now = datetime.datetime.now(datetime.timezone.utc)
+    state = read_state(folder.old(STATE))
+    changed = changes_between(state.lectures, at.lectures) if state else []
+    history = state.history if state else []
+    if changed or not history:
+        when = time.strftime("%Y-%m-%d %H:%M", time.localtime(now.timestamp()))
+        history = [*history, Published(when, changed)][-REMEMBERED:]
+    site = Site(at, labels, history, now)
+    files = site.files()
+    files[STATE] = state_text(State(at.lectures, history))
+    files = folder.settled(files)
+    for note in site.notes:
+        print("office:", note, file=sys.stderr)
+    if folder.is_as(files):
+        print("office: nothing has changed", file=sys.stderr)
+        return
+    differ = sum(folder.old(name) != files[name] for name in files)
+    folder.write(files)
+    told = f"{at.title()}: {counted(len(changed), 'lecture')} changed, {counted(differ, 'file')}"
+    print(f"office: {told} of {len(files)} written", file=sys.stderr, flush=True)
+    for view, shifts in sorted(by_view(at.instance, changed).items()):
+        if view.kind in PEOPLE:
+            person = site.person(view, shifts, files)
+            line = f"{site.wording.view(*view)}: {'; '.join(person['changes'])}"
+            print(json.dumps(person, ensure_ascii=False) if is_json else line, flush=True)
+
+
+def publish(day: Day, path: str, follows: bool, is_json: bool) -> int:
+    """Publishes a day; with `follows` again after each accepted draft, until the day is closed."""
+    day.facts()
+    folder = Folder(path)
+    minutes = DayMinutes(day)
+    while True:
+        is_open = follows and day.is_open()
+        minutes.read_to_end()
+        publish_once(day, folder, is_json)
+        if not is_open:
+            return 0
+        time.sleep(PACE)
+        while day.is_open() and not minutes.has_more():
+            time.sleep(PACE)

@@ -1,0 +1,141 @@
+"""The program `timedesk`, as an office runs it: for what a file has, and for what a day leaves."""
+from __future__ import annotations
+
+import contextlib
+import os
+import shutil
+import subprocess
+import sys
+import tempfile
+from typing import Any, Mapping, Optional, Sequence
+
+from office.day import processes
+from office.day.desk_words import decoded
+from office.day.file_faults import NO_NAMES, POINT, explained
+from office.day.folder import write_whole
+from office.day.parts import Part
+from office.day.processes import Signals
+from office.refused import MACHINE, Refused, Silent
+
+# the folder that has `timedesk` and `office`
+HERE = os.path.abspath(os.path.join(os.path.dirname(__file__), "../../.."))
+
+
+def program_words(unproved: bool) -> list[str]:
+    """The words that run the program: TIMEDESK names another one."""
+    named = os.environ.get("TIMEDESK")
+    if unproved:
+        return [os.path.join(HERE, "timedesk"), "--unproved"]
+    if not named:
+        return [os.path.join(HERE, "timedesk")]
+    found = shutil.which(named)
+    if found is None:
+        raise Refused(f"TIMEDESK: {named} is no program")
+    return [os.path.abspath(found)]
+
+
+def build_words(program: list[str]) -> list[str]:
+    """The words that build a program if need be, and run nothing; another one is asked for help."""
+    is_ours = program[0] == os.path.join(HERE, "timedesk")
+    return [*program, "--build" if is_ours else "--help"]
+
+
+def build(program: list[str]) -> None:
+    """Builds the program if need be. What that says of its time goes where the office's goes."""
+    words = build_words(program)
+    try:
+        done = subprocess.run(words, stdout=subprocess.DEVNULL, check=False)
+    except OSError as fault:
+        raise Refused(f"cannot run {words[0]}: {fault.strerror}") from None
+    if done.returncode != 0:
+        raise Refused("there is no program to read the plan with")
+
+
+def tell(said: bytes, names: Mapping[str, str] = NO_NAMES) -> None:
+    """Says what the program has said: why a file is refused, by its place in it."""
+    with contextlib.suppress(OSError):
+        sys.stderr.write(explained(decoded(said), names))
+        sys.stderr.flush()
+
+
+def output(words: list[str], quiet: bool = False, text: bytes = b"") -> tuple[int, bytes]:
+    """The status of a command of the program that reads files and this text, and what it prints.
+    What it says goes where the office's goes, or nowhere."""
+    try:
+        done = subprocess.run(
+            [*words, POINT],
+            input=text,
+            stdout=subprocess.PIPE,
+            stderr=subprocess.DEVNULL if quiet else subprocess.PIPE,
+            check=False,
+        )
+    except OSError as fault:
+        raise Refused(f"cannot run {words[0]}: {fault.strerror}") from None
+    tell(done.stderr or b"")
+    return done.returncode, done.stdout
+
+
+def run_on_files(
+    signals: Signals,
+    words: Sequence[str],
+    names: Mapping[str, str] = NO_NAMES,
+    stdout: Any = subprocess.DEVNULL,
+) -> int:
+    """The status of a command of the program that reads files. `names` has the names by which a
+    person knows those that are copies."""
+    with tempfile.TemporaryFile() as said:
+        try:
+            status = processes.run(signals, [*words, POINT], stdout, stderr=said)
+        except OSError as fault:
+            raise Refused(f"cannot run {words[0]}: {fault.strerror}") from None
+        said.seek(0)
+        tell(said.read(), names)
+    return status
+
+
+class Left:
+    """What the minutes of a part of a day leave: its journal, and the timetable after it."""
+
+    def __init__(self, part: Part, quiet: bool = False) -> None:
+        self.part, self.instance = part, part.day.instance
+        self.program: list[str] = part.day.facts()["program"]
+        self.quiet = quiet
+
+    def run(self, *words: str, text: bytes = b"") -> tuple[int, bytes]:
+        return output([*self.program, *words], self.quiet, text)
+
+    def write_journal(self, path: str) -> None:
+        minutes, sides = self.part.minutes, self.part.side_words()
+        status, text = self.run("journal", self.instance, minutes, *sides)
+        if status != 0:
+            raise Silent(status)
+        write_whole(path, text)
+
+    def audit(self, journal: str) -> tuple[int, str]:
+        """The status of the audit of a journal, and its line."""
+        status, text = self.run("audit", self.instance, journal, *self.part.start_words())
+        return status, text.decode().strip()
+
+    def list(self, journal: str) -> bytes:
+        """The timetable after a journal."""
+        status, text = self.run("list", self.instance, journal, *self.part.start_words())
+        if status != 0:
+            raise Silent(status)
+        return text
+
+    def mended(self, solution: bytes) -> bytes:
+        """What of a solution can stand under the rules of the part."""
+        status, text = self.run("mend", self.instance, "-", *self.part.side_words(), text=solution)
+        if status != 0:
+            raise Silent(status)
+        return text
+
+    def report(self, solution: Optional[str]) -> dict[str, str]:
+        """The report on a solution by the words in front of its lines; of an empty one if there is
+        none."""
+        words = ["check", self.instance, solution or os.devnull, *self.part.side_words()]
+        status, text = self.run(*words)
+        if status != 0:
+            raise Silent(status or MACHINE)
+        lines = (line.split(" ", 1) for line in text.decode().split("\n") if " " in line)
+        return {kind: told for kind, told in lines}

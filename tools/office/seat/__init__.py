@@ -1,0 +1,1 @@
+"""A planner's end of a seat: the pipes, the log, and what is known of the seat by it."""

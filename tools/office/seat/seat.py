@@ -1,0 +1,308 @@
+"""A planner's end of a seat: lines go to the desk, answers come back, and both are in the seat's
+log before they are shown."""
+from __future__ import annotations
+
+import contextlib
+import errno
+import getpass
+import os
+import select
+import time
+from typing import Callable, Optional, Union
+
+from office.day.desk_words import decoded, encoded, has_words
+from office.day.edits import Edit
+from office.day.folder import Day, lock, read_text
+from office.day.open_drafts import end_work
+from office.day.parts import last_part, read_parts
+from office.day.processes import now
+from office.refused import Refused
+from office.seat.answers import Answer, read_answer
+from office.seat.calls import Turn, read_call
+from office.seat.seat_log import SeatLog, read_past, settle
+
+
+class DeskEnded(Exception):
+    """The desk has ended, or the seat."""
+
+
+class Gone(Exception):
+    """The planner goes away, or the terminal is gone."""
+
+
+class NoAnswer(Exception):
+    """The desk has not answered in time."""
+
+
+DEAD_DESK = "the desk has ended; committed drafts are on the disk"
+DEAD = f"{DEAD_DESK}, and open edits are offered again after the next opening"
+# a desk that says nothing for so many seconds is not waited for; after the first ones it is said
+# how long it has been
+PATIENCE = 30.0
+SAID_AFTER = 1.0
+# how many seconds the last answers of a desk that ends are waited for, and how long it takes to
+# look again whether the next one is there
+LAST, AGAIN = 10.0, 0.05
+# no pipe
+CLOSED = -1
+
+
+def read_sitter(day: Day, planner: int) -> tuple[str, str]:
+    """Who sits at a seat, or sat there last, and since when."""
+    lines = read_text(day.sitter(planner)).split("\n")
+    return (lines[0], lines[1]) if len(lines) > 1 else ("", "")
+
+
+def user_name() -> str:
+    try:
+        return getpass.getuser()
+    except (KeyError, OSError):
+        return "somebody"
+
+
+def wait_for_desk(day: Day, waits: Callable[[float], None]) -> None:
+    """Waits as long as the office changes the rules, and tells `waits` how long it has been."""
+    begun = time.monotonic()
+    while day.is_changing():
+        time.sleep(AGAIN)
+        waited = time.monotonic() - begun
+        if waited >= SAID_AFTER:
+            waits(waited)
+
+
+def is_ready(end: int, sign: int, seconds: float) -> bool:
+    """Whether a pipe can be read or written within so many seconds. Unlike `select` it takes any
+    number of a descriptor, so that one process may sit at many seats."""
+    poll = select.poll()
+    poll.register(end, sign)
+    return bool(poll.poll(max(0.0, seconds) * 1000))
+
+
+class Seat:
+    """A seat at which somebody sits."""
+
+    def __init__(self, day: Day, planner: int, name: Optional[str]) -> None:
+        self.day, self.planner = day, planner
+        self.name = " ".join((name or user_name()).split())
+        self.facts = day.facts()
+        if not 0 <= planner < self.facts["planners"]:
+            raise Refused(f"no seat {planner} in {day.path}")
+        # is told how many seconds an answer has been waited for, and may raise `Gone`
+        self.waits: Callable[[float], None] = lambda seconds: None
+        wait_for_desk(day, self.waits)
+        if not day.is_ready():
+            why = "the office is not open yet in" if day.is_open() else "no office is open in"
+            raise Refused(f"{why} {day.path}")
+        self._lock = self._take_lock()
+        # the part of the day of which the desk answers here
+        self.part = last_part(day)
+        self._lines, self.answers = self._open_pipes()
+        self.log = SeatLog(day.log(planner))
+        # what the log said when this client had heard what was under way
+        self.past = past = read_past(day.log(planner))
+        self.state, self.waiting, self.offer = past.state, past.waiting, past.offer
+        # whether the last answer was as it had to be, by what was known
+        self.fits = True
+        # whose draft is here, if it is somebody else's
+        self.owner = past.owner() if past.owner() != self.name else ""
+        self._heard = b""
+        # the drafts that were accepted, and the lines that were sent, of which no answer was heard
+        # before the last part ended
+        self.settled: list[int] = []
+        self.unanswered: list[str] = []
+        if past.part != self.part.number:
+            self._begin_part()
+        self.log.noted(f"sits {self.name}")
+
+    def _take_lock(self) -> int:
+        path = self.day.sitter(self.planner)
+        try:
+            found = lock(path)
+        except OSError as fault:
+            raise Refused(f"cannot sit in {self.day.path}: {fault.strerror}") from None
+        if found is None:
+            name, since = read_sitter(self.day, self.planner)
+            raise Refused(f"{name or 'somebody'} sits at seat {self.planner}, since {since[11:16]}")
+        with contextlib.suppress(OSError):
+            os.fchmod(found, 0o660)
+        os.ftruncate(found, 0)
+        os.pwrite(found, f"{self.name}\n{now()}\n{os.getpid()}\n".encode(), 0)
+        return found
+
+    def _open_pipes(self) -> tuple[int, int]:
+        seat = self.day.seat(self.planner)
+        try:
+            lines = os.open(seat + ".in", os.O_WRONLY | os.O_NONBLOCK)
+            return lines, os.open(seat + ".out", os.O_RDONLY | os.O_NONBLOCK)
+        except OSError as fault:
+            if fault.errno in (errno.ENXIO, errno.ENOENT):
+                raise Refused(f"nobody answers at seat {self.planner}: it has ended") from None
+            raise Refused(f"cannot sit at seat {self.planner}: {fault.strerror}") from None
+
+    def go(self) -> None:
+        """Goes away: the desk goes on, and an open draft stays as it is."""
+        with contextlib.suppress(OSError):
+            self.log.noted("went away")
+        if not self.state.is_open:
+            end_work(self.day, self.planner)
+        for end in (self._lines, self.answers, self._lock):
+            if end != CLOSED:
+                os.close(end)
+        self.log.close()
+
+    # from one part of the day to the next
+
+    def is_over(self) -> bool:
+        """Whether the part of the day has ended, or is ending, whose desk answers here."""
+        return self.day.is_changing() or not self.part.is_last()
+
+    def leave_desk(self) -> list[str]:
+        """Leaves a desk that ends with its part of the day. What it has answered is heard, and
+        answered here."""
+        heard: list[str] = []
+        if self._lines != CLOSED:
+            os.close(self._lines)
+            self._lines = CLOSED
+        with contextlib.suppress(DeskEnded):
+            while self.answers != CLOSED:
+                answer = self.read(LAST)
+                if answer is None:
+                    break
+                heard.append(answer)
+                self.take(answer)
+        if self.answers != CLOSED:
+            os.close(self.answers)
+            self.answers = CLOSED
+        return heard
+
+    def enter(self) -> None:
+        """Sits down at the desk of the next part, when it is there. What was open at the last one
+        is kept."""
+        while True:
+            wait_for_desk(self.day, self.waits)
+            if not self.day.is_ready():
+                raise DeskEnded
+            self.part, self._heard = last_part(self.day), b""
+            try:
+                self._lines, self.answers = self._open_pipes()
+                break
+            except Refused:
+                if not self.day.is_changing():
+                    raise DeskEnded from None
+        self._begin_part()
+
+    def _begin_part(self) -> None:
+        """Notes that another part of the day has begun. A commit of which the answer was not heard
+        was accepted if the minutes have it."""
+        number, parts = self.part.number, read_parts(self.day)
+        before = [entry for part, entries in parts if part.number < number for entry in entries]
+        self.settled = settle(self.state, self.waiting, before, self.planner)
+        for accepted in self.settled:
+            self.log.noted(f"accepted {accepted}")
+        self.log.noted(f"part {number} {len(before)}", is_kept=True)
+        self.state.begin_part(len(before), self.waiting)
+        self.unanswered = list(self.waiting)
+        self.waiting.clear()
+        self.past = read_past(self.day.log(self.planner))
+
+    def made_again(self) -> None:
+        """Notes that all edits that the last part has left were made again or refused."""
+        self.log.noted("again", is_kept=True)
+        self.state.again = []
+
+    def take_over(self) -> None:
+        """Notes that who sits here now goes on with somebody else's draft."""
+        self.log.noted(f"takes over from {self.owner}")
+        self.owner = ""
+
+    def forget_ended(self) -> None:
+        """Notes that the edits of the last draft are given up."""
+        self.log.noted("forgets")
+        self.state.forget()
+
+    def send(self, line: str) -> None:
+        """Sends a line, which is in the log before."""
+        self.log.sent(line)
+        if has_words(encoded(line)):
+            self.waiting.append(line)
+        self._write(encoded(line) + b"\n")
+
+    def _write(self, rest: bytes) -> None:
+        try:
+            while rest:
+                if not self._wait(self._lines, select.POLLOUT, PATIENCE):
+                    raise NoAnswer
+                with contextlib.suppress(BlockingIOError):
+                    rest = rest[os.write(self._lines, rest) :]
+        except BrokenPipeError:
+            raise DeskEnded from None
+
+    def _wait(self, end: int, sign: int, seconds: float) -> bool:
+        """Waits for a pipe, and tells `waits` how long it has been."""
+        begun = time.monotonic()
+        while True:
+            waited = time.monotonic() - begun
+            if is_ready(end, sign, min(SAID_AFTER / 4, seconds - waited)):
+                return True
+            waited = time.monotonic() - begun
+            if waited >= seconds:
+                return False
+            if waited >= SAID_AFTER:
+                self.waits(waited)
+
+    def has_more(self) -> bool:
+        """Whether the desk has said something that was not read; its end counts, too."""
+        return is_ready(self.answers, select.POLLIN, 0)
+
+    def read(self, seconds: float) -> Optional[str]:
+        """The next line of the desk, as it came; None if none has come in so many seconds."""
+        until = time.monotonic() + seconds
+        while b"\n" not in self._heard:
+            if not self._wait(self.answers, select.POLLIN, until - time.monotonic()):
+                return None
+            with contextlib.suppress(BlockingIOError):
+                more = os.read(self.answers, 65536)
+                if not more:
+                    raise DeskEnded
+                self._heard += more
+        line, self._heard = self._heard.split(b"\n", 1)
+        return decoded(line)
+
+    def take(self, text: str) -> Answer:
+        """Takes up an answer to the first line that waits for one."""
+        answer = read_answer(text)
+        self.log.heard(answer)
+        asked = self.waiting.pop(0) if self.waiting else ""
+        self.fits = self.state.apply(read_call(asked), answer)
+        return answer
+
+    def ask(self, call: Union[Edit, Turn, str]) -> Answer:
+        """Says something to the desk, and waits for its answer."""
+        self.send(str(call))
+        text = self.read(PATIENCE)
+        if text is None:
+            raise NoAnswer
+        return self.take(text)
+
+    def catch_up(self) -> list[str]:
+        """Hears the answers that were under way when somebody sat here last: a word that nothing
+        begins with is sent behind, and its answer is waited for. Lines that were never sent are
+        known by it, too."""
+        probe = f"office-{os.getpid()}-{time.monotonic_ns()}"
+        # a line that was cut ends here; the desk skips one without words
+        self._write(b"\n" + probe.encode() + b"\n")
+        heard: list[str] = []
+        answer = self.read(PATIENCE)
+        while answer is not None and not answer.endswith(probe):
+            heard.append(answer)
+            answer = self.read(PATIENCE)
+        if answer is None:
+            raise NoAnswer
+        for line in heard:
+            self.take(line)
+        if heard:
+            self.past = read_past(self.day.log(self.planner))
+        if self.waiting:
+            self.log.noted(f"unsent {len(self.waiting)}")
+            self.waiting.clear()
+        return heard

@@ -1,0 +1,76 @@
+"""What is said in a browser: notices, questions, and drafts that were accepted, as plain data."""
+from __future__ import annotations
+
+from typing import Any, Optional
+
+from office.day.costs import COSTS
+from office.web.action_names import button, letter
+from office.web.questions import Shown
+from office.words.notice import Notice
+from office.words.text import counted
+from office.words.wording import Wording
+from office.work.drafting import Box
+from office.work.news import Accepted
+from office.work.planning import Planning
+
+Data = dict[str, Any]
+
+
+def notice_data(wording: Wording, notice: Notice) -> Data:
+    return {"code": notice.code, "text": wording.notice(notice), "isBad": notice.is_bad}
+
+
+def question_data(wording: Wording, shown: Shown) -> Optional[Data]:
+    """What is to be read, answered, chosen or typed, with a button an answer."""
+    question, line = shown.question, shown.line
+    if question is None:
+        return None
+    lines = [one for one in question.lines if one.code != "box change"]
+    answers = [*question.answers, *([line.answer] if line else [])]
+    found: Data = {
+        "number": shown.asked,
+        "title": wording.notice(question.title),
+        "lines": [{"code": one.code, "text": wording.notice(one)} for one in lines],
+        "answers": [
+            {"name": name, "said": button(name), "key": "" if line else letter(name)}
+            for name in answers
+        ],
+        "choices": wording.lines([told for told, _ in question.choices]),
+        "canWait": question.can_wait,
+    }
+    if line is not None:
+        found["why"] = {"label": line.label}
+    if line is not None and line.box is not None:
+        found["title"] = f"Commit {counted(len(line.box.edits), 'edit')}?"
+        found["costs"] = cost_rows(line.box)
+    return found
+
+
+def cost_rows(box: Box) -> list[Data]:
+    """The costs before and after a commit, part by part, and their sums."""
+    before = box.before or None
+    rows = [
+        {"label": part, "was": before[part] if before else None, "now": box.after[part]}
+        for part in COSTS
+    ]
+    was = sum(before.values()) if before else None
+    return [*rows, {"label": "total", "was": was, "now": sum(box.after.values())}]
+
+
+def news_data(planning: Planning, wording: Wording, accepted: Accepted) -> Data:
+    """An accepted draft."""
+    news, entry = planning.news, accepted.entry
+    told = news.told(accepted)
+    who = wording.notice(news.who(accepted))
+    edits = [wording.shifts(shifts) for shifts in accepted.shifts]
+    slots = {slot for shift in accepted.all() for slot in shift.slots()}
+    return {
+        "number": entry.number,
+        "seat": entry.planner,
+        "who": who,
+        "when": told.time[11:16],
+        "why": wording.safe(told.why),
+        "edits": edits,
+        "slots": sorted(slots),
+        "text": f"{who} committed draft {entry.number}: {'; '.join(edits)}",
+    }

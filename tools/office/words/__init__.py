@@ -1,0 +1,1 @@
+"""What is said to people: notices, their sentences, names and keys."""

@@ -1,0 +1,1 @@
+"""What a planner does at a seat, and what he sees: the model of both faces."""

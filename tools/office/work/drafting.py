@@ -1,0 +1,213 @@
+"""What is done with the draft. Each act answers what is to be read or asked then, if anything."""
+from __future__ import annotations
+
+from typing import NamedTuple, Optional, Sequence
+
+from office.day.costs import Costs
+from office.day.edits import Edit, edits_in
+from office.day.shifts import Shift, shifts_of
+from office.past.earlier_days import Earlier
+from office.seat.answers import Row
+from office.seat.calls import Turn, read_call
+from office.seat.seat_log import settle
+from office.words.notice import NOTHING, Notice, Question, say
+from office.work.planning import Planning
+
+BLANK = say("blank")
+
+
+class Box(NamedTuple):
+    """What is to be seen before a commit: the edits and what they do, the costs before and after,
+    the lectures that they leave missing, by courses, and the row for which the draft is stale by
+    now, if it is."""
+
+    edits: list[Edit]
+    shifts: list[list[Shift]]
+    before: Costs
+    after: Costs
+    missing: dict[str, int]
+    stale: Optional[Row]
+    # who has changed that row
+    who: list[Notice] = []
+
+    def lines(self) -> list[Notice]:
+        told = [
+            say("numbered", number=number, shifts=shifts)
+            for number, shifts in enumerate(self.shifts, 1)
+        ]
+        told += [BLANK, self.price()]
+        if self.missing:
+            told.append(say("leaves missing", courses=self.missing))
+        if self.stale is not None:
+            told += [say("box stale", row=self.stale), *self.who]
+        else:
+            told.append(say("box fresh"))
+        return told
+
+    def price(self) -> Notice:
+        """What the cost changes in each part."""
+        changes = {kind: self.after.get(kind, 0) - self.before.get(kind, 0) for kind in self.after}
+        if not self.before:
+            return say("box cost", count=sum(self.after.values()))
+        return say("box change", price=sum(changes.values()), parts=changes)
+
+
+def edit_notices(edits: Sequence[Edit]) -> list[Notice]:
+    """Edits of which the timetable is not known, a line each."""
+    return [say("edit line", shifts=shifts_of(edit)) for edit in edits]
+
+
+class Drafting:
+    """The acts of a draft."""
+
+    def __init__(self, planning: Planning) -> None:
+        self.planning = planning
+
+    def offer_earlier(self) -> Optional[Question]:
+        """Offers the edits of an earlier day that were not accepted."""
+        earlier = Earlier(self.planning)
+        if not earlier.edits:
+            return None
+        title = say("earlier edits", count=len(earlier.edits), day=earlier.name)
+        return Question(
+            title,
+            edit_notices(earlier.edits),
+            {"make earlier": lambda: self.take_up(earlier), "decline": earlier.decline},
+        )
+
+    def take_up(self, earlier: Earlier) -> Optional[Question]:
+        return self._refused(earlier.take_up())
+
+    def _refused(self, refused: list[Notice]) -> Optional[Question]:
+        """The edits that could not be made again, to be read."""
+        if not refused:
+            return None
+        return Question(self.planning.notice, [say("these refused"), *refused])
+
+    def undo(self) -> None:
+        self.planning.undo()
+
+    def undo_undo(self) -> None:
+        self.planning.undo_undo()
+
+    def edits(self) -> Question:
+        """The edits of the draft, and those that a redo could not make again."""
+        planning = self.planning
+        lines = [
+            say("numbered", number=number, shifts=shifts)
+            for number, shifts in enumerate(planning.shifts(), 1)
+        ]
+        left_out = planning.left_out()
+        title = say("edits of draft", count=len(lines))
+        if left_out:
+            lines += [BLANK, say("left out before"), *left_out]
+        return Question(title, lines)
+
+    def box(self) -> Optional[Box]:
+        """What a commit would publish; None if there is nothing to commit, which is said."""
+        planning = self.planning
+        if not planning.is_open or not planning.edits():
+            planning.commit()
+            return None
+        planning.read_status()
+        base, draft = planning.known.base, planning.known.draft
+        assert base is not None and draft is not None
+        missing = {
+            course: draft.missing(course)
+            for course in planning.instance.courses
+            if draft.missing(course) > base.missing(course)
+        }
+        return self.renewed(
+            Box(
+                planning.edits(),
+                planning.shifts(),
+                planning.base_costs,
+                planning.costs(),
+                missing,
+                planning.foretold,
+            )
+        )
+
+    def renewed(self, box: Box) -> Box:
+        """A box with what others have changed by now."""
+        row = self.planning.foretold
+        return box._replace(stale=row, who=self.who_changed(row) if row is not None else [])
+
+    def commit(self, edits: list[Edit], why: str) -> Optional[Question]:
+        """Commits the edits that were confirmed, with the reason that was given, which may be
+        empty. A draft that has other edits by then is not committed."""
+        if edits != self.planning.edits():
+            self.planning.notice = say("not these edits")
+            return None
+        self.planning.commit(why)
+        return self.explain_stale()
+
+    def refresh(self) -> Optional[Question]:
+        self.planning.refresh()
+        return self.explain_stale()
+
+    def explain_stale(self) -> Optional[Question]:
+        """Says who changed what, and offers to make the edits again."""
+        planning = self.planning
+        row, planning.stale_row = planning.stale_row, None
+        if row is None:
+            return None
+        lines = [
+            say("row changed", row=row),
+            *self.who_changed(row),
+            BLANK,
+            say("your edits"),
+            *edit_notices(planning.ended()),
+            BLANK,
+            say("redo commits nothing"),
+        ]
+        return Question(say("stale title"), lines, {"make again": self.redo})
+
+    def who_changed(self, row: Row) -> list[Notice]:
+        """Who changed a row since the draft was opened, and how."""
+        planning, lines = self.planning, []
+        for accepted in planning.changes_of(row):
+            who, told = planning.news.who(accepted), planning.news.told(accepted)
+            because = say("because", why=told.why) if told.why else NOTHING
+            number = accepted.entry.number
+            lines.append(say("by draft", number=number, who=who, time=told.time, because=because))
+            lines += [say("edit line", shifts=shifts) for shifts in accepted.shifts]
+        return lines
+
+    def redo(self) -> Optional[Question]:
+        return self._refused(self.planning.redo())
+
+    def ask_abandon(self) -> Optional[Question]:
+        planning = self.planning
+        if not planning.is_open and not planning.ended():
+            planning.notice = say("no draft")
+            return None
+        lines = [say("edit line", shifts=shifts) for shifts in planning.shifts()]
+        return Question(
+            say("give up"), lines or edit_notices(planning.ended()), {"give up": self.abandon}
+        )
+
+    def abandon(self) -> None:
+        self.planning.abandon()
+
+    def type_line(self, line: str) -> Optional[Question]:
+        """Sends a line of the desk. A commit has its box in each face."""
+        if read_call(line) is Turn.COMMIT:
+            self.planning.notice = say("commit by its key")
+            return None
+        self.planning.type_line(line)
+        return self.explain_stale()
+
+    def left(self) -> list[Notice]:
+        """What has become of a planner's drafts when the desk has ended."""
+        planning = self.planning
+        seat, state = planning.seat, planning.state
+        planning.minutes.read_on()
+        settle(state, seat.waiting, planning.minutes.entries, seat.planner)
+        lines = [say("on the disk", numbers=", ".join(map(str, state.accepted)) or "none")]
+        edits = state.unfinished() + edits_in(seat.waiting)
+        if edits:
+            fault = seat.log.fault
+            told = say("not accepted nor kept", fault=fault) if fault else say("not accepted")
+            lines += [told, *edit_notices(edits)]
+        return lines
