@@ -68,7 +68,8 @@ class SmallTree(unittest.TestCase):
         self.room = pathlib.Path(tempfile.mkdtemp())
         self.addCleanup(shutil.rmtree, self.room)
         self.top = self.room / "a folder"
-        for name in ["test", "timedesk", "tools/build.sh", *(f"tools/{name}" for name in MODULES)]:
+        tools = ["build.sh", "unproved.sh", *MODULES]
+        for name in ["test", "timedesk", *(f"tools/{name}" for name in tools)]:
             (self.top / name).parent.mkdir(parents=True, exist_ok=True)
             shutil.copy2(HERE / name, self.top / name)
         write(self.top / "tools/edits/__main__.py", EDITS)
