@@ -213,7 +213,7 @@ class Run:
 
     def call_edits(self) -> Call:
         """Tries edits over the libraries that were proved, of all crates if all were proved."""
-        words = ["nice", "python3", "-B", "-m", "edits"]
+        words = ["nice", "python3", "-Bu", "-m", "edits"]
         words += ["--tree", str(self.tree()), "--edits", str(TOP)]
         words += ["--all"] * self.work.all_edits + ["--write"] * self.work.write
         words += ["--lanes", str(self.work.lanes)]
