@@ -1,5 +1,5 @@
 #!/usr/bin/env python3
-"""Tries the edits' tool on a small crate, tests/edits: edits that are refused, one that passes,
+"""Tries the edits' tool on a small crate (edits_small.py): edits that are refused, one that passes,
 one that is refused only for what it calls, two of one function, one that does not compile, one
 that cannot be applied, and one outside of bodies. Reads what checks print, too.
 
@@ -8,7 +8,7 @@ The last line is 'N passed, M failed'.
 from __future__ import annotations
 
 import os
-import shutil
+import pathlib
 import subprocess
 import sys
 import tempfile
@@ -17,11 +17,11 @@ from typing import Dict, List, Tuple
 
 HERE = os.path.dirname(os.path.dirname(os.path.abspath(__file__)))
 sys.dont_write_bytecode = True
-sys.path.insert(0, os.path.join(HERE, "tools"))
+sys.path[:0] = [os.path.join(HERE, "tools"), os.path.join(HERE, "tests")]
 
 from edits import edit, goals, page, records, said, sources, standing  # noqa: E402
+from edits_small import write_small  # noqa: E402
 
-SMALL = os.path.join(HERE, "tests", "edits")
 REFUSED = {
     "first_for_the_larger": [("larger", "second")],
     "smaller_for_the_larger": [("larger", "first"), ("larger", "second")],
@@ -157,8 +157,7 @@ class Trying(unittest.TestCase):
     def test_the_small_crate(self) -> None:
         with tempfile.TemporaryDirectory() as room:
             tree = os.path.join(room, "tree")
-            shutil.copytree(SMALL, tree)
-            folder = os.path.join(tree, "crates", "small", "must-fail")
+            folder = str(write_small(pathlib.Path(tree)))
             status, lines = self.run_tool(tree, "--write")
             self.assertEqual((status, lines[-1]), (1, "4 passed, 3 failed"), lines)
             told = self.verdicts(lines)
