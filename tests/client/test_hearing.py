@@ -50,7 +50,7 @@ class Reading(OfficeTest):
             ("committed 12", Committed, {"number": 12}),
             ("stale course geo", Stale, {"row": Row("course", "geo")}),
             ("stale slot 0 12", Stale, {"row": Row("slot", "", (0, 12))}),
-            ("draft 3 1 fresh", Status, {"edits": 3, "behind": 1, "stale": None}),
+            ("draft 3 1 fresh", Status, {"edits": 3, "since": 1, "stale": None}),
             ("draft 3 1 stale slot 2 0", Status, {"edits": 3, "stale": Row("slot", "", (2, 0))}),
             ("done drop a 0 0", Undone, {"edit": Edit.drop("a", (0, 0))}),
             ("price -3", PriceIs, {"price": -3}),

@@ -84,7 +84,7 @@ class History(OfficeTest):
         make_edit(self.ben, "drop geo 1 2")
         self.ben.commit()
         self.anna.read_status()
-        self.assertEqual((self.anna.foretold, self.anna.behind()), (None, 1))
+        self.assertEqual((self.anna.stale_preview, self.anna.accepted_count()), (None, 1))
 
     def test_without_a_program(self):
         """If nobody says what can go back, nothing is done, and the reason is said."""

@@ -52,7 +52,7 @@ class Logs(OfficeTest):
                 self.assertTrue(all([one.accept_edits(made) for one in knowns]))
             if planner == 0:
                 log.sent(line)
-                log.heard(read_answer(answer))
+                log.received(read_answer(answer))
                 seen.append(Seen(known))
         log.close()
         return seen

@@ -53,8 +53,8 @@ class OneWeek:
         if kind == "course":
             curricula = ", ".join(map(labels.curriculum, instance.curricula_of[code]))
             students = counted(instance.courses[code].students, "student")
-            told = f"{self.teacher(code)}, {students}"
-            return shown(f"{told}; {curricula}" if curricula else told)
+            text = f"{self.teacher(code)}, {students}"
+            return shown(f"{text}; {curricula}" if curricula else text)
         return counted(len(courses_of_view(instance, self.view)), "course")
 
     def missing(self) -> list[str]:
@@ -66,7 +66,7 @@ class OneWeek:
             if course in found
         ]
 
-    def told(self, lecture: Lecture) -> LectureWords:
+    def words(self, lecture: Lecture) -> LectureWords:
         """A lecture without what the title says already."""
         course, room = self.labels.course(lecture.course), self.labels.room(lecture.room)
         teacher = self.teacher(lecture.course)
@@ -108,9 +108,9 @@ def text_of(week: OneWeek, has_costs: bool) -> str:
     for day in days:
         lines += ["", week.labels.day(day)]
         for slot, lectures in week.slots.items():
-            for told in map(week.told, lectures if slot[0] == day else []):
-                costs = f" ({told.costs})" if has_costs and told.costs else ""
-                what = ", ".join(filter(None, told[:2]))
+            for words in map(week.words, lectures if slot[0] == day else []):
+                costs = f" ({words.costs})" if has_costs and words.costs else ""
+                what = ", ".join(filter(None, words[:2]))
                 lines.append(f"  {week.when(slot):>{width}}  {what}{costs}")
     if not days:
         lines += ["", "no lectures"]

@@ -166,8 +166,8 @@ def publish_once(day: Day, folder: Folder, is_json: bool) -> None:
         return
     differ = sum(folder.old(name) != files[name] for name in files)
     folder.write(files)
-    told = f"{at.title()}: {counted(len(changed), 'lecture')} changed, {counted(differ, 'file')}"
-    print(f"office: {told} of {len(files)} written", file=sys.stderr, flush=True)
+    summary = f"{at.title()}: {counted(len(changed), 'lecture')} changed, {counted(differ, 'file')}"
+    print(f"office: {summary} of {len(files)} written", file=sys.stderr, flush=True)
     for view, shifts in sorted(by_view(at.instance, changed).items()):
         if view.kind in PEOPLE:
             person = site.person(view, shifts, files)

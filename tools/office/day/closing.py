@@ -98,8 +98,8 @@ def check_start(part: Part, end: bytes) -> None:
     with open(part.start, "rb") as file:
         start = file.read()
     if Left(part, quiet=True).mended(end) != start:
-        told = f"part {part.number} does not begin where part {part.number - 1} ended"
-        raise Disagrees(part, f"{part.day.path}: {told}", told)
+        reason = f"part {part.number} does not begin where part {part.number - 1} ended"
+        raise Disagrees(part, f"{part.day.path}: {reason}", reason)
 
 
 def audit_parts(day: Day) -> bytes:

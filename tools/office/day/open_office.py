@@ -72,7 +72,7 @@ class Running:
     def wait_for_seats(self, desk: subprocess.Popen[bytes]) -> None:
         """Waits until each seat has answered what the timetable costs."""
         self.seats.ask(b"show cost")
-        answers = self.seats.hear(self.signals, lambda: desk.poll() is None)
+        answers = self.seats.read_answers(self.signals, lambda: desk.poll() is None)
         self.signals.check()
         if desk.poll() is not None:
             raise Silent(desk.returncode if desk.returncode > 0 else 3)
@@ -141,8 +141,8 @@ class Running:
         try:
             new.begin(taken)
         except (Refused, OSError) as fault:
-            told = str(fault) or "the program does not read the new ones"
-            announce(f"the rules stay as they are, for now: {told}")
+            why = str(fault) or "the program does not read the new ones"
+            announce(f"the rules stay as they are, for now: {why}")
             self.again = time.monotonic() + LATER
             return
         announce("the rules change: the desk ends, and another one opens")

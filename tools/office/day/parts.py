@@ -153,8 +153,8 @@ class RuleChange(NamedTuple):
 
 def change_of(part: Part, taken_before: int) -> RuleChange:
     """How a part has come about that is not the first one."""
-    told = read_closures(part.day, taken_before, part.taken())
-    return RuleChange(part.number, str(part.facts()["begun"]), told, read_aside(part.aside))
+    closures = read_closures(part.day, taken_before, part.taken())
+    return RuleChange(part.number, str(part.facts()["begun"]), closures, read_aside(part.aside))
 
 
 def changes_of(day: Day) -> list[RuleChange]:

@@ -31,8 +31,8 @@ class Scratch:
         found = decoded(printed).split("\n")[:-1]
         if status != 0 and not self.quiet:
             raise Silent(status)
-        told, wanted = found[: len(self.begun)], ["opened"] + ["done"] * (len(self.begun) - 1)
-        if status != 0 or len(found) != len(lines) or told != wanted:
+        first, wanted = found[: len(self.begun)], ["opened"] + ["done"] * (len(self.begun) - 1)
+        if status != 0 or len(found) != len(lines) or first != wanted:
             raise Refused("the program does not try edits", CONTENT)
         return list(map(read_answer, found[len(self.begun) :]))
 

@@ -89,12 +89,12 @@ def make_draft(timetable: Timetable, edits: Iterable[Edit]) -> list[Shift]:
     return net(found)
 
 
-def drafts_of(part: Part, entries: Iterable[Entry], told: dict[int, CommitFacts]) -> list[Draft]:
+def drafts_of(part: Part, entries: Iterable[Entry], facts: dict[int, CommitFacts]) -> list[Draft]:
     """The accepted drafts of a part in their order. Of a seat of which no log can be read the name
     of who sits there is known."""
     timetable, found = Timetable(part.instance(), part.lectures()), []
     for entry in entries:
-        name, time, why = told.get(entry.number, NO_FACTS)
+        name, time, why = facts.get(entry.number, NO_FACTS)
         name = name or read_sitter(part.day, entry.planner)[0]
         shifts = make_draft(timetable, entry.edits)
         found.append(Draft(entry.number, entry.planner, name, time, why, entry.edits, shifts))
@@ -104,8 +104,8 @@ def drafts_of(part: Part, entries: Iterable[Entry], told: dict[int, CommitFacts]
 def read_part_drafts(day: Day) -> list[tuple[Part, list[Draft]]]:
     """The accepted drafts of a day, part by part."""
     day.facts()
-    told = read_commit_facts(day)
-    return [(part, drafts_of(part, entries, told)) for part, entries in read_parts(day)]
+    facts = read_commit_facts(day)
+    return [(part, drafts_of(part, entries, facts)) for part, entries in read_parts(day)]
 
 
 def read_drafts(day: Day) -> list[Draft]:

@@ -96,16 +96,16 @@ def change_lines(
     others = len(change.asides) - len(touched)
     if others:
         lines.append(f"    and {counted(others, 'other lecture')}")
-    told = wording.notice(rule_change_notice(change))
-    return [f"rules, {when}: {told}", *lines, f"    {difference_words(*costs)}"]
+    text = wording.notice(rule_change_notice(change))
+    return [f"rules, {when}: {text}", *lines, f"    {difference_words(*costs)}"]
 
 
 def closure_object(closure: Closure) -> dict[str, Any]:
     """A closure for other programs. A day or a period that is missing stands for all of them."""
     kind, name, day, period = closure.scope
-    told = {"name": closure.who, "seat": closure.seat, "time": closure.time}
+    who = {"name": closure.who, "seat": closure.seat, "time": closure.time}
     where = {"kind": kind, "code": name, "day": day, "period": period}
-    return {**where, "blocked": not closure.is_lifted, "reason": closure.why or None, **told}
+    return {**where, "blocked": not closure.is_lifted, "reason": closure.why or None, **who}
 
 
 def change_object(

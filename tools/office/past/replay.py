@@ -41,8 +41,8 @@ def answers(part: Part, lines: list[str]) -> list[Answer]:
         raise Refused(f"the program does not play the minutes of {part.day.path}", CONTENT)
     for line, answer in zip(lines, found):
         if line == "0 commit" and not isinstance(answer, Committed):
-            told = f"the minutes of {part.day.path} do not fit its start: {answer}"
-            raise Refused(told, CONTENT)
+            reason = f"the minutes of {part.day.path} do not fit its start: {answer}"
+            raise Refused(reason, CONTENT)
     return found
 
 

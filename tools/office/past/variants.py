@@ -34,11 +34,11 @@ class Variant(NamedTuple):
     edits: list[Edit]
     brings: Optional[Brings]
 
-    def told(self) -> Notice:
+    def notice(self) -> Notice:
         if self.brings is None:
             return say("variant", name=self.name, count=len(self.edits))
         return say(
-            "variant told",
+            "variant now",
             name=self.name,
             count=len(self.edits),
             made=len(self.brings.made),
@@ -128,12 +128,12 @@ class Variants:
             tried = [f"0 {edit}" for edit in edits]
             lines += ["0 open", *tried, "0 peek cost", "0 peek missing", "0 abandon"]
         try:
-            now, *told = answers(minutes.part, lines)[begun:]
+            now, *rest = answers(minutes.part, lines)[begun:]
         except (Refused, OSError):
             return [Variant(name, edits, None) for name, edits in self.kept.items()]
         found = []
         for name, edits in self.kept.items():
-            answered, told = told[1 : len(edits) + 3], told[len(edits) + 4 :]
+            answered, rest = rest[1 : len(edits) + 3], rest[len(edits) + 4 :]
             made = [edit for edit, answer in zip(edits, answered) if answer is Said.DONE]
             saves = sum(costs_in(now).values()) - sum(costs_in(answered[-2]).values())
             missing = sum(missing_in(answered[-1]).values())
@@ -144,7 +144,7 @@ class Variants:
     def compare(self, one: Variant, other: Variant) -> Question:
         """In what two variants differ: lectures, and what they would save."""
         title = say("compared", name=one.name, second=other.name)
-        lines = [one.told(), other.told(), say("blank")]
+        lines = [one.notice(), other.notice(), say("blank")]
         if one.brings is None or other.brings is None:
             return Question(title, [*lines, say("not compared")])
         first, second = one.brings.after.by_course, other.brings.after.by_course

@@ -120,7 +120,7 @@ class Status(Other):
     the row for which it is stale by now."""
 
     edits: int
-    behind: int
+    since: int
     stale: Optional[Row]
 
 
@@ -253,14 +253,14 @@ def _prices(text: str, words: Sequence[str]) -> Other:
 def _slots(text: str, words: Sequence[str]) -> Other:
     rest, found = words[1:], []
     while rest:
-        told: SlotOffer
+        offer: SlotOffer
         if rest[0] == "-":
-            told, rest = Fault.take(rest[1:])
+            offer, rest = Fault.take(rest[1:])
         else:
             price = int(rest[0])
             edit, rest = Edit.take(rest[1:])
-            told = Offer(price, edit)
-        found.append(told)
+            offer = Offer(price, edit)
+        found.append(offer)
     return SlotsAre(text, found)
 
 

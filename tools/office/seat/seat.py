@@ -105,8 +105,8 @@ class Seat:
         self.fits = True
         # whose draft is here, if it is somebody else's
         self.owner = past.owner() if past.owner() != self.name else ""
-        self._heard = b""
-        # the drafts that were accepted, and the lines that were sent, of which no answer was heard
+        self._received = b""
+        # the drafts that were accepted, and the lines that were sent, of which no answer came
         # before the last part ended
         self.settled: list[int] = []
         self.unanswered: list[str] = []
@@ -159,7 +159,7 @@ class Seat:
     def leave_desk(self) -> list[str]:
         """Leaves a desk that ends with its part of the day. What it has answered is heard, and
         answered here."""
-        heard: list[str] = []
+        found: list[str] = []
         if self._lines != CLOSED:
             os.close(self._lines)
             self._lines = CLOSED
@@ -168,12 +168,12 @@ class Seat:
                 answer = self.read(LAST)
                 if answer is None:
                     break
-                heard.append(answer)
+                found.append(answer)
                 self.take(answer)
         if self.answers != CLOSED:
             os.close(self.answers)
             self.answers = CLOSED
-        return heard
+        return found
 
     def enter(self) -> None:
         """Sits down at the desk of the next part, when it is there. What was open at the last one
@@ -182,7 +182,7 @@ class Seat:
             wait_for_desk(self.day, self.waits)
             if not self.day.is_ready():
                 raise DeskEnded
-            self.part, self._heard = last_part(self.day), b""
+            self.part, self._received = last_part(self.day), b""
             try:
                 self._lines, self.answers = self._open_pipes()
                 break
@@ -192,8 +192,8 @@ class Seat:
         self._begin_part()
 
     def _begin_part(self) -> None:
-        """Notes that another part of the day has begun. A commit of which the answer was not heard
-        was accepted if the minutes have it."""
+        """Notes that another part of the day has begun. A commit of which the answer did not
+        come was accepted if the minutes have it."""
         number, parts = self.part.number, read_parts(self.day)
         before = [entry for part, entries in parts if part.number < number for entry in entries]
         self.settled = settle(self.state, self.waiting, before, self.planner)
@@ -257,21 +257,21 @@ class Seat:
     def read(self, seconds: float) -> Optional[str]:
         """The next line of the desk, as it came; None if none has come in so many seconds."""
         until = time.monotonic() + seconds
-        while b"\n" not in self._heard:
+        while b"\n" not in self._received:
             if not self._wait(self.answers, select.POLLIN, until - time.monotonic()):
                 return None
             with contextlib.suppress(BlockingIOError):
                 more = os.read(self.answers, 65536)
                 if not more:
                     raise DeskEnded
-                self._heard += more
-        line, self._heard = self._heard.split(b"\n", 1)
+                self._received += more
+        line, self._received = self._received.split(b"\n", 1)
         return decoded(line)
 
     def take(self, text: str) -> Answer:
         """Takes up an answer to the first line that waits for one."""
         answer = read_answer(text)
-        self.log.heard(answer)
+        self.log.received(answer)
         asked = self.waiting.pop(0) if self.waiting else ""
         self.fits = self.state.apply(read_call(asked), answer)
         return answer
@@ -291,18 +291,18 @@ class Seat:
         probe = f"office-{os.getpid()}-{time.monotonic_ns()}"
         # a line that was cut ends here; the desk skips one without words
         self._write(b"\n" + probe.encode() + b"\n")
-        heard: list[str] = []
+        found: list[str] = []
         answer = self.read(PATIENCE)
         while answer is not None and not answer.endswith(probe):
-            heard.append(answer)
+            found.append(answer)
             answer = self.read(PATIENCE)
         if answer is None:
             raise NoAnswer
-        for line in heard:
+        for line in found:
             self.take(line)
-        if heard:
+        if found:
             self.past = read_past(self.day.log(self.planner))
         if self.waiting:
             self.log.noted(f"unsent {len(self.waiting)}")
             self.waiting.clear()
-        return heard
+        return found

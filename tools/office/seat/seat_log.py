@@ -1,4 +1,4 @@
-"""The log of a seat: a line for each line that was sent or heard, with the time.
+"""The log of a seat: a line for each line that was sent or received, with the time.
 
     2026-11-28T08:05:11.482+0100 > place geo A 0 1
     2026-11-28T08:05:11.483+0100 < done
@@ -35,7 +35,7 @@ from office.seat.answers import (
 from office.seat.calls import Look, Turn, read_call
 from office.seat.state import SeatState
 
-SENT, HEARD, NOTED = ">", "<", "="
+SENT, RECEIVED, NOTED = ">", "<", "="
 # answers to looks can be long, and are not what a draft is made of: so much of them is in the log
 LONGEST_LOOK = 200
 LONG = (LecturesAre, PricesAre, MissingAre)
@@ -75,10 +75,10 @@ class SeatLog:
         """Notes a line before it is sent."""
         self._write(SENT, line)
 
-    def heard(self, answer: Answer) -> None:
+    def received(self, answer: Answer) -> None:
         """Notes an answer before it is shown."""
         text = str(answer)
-        self._write(HEARD, text[:LONGEST_LOOK] if isinstance(answer, LONG) else text)
+        self._write(RECEIVED, text[:LONGEST_LOOK] if isinstance(answer, LONG) else text)
         is_kept = isinstance(answer, KEPT) or answer in (Said.DONE, Said.LEFT)
         if is_kept and not self.fault:
             self._sync()
@@ -135,7 +135,7 @@ class SeatPast:
         if sign == SENT:
             if has_words(encoded(text)):
                 self.waiting.append(text)
-        elif sign == HEARD and self.waiting:
+        elif sign == RECEIVED and self.waiting:
             self._take_answer(time, self.waiting.pop(0), text)
         elif sign == NOTED:
             self._take_note(time, text)
@@ -203,7 +203,7 @@ class SeatPast:
         self.waiting.clear()
 
     def settle(self, entries: list[Entry], planner: int) -> list[int]:
-        """A commit that was sent, and of which the answer was not heard when the desk died, was
+        """A commit that was sent, and of which the answer was not received when the desk died, was
         accepted if the minutes have it."""
         return settle(self.state, self.waiting, entries, planner)
 

@@ -16,7 +16,7 @@ class Timetables:
     def __init__(self, instance: Instance, lectures: Iterable[tuple[str, str, int, int]]) -> None:
         self.newest = Timetable(instance, lectures)
         # the newest one when the planner sat down, or when his last draft ended
-        self.met = self.newest
+        self.marked = self.newest
         self.base: Optional[Timetable] = None
         self.draft: Optional[Timetable] = None
 
@@ -26,11 +26,11 @@ class Timetables:
 
     def seen(self) -> Timetable:
         """The timetable beside which changes of others are new."""
-        return self.base or self.met
+        return self.base or self.marked
 
     def mark_seen(self) -> None:
         """Nothing that others have changed is new from now on."""
-        self.met = self.newest.copy()
+        self.marked = self.newest.copy()
 
     def begin_part(self, lectures: Iterable[tuple[str, str, int, int]]) -> None:
         """Another part of the day has begun, with these lectures, at a desk without drafts. What

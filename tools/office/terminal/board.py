@@ -151,8 +151,8 @@ class Board:
         """Two rows: what the last step has to say, or what others say of the slot at the cursor,
         and what else is to be known."""
         notice = self.planning.notice
-        told = self.wording.lines([notice] if notice else self.work.knowing.told_of(cell))
-        lines = [line for each in told for line in wrap(each, width - 2)][:2]
+        texts = self.wording.lines([notice] if notice else self.work.knowing.notices_of(cell))
+        lines = [line for each in texts for line in wrap(each, width - 2)][:2]
         style = "bad" if notice.is_bad else "said"
         rows: list[Row] = [[(fit(f" {line}", width), style)] for line in lines]
         urgent = next(iter(self.work.urgent()), NOTHING)
@@ -218,9 +218,9 @@ class Board:
             self.turn_choice(1)
             return
         slots = sorted({one.slot for one in self.work.lectures()})
-        behind = [slot for slot in slots if slot > self.cursor] or slots
-        if behind:
-            self.set_cursor(behind[0])
+        later = [slot for slot in slots if slot > self.cursor] or slots
+        if later:
+            self.set_cursor(later[0])
 
     def last_choice(self) -> None:
         if self.work.carry:

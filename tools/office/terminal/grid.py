@@ -133,9 +133,9 @@ class Grid:
         if carry is not None:
             offers = carry.cheapest(slot)
             style = "dim" if not offers else "good" if offers[0].price < 0 else "points"
-            told = [price_in_cell(self.wording, carry, slot), *marks_in_cell(cell)]
+            parts = [price_in_cell(self.wording, carry, slot), *marks_in_cell(cell)]
             # what is blocked is told so once
-            return " ".join(dict.fromkeys(told)), style
+            return " ".join(dict.fromkeys(parts)), style
         signs = signs_in_cell(cell)
         if signs:
             return signs, "points"

@@ -38,9 +38,9 @@ class Worded(Sequence[tuple[str, Choice]]):
     def __getitem__(self, at: Any) -> Any:
         if isinstance(at, slice):
             return [self[each] for each in range(*at.indices(len(self)))]
-        told, choice = self.choices[at]
+        notice, choice = self.choices[at]
         if at not in self._texts:
-            self._texts[at] = self.wording.notice(told)
+            self._texts[at] = self.wording.notice(notice)
         return self._texts[at], choice
 
 

@@ -152,8 +152,8 @@ class Screen:
     def paint_last(self, notice: Notice) -> None:
         """Says something in the last row."""
         height, columns = self.window.getmaxyx()
-        told = self.board.wording.notice(notice)
-        self.paint_row(height - 1, [(fit(f" {told}", columns - 1), "bad")], columns)
+        text = self.board.wording.notice(notice)
+        self.paint_row(height - 1, [(fit(f" {text}", columns - 1), "bad")], columns)
         self.window.refresh()
 
     def step_over(self) -> None:

@@ -54,7 +54,7 @@ class Frame:
         self.instance, self.wording = instance, wording
         self.hues = hues_of(instance)
 
-    def told(self) -> Data:
+    def data(self) -> Data:
         """Days, periods, slots and names, with which a window begins."""
         instance, wording = self.instance, self.wording
         days, periods = range(instance.days), range(instance.periods)

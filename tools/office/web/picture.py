@@ -64,7 +64,8 @@ class Picture:
 
     def draft(self) -> Data:
         planning, wording = self.planning, self.wording
-        foretold = say("box stale", row=planning.foretold) if planning.foretold else NOTHING
+        row = planning.stale_preview
+        stale = say("box stale", row=row) if row is not None else NOTHING
         return {
             "edits": [
                 {"text": wording.shifts(shifts), "price": self.prices.get(edit)}
@@ -72,8 +73,8 @@ class Picture:
             ],
             "base": planning.base_costs or None,
             "base_total": planning.base_total,
-            "behind": planning.behind(),
-            "foretold": wording.notice(foretold),
+            "since": planning.accepted_count(),
+            "stale_preview": wording.notice(stale),
             "left_out": wording.lines(planning.left_out()),
         }
 
@@ -93,7 +94,7 @@ class Picture:
         view, instance = self.work.view, self.planning.instance
         cells, gone = self.work.cells(), self.gone()
         newest = by_slot(of_view(self.planning.known.newest, view))
-        told = [
+        drawn = [
             self.cell(slot, cell, gone.get(slot, []), newest.get(slot, []))
             for slot, cell in cells.items()
             if cell.lectures or cell.is_mine or cell.is_others or cell.is_closed or cell.blocked
@@ -106,7 +107,7 @@ class Picture:
             "about": self.frame.about(view),
             "missing": f"{counted(count, 'lecture')} missing" if count else "",
             "working": [self.wording.safe(name) for name in self.work.knowing.names_at_work(view)],
-            "cells": told,
+            "cells": drawn,
         }
 
     def cell(self, slot: Slot, cell: Cell, gone: list[Lecture], newest: list[Lecture]) -> Data:
@@ -170,13 +171,13 @@ class Picture:
         lectures = planning.lectures(f"course {name}")
         days = len({lecture.day for lecture in lectures})
         costs = costs_in(planning.look(f"coursecost {name}"))
-        told = ", ".join(f"{kind} {points}" for kind, points in costs.items() if points)
+        points = ", ".join(f"{kind} {points}" for kind, points in costs.items() if points)
         return [
             f"{counted(course.students, 'student')}, "
             f"teacher {wording.name('teacher', course.teacher)}",
             f"{len(lectures)} of {course.lectures} placed, on {counted(days, 'day')} "
             f"({course.minimum_days} wanted)",
-            f"costs {told or 'nothing'}",
+            f"costs {points or 'nothing'}",
         ]
 
     def about(self, lecture: Lecture) -> Data:
@@ -188,15 +189,15 @@ class Picture:
         room = f"room {wording.room(lecture.room)}, {counted(seats, 'seat')}{lacking}"
         cell = self.work.cells()[lecture.slot]
         changed = self.work.changed_here(lecture.slot) if cell.is_others else None
-        told = [*([changed] if changed else []), *self.work.knowing.told_of(cell)]
-        told += [blocked_here_notice(one) for one in cell.blocked]
+        notices = [*([changed] if changed else []), *self.work.knowing.notices_of(cell)]
+        notices += [blocked_here_notice(one) for one in cell.blocked]
         return {
             "course": lecture.course,
             "said": wording.course(lecture.course),
             "where": wording.slot(lecture.slot),
             "lines": [room, *self.course_lines(lecture.course)],
             # what others have to do with it
-            "told": wording.lines(told),
+            "notices": wording.lines(notices),
             "weeks": [[view, wording.short(*view)] for view in weeks_of(instance, lecture)],
         }
 
@@ -225,8 +226,8 @@ class Picture:
         if offers:
             return {"at": slot, "offers": [self.offer(carry, offer) for offer in offers]}
         shortly, why = carry.short_reason(slot), carry.reason(slot)
-        told = self.wording.notice
-        return {"at": slot, "offers": [], "shortly": told(shortly), "why": told(why)}
+        words = self.wording.notice
+        return {"at": slot, "offers": [], "shortly": words(shortly), "why": words(why)}
 
     def offers(self, slot: Slot) -> list[list[Any]]:
         """All that a slot offers for what is held, cheapest first."""

@@ -55,16 +55,16 @@ class Readers:
             self._begin()
 
     async def answer(self, window: Window, verb: str, data: Data) -> Data:
-        told = Request(self.instance, data)
+        request = Request(self.instance, data)
         if verb not in ("hello", "show"):
             raise Fault(403, "who reads changes nothing")
         if verb == "show":
-            window.shown = told.view()
+            window.shown = request.view()
             return {"picture": self.picture(window)}
         # a page that comes back may be one of another day
         with contextlib.suppress(Fault):
-            window.shown = told.view()
-        return {**self.frame.told(), "picture": self.picture(window)}
+            window.shown = request.view()
+        return {**self.frame.data(), "picture": self.picture(window)}
 
     def picture(self, window: Window) -> Data:
         """The week that a window shows, as it stands now."""
@@ -103,7 +103,7 @@ class Readers:
         """Tells who reads what things are called now."""
         for window in self.windows.all():
             if window.is_listening:
-                window.tell({"names": self.frame.told(), "picture": self.picture(window)})
+                window.tell({"names": self.frame.data(), "picture": self.picture(window)})
 
     def tell(self, event: Data) -> None:
         for window in self.windows.all():

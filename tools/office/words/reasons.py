@@ -92,7 +92,7 @@ def alone_reason(course: str, fault: Fault) -> Notice:
 def room_reason(instance: Instance, room: str, slot: Slot) -> Notice:
     """Why a room cannot be used in a slot, and who has said so."""
     for closure in instance.closures_at("room", room, slot):
-        why = say("reason told", why=closure.why) if closure.why else NOTHING
+        why = say("because of", why=closure.why) if closure.why else NOTHING
         return say("room blocked", room=room, because=why, by=by_notice(closure))
     return say("room blocked now", room=room)
 
@@ -102,7 +102,7 @@ def away_reason(instance: Instance, course: str, slot: Slot) -> Notice:
     teacher = instance.courses[course].teacher
     for kind, name in (("course", course), ("teacher", teacher)):
         for closure in instance.closures_at(kind, name, slot):
-            why = say("reason told", why=closure.why) if closure.why else NOTHING
+            why = say("because of", why=closure.why) if closure.why else NOTHING
             return say("away", scope=closure.scope, because=why, by=by_notice(closure))
     return say("unavailable", course=course)
 

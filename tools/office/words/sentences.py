@@ -136,7 +136,7 @@ VARIANTS = {
     "no variants": "Nothing was put aside: {key[put aside]} puts a draft aside.",
     "variants": "What was put aside",
     "variant": "{name}: {count:edit}; the program does not say what it would bring now",
-    "variant told": "{name}: {count:edit}, {made} of them can be made now: cost {price}, missing "
+    "variant now": "{name}: {count:edit}, {made} of them can be made now: cost {price}, missing "
     "{missing}",
     "compared": "{name} -> {second}",
     "same variants": "Both lead to the same timetable now.",

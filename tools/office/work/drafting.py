@@ -31,18 +31,18 @@ class Box(NamedTuple):
     who: list[Notice] = []
 
     def lines(self) -> list[Notice]:
-        told = [
+        lines = [
             say("numbered", number=number, shifts=shifts)
             for number, shifts in enumerate(self.shifts, 1)
         ]
-        told += [BLANK, self.price()]
+        lines += [BLANK, self.price()]
         if self.missing:
-            told.append(say("leaves missing", courses=self.missing))
+            lines.append(say("leaves missing", courses=self.missing))
         if self.stale is not None:
-            told += [say("box stale", row=self.stale), *self.who]
+            lines += [say("box stale", row=self.stale), *self.who]
         else:
-            told.append(say("box fresh"))
-        return told
+            lines.append(say("box fresh"))
+        return lines
 
     def price(self) -> Notice:
         """What the cost changes in each part."""
@@ -124,13 +124,13 @@ class Drafting:
                 planning.base_costs,
                 planning.costs(),
                 missing,
-                planning.foretold,
+                planning.stale_preview,
             )
         )
 
     def renewed(self, box: Box) -> Box:
         """A box with what others have changed by now."""
-        row = self.planning.foretold
+        row = self.planning.stale_preview
         return box._replace(stale=row, who=self.who_changed(row) if row is not None else [])
 
     def commit(self, edits: list[Edit], why: str) -> Optional[Question]:
@@ -167,10 +167,10 @@ class Drafting:
         """Who changed a row since the draft was opened, and how."""
         planning, lines = self.planning, []
         for accepted in planning.changes_of(row):
-            who, told = planning.news.who(accepted), planning.news.told(accepted)
-            because = say("because", why=told.why) if told.why else NOTHING
+            who, facts = planning.news.who(accepted), planning.news.facts(accepted)
+            because = say("because", why=facts.why) if facts.why else NOTHING
             number = accepted.entry.number
-            lines.append(say("by draft", number=number, who=who, time=told.time, because=because))
+            lines.append(say("by draft", number=number, who=who, time=facts.time, because=because))
             lines += [say("edit line", shifts=shifts) for shifts in accepted.shifts]
         return lines
 
@@ -208,6 +208,6 @@ class Drafting:
         edits = state.unfinished() + edits_in(seat.waiting)
         if edits:
             fault = seat.log.fault
-            told = say("not accepted nor kept", fault=fault) if fault else say("not accepted")
-            lines += [told, *edit_notices(edits)]
+            title = say("not accepted nor kept", fault=fault) if fault else say("not accepted")
+            lines += [title, *edit_notices(edits)]
         return lines

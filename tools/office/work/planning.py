@@ -149,7 +149,7 @@ class Planning(Reading):
     def _close_empty(self) -> None:
         """A draft without edits is not committed. If others have overtaken it, it is closed."""
         self.read_status()
-        row = self.foretold
+        row = self.stale_preview
         if row is None:
             self.notice = say("no edits")
             return

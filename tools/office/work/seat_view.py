@@ -47,7 +47,7 @@ class Reading:
         # how the parts of the day but the first one have come about, as far as they are read, and
         # of how many of these the planner was told
         self.changes: list[RuleChange] = []
-        self.told = 0
+        self.shown_changes = 0
         self.news = News(seat.day)
         self.courtesies = Courtesies(seat)
         self.notice: Notice = NOTHING
@@ -61,7 +61,7 @@ class Reading:
         self.base_total: Optional[int] = None
         self.base_costs: dict[str, int] = {}
         # how many were accepted when the planner sat down, or when his last draft ended
-        self.met_at = 0
+        self.seen_at = 0
         self.has_begun = False
         # whether the minutes have led to the timetable that is known, and whether they can still be
         # written
@@ -70,7 +70,7 @@ class Reading:
         # the row for which a commit was or, by the last status, would be told that the draft is
         # stale
         self.stale_row: Optional[Row] = None
-        self.foretold: Optional[Row] = None
+        self.stale_preview: Optional[Row] = None
 
     @property
     def is_open(self) -> bool:
@@ -88,14 +88,14 @@ class Reading:
         """The edits of the last draft, if it ended without being accepted and was not given up."""
         return self.state.ended
 
-    def behind(self) -> int:
+    def accepted_count(self) -> int:
         """How many drafts were accepted since the draft was opened."""
         return len(self.minutes.entries) - self.opened_at
 
     def accepted_since(self) -> list[Accepted]:
         """What others have had accepted since the draft was opened; without a draft, since the
         planner sat down or his last draft ended."""
-        since = self.opened_at if self.is_open else self.met_at
+        since = self.opened_at if self.is_open else self.seen_at
         mine = self.seat.planner
         return [one for one in self.news.accepted[since:] if one.entry.planner != mine]
 
@@ -134,7 +134,7 @@ class Reading:
         read_parts(self)
         self.read_newest()
         self.has_begun = True
-        self.told = len(self.changes)
+        self.shown_changes = len(self.changes)
         self._mark_seen()
         self.courtesies.begin()
         if isinstance(answer, Status):
@@ -145,14 +145,14 @@ class Reading:
         """Hears the desk of another part, at which no draft is open."""
         self._cache.clear()
         self.is_sound, self.is_failing = True, os.path.exists(self.seat.day.failing)
-        self.stale_row = self.foretold = None
+        self.stale_row = self.stale_preview = None
         self.base_total, self.base_costs = None, {}
         self.seat.catch_up()
 
     def _mark_seen(self) -> None:
         """What others have done until now is not new any more."""
         self.known.mark_seen()
-        self.met_at = len(self.minutes.entries)
+        self.seen_at = len(self.minutes.entries)
 
     def take_up_draft(self) -> None:
         """Takes up the open draft: its base is what the drafts before it have left, and on that
@@ -167,7 +167,8 @@ class Reading:
             if not made:
                 self.state.stand_on(draft.copy())
                 # if it is the newest timetable, the minutes may have that a moment later
-                if self.behind() or draft.same_as(known.newest) or not self.minutes.is_readable():
+                is_newest = draft.same_as(known.newest)
+                if self.accepted_count() or is_newest or not self.minutes.is_readable():
                     return
         known.draft = draft
         self.alarm = say("differs") if made else self.alarm
@@ -251,11 +252,11 @@ class Reading:
         until = time.monotonic() + LATE
         while not self.is_failing:
             self.read_minutes()
-            told = self.read_all("show")
-            if told.same_as(self.known.newest):
+            newest = self.read_all("show")
+            if newest.same_as(self.known.newest):
                 return
             if not self.is_sound or not self.minutes.is_readable():
-                self.known.newest = told
+                self.known.newest = newest
                 return
             if time.monotonic() > until:
                 self.is_failing = True
@@ -321,8 +322,8 @@ class Reading:
         self.read_minutes()
         answer = self.ask_again(Turn.STATUS)
         if isinstance(answer, Status):
-            self.opened_at = len(self.minutes.entries) - answer.behind
-            self.foretold = answer.stale
+            self.opened_at = len(self.minutes.entries) - answer.since
+            self.stale_preview = answer.stale
 
     def _accept(self, entry: Entry) -> bool:
         """Takes up an accepted draft, and answers whether it fits what is known."""
@@ -331,7 +332,7 @@ class Reading:
         for edit in entry.edits:
             shifts.append(shifts_of(edit, self.known.newest))
             fits = self.known.accept([edit]) and fits
-        self.news.hear(entry, shifts, now() if self.has_begun else "")
+        self.news.add(entry, shifts, now() if self.has_begun else "")
         return fits
 
     def changes_of(self, row: Row) -> list[Accepted]:

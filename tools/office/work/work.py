@@ -148,13 +148,13 @@ class Work:
                 code = "moved here" if is_here else "moved away"
                 if is_here and shift.was is not None and shift.was.slot == slot:
                     code = "new room here"
-                told = news.told(accepted)
-                because = say("because", why=told.why) if told.why else NOTHING
+                facts = news.facts(accepted)
+                because = say("because", why=facts.why) if facts.why else NOTHING
                 return say(
                     code,
                     who=news.who(accepted),
                     course=shift.course,
-                    time=told.time,
+                    time=facts.time,
                     because=because,
                 )
         return self._set_aside_here(slot)
