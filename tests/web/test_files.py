@@ -106,9 +106,11 @@ class Files(unittest.TestCase):
 
     @unittest.skipUnless(shutil.which("mypy"), "mypy is not installed, so no type was checked")
     def test_typed(self):
-        """Each function of the office and of `flags.py` has types, and they hold, in the oldest
+        """Each function of the office and of these tools has types, and they hold, in the oldest
         Python that runs it."""
         words = ["mypy", "--strict", "--python-version", "3.9", "--cache-dir", os.devnull]
-        words += ["-p", "office", "-m", "flags"]
+        words += ["-p", "office", "-p", "edits"]
+        for name in ("flags", "strip_checks", "gate"):
+            words += ["-m", name]
         done = subprocess.run(words, capture_output=True, text=True, cwd=TOOLS)
         self.assertEqual(done.returncode, 0, done.stdout + done.stderr)
