@@ -3,6 +3,7 @@ from __future__ import annotations
 
 from collections import Counter
 from dataclasses import dataclass
+
 from office.day.commit_notes import notes_path, read_commit_notes
 from office.day.folder import Day, file_size
 from office.day.lecture import Lecture
