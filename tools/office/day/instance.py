@@ -98,7 +98,7 @@ class Reader:
         return int(next(self.words))
 
     def headed(self) -> str:
-        """The word behind a fixed one."""
+        """The word after a fixed one."""
         self.word()
         return self.word()
 
