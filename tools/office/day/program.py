@@ -41,8 +41,11 @@ def build_words(program: list[str]) -> list[str]:
 
 
 def build(program: list[str]) -> None:
-    """Builds the program if need be. What that says of its time goes where the office's goes."""
+    """Builds the program if need be; another one is there as it is. What that says of its time goes
+    where the office's goes."""
     words = build_words(program)
+    if "--build" not in words:
+        return
     try:
         done = subprocess.run(words, stdout=subprocess.DEVNULL, check=False)
     except OSError as fault:
