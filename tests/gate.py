@@ -195,7 +195,7 @@ class Gate(SmallTree):
                     naps = (self.room / "naps").read_text().split()
                     time.sleep(0.05)
                 gate.send_signal(number)
-                printed, _ = gate.communicate(timeout=30)
+                printed, _ = gate.communicate(timeout=120)
                 self.assertEqual(gate.returncode, 128 + number, printed)
                 self.assertIn("FAILED: the run was ended before its end", printed)
                 self.assertNotIn("edits begins", printed)
