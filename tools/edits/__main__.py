@@ -26,6 +26,8 @@ from .standing import Standing
 from .trying import Tried, Trying, Verdict
 
 PAGE = "docs/EDITS.md"
+# such a refusal says little of a contract: it is told, and has no record
+TO_MEND = (Verdict.NAME_GONE, Verdict.UNTOLD)
 
 
 @dataclass
@@ -127,7 +129,7 @@ class Run:
         """Counts one edit that was tried."""
         label = f"{crate.name}/{now.edit}"
         outcome.tried += 1
-        if tried.verdict is Verdict.NAME_GONE:
+        if tried.verdict in TO_MEND:
             outcome.lines.append(f"{label}: TO MEND: {tried}")
         elif tried.verdict is not Verdict.REFUSED:
             outcome.failed += 1

@@ -20,6 +20,7 @@ class Verdict(enum.Enum):
 
     REFUSED = "refused"
     NAME_GONE = "refused only because a proof names what it takes away"
+    UNTOLD = "refused, but no goal of its functions is told"
     PASSED = "PASSED: the crate is still proved with it"
     LIMIT = "UNSURE: the prover met a limit of its own"
     BAD = "BAD EDIT"
@@ -214,7 +215,7 @@ class Trying:
         if said.faults and all(it.is_of_a_name for it in said.faults):
             first = said.faults[0]
             return Tried(Verdict.NAME_GONE, why=f"{first.path}:{first.line}: {first.text[:120]}")
-        return Tried(Verdict.UNSURE, why="no goal of its functions is told")
+        return Tried(Verdict.UNTOLD, why=said.last[:200])
 
     def _all(self, said: Said, texts: Mapping[str, str]) -> Tuple[Refusal, ...]:
         """What refuses an edit outside of bodies: goals of any function, else lemmas of a file."""
