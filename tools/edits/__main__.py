@@ -27,7 +27,7 @@ from .trying import Tried, Trying, Verdict
 
 PAGE = "docs/EDITS.md"
 # such a refusal says little of a contract: it is told, and has no record
-TO_MEND = (Verdict.NAME_GONE, Verdict.UNTOLD)
+TO_MEND = (Verdict.NAME_GONE, Verdict.UNTOLD, Verdict.LIMIT)
 
 
 @dataclass

@@ -22,7 +22,7 @@ class Verdict(enum.Enum):
     NAME_GONE = "refused only because a proof names what it takes away"
     UNTOLD = "refused, but no goal of its functions is told"
     PASSED = "PASSED: the crate is still proved with it"
-    LIMIT = "UNSURE: the prover met a limit of its own"
+    LIMIT = "refused only by a limit of the prover"
     BAD = "BAD EDIT"
     UNSURE = "UNSURE"
 
