@@ -11,7 +11,7 @@ from office.commands_blocking import add_blocks
 from office.commands_data import add_data
 from office.commands_past import add_past
 from office.day.folder import Day
-from office.refused import MACHINE, Refused
+from office.refused import MACHINE, Refused, sentence
 from office.web.launch import add_places, serve, web_of
 
 EXAMPLES = """a day, and the next one:
@@ -185,7 +185,7 @@ def main(typed: Optional[list[str]] = None) -> int:
         os.dup2(os.open(os.devnull, os.O_WRONLY), sys.stdout.fileno())
         return MACHINE
     except OSError as fault:
-        print("office:", fault, file=sys.stderr)
+        print("office:", sentence(fault), file=sys.stderr)
         return MACHINE
     except KeyboardInterrupt:
         return 130

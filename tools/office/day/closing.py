@@ -10,12 +10,13 @@ import time
 
 from office.day import processes
 from office.day.costs import costs_in_words
-from office.day.folder import Day, write_whole
+from office.day.folder import Day
 from office.day.next_part import rules_after
 from office.day.open_drafts import end_work
 from office.day.parts import Part, half_made, parts_of
 from office.day.pipes import remove_pipes
 from office.day.program import Left
+from office.day.safe_files import write_whole
 from office.refused import CONTENT, Refused
 from office.words.text import counted
 

@@ -1,79 +1,18 @@
-"""The folder of a day: the names of its files, what is known of the day, and who holds its
-locks."""
+"""The folder of a day: the names of its files, what is known of the day, and how far its office
+is."""
 from __future__ import annotations
 
-import contextlib
-import fcntl
 import json
 import os
-import time
 from typing import Any, Optional
 
+from office.day.safe_files import is_locked, read_text, write_whole
 from office.refused import Refused
 
 # how far an office is
 CHECKING, STARTING, OPEN, CHANGING, REOPENING, CLOSED = (
     "checking starting open changing reopening closed".split()
 )
-
-
-def lock(path: str, mode: int = 0o660, shared: bool = False) -> Optional[int]:
-    """Takes the lock of a file, which is made if it is not there; None if somebody has it."""
-    flags = os.O_RDONLY if shared else os.O_RDWR | os.O_CREAT
-    end = os.open(path, flags, mode)
-    # a status that looks whether somebody has the lock has it for a moment
-    for _ in range(1 if shared else 5):
-        with contextlib.suppress(OSError):
-            fcntl.flock(end, (fcntl.LOCK_SH if shared else fcntl.LOCK_EX) | fcntl.LOCK_NB)
-            return end
-        time.sleep(0.0 if shared else 0.02)
-    os.close(end)
-    return None
-
-
-def is_locked(path: str) -> bool:
-    """Whether somebody has the lock of a file; not if the file is not there."""
-    try:
-        end = lock(path, shared=True)
-    except FileNotFoundError:
-        return False
-    if end is None:
-        return True
-    os.close(end)
-    return False
-
-
-def write_whole(path: str, text: bytes, mode: int = 0o660) -> None:
-    """Writes a file so that it is there whole or not at all."""
-    new = path + ".new"
-    try:
-        end = os.open(new, os.O_WRONLY | os.O_CREAT | os.O_TRUNC, mode)
-        with open(end, "wb") as file:
-            file.write(text)
-            file.flush()
-            os.fsync(file.fileno())
-        os.replace(new, path)
-    except OSError as fault:
-        with contextlib.suppress(OSError):
-            os.remove(new)
-        raise Refused(f"cannot write {path}: {fault.strerror}") from None
-
-
-def read_text(path: str) -> str:
-    """The text of a file, empty if it is not there."""
-    try:
-        with open(path, encoding="utf-8", errors="surrogateescape", newline="") as file:
-            return file.read()
-    except FileNotFoundError:
-        return ""
-
-
-def file_size(path: str) -> int:
-    """How long a file is, 0 if it cannot be seen."""
-    try:
-        return os.stat(path).st_size
-    except OSError:
-        return 0
 
 
 class Day:

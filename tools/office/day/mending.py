@@ -11,10 +11,11 @@ from office.data.label_files import read_labels
 from office.day import processes
 from office.day.desk_words import decoded, encoded, words_of
 from office.day.file_faults import POINT, explained
-from office.day.folder import Day, write_whole
+from office.day.folder import Day
 from office.day.instance import Instance, read_barred, read_instance, read_solution
 from office.day.parts import Part
 from office.day.processes import Signals
+from office.day.safe_files import write_whole
 from office.day.timetable import Lecture
 from office.refused import Silent
 from office.words.notice import say

@@ -10,11 +10,11 @@ from typing import Optional, Sequence
 
 from office.day import mending, processes
 from office.day.closures_file import blocked_text, closures_end, standing_of
-from office.day.folder import write_whole
 from office.day.instance import Instance
 from office.day.parts import Part
 from office.day.processes import Signals
 from office.day.program import run_on_files
+from office.day.safe_files import write_whole
 from office.refused import Refused, Silent
 
 

@@ -11,12 +11,13 @@ from typing import Optional
 from office.day import processes
 from office.day.closures_file import closures_end, closures_size
 from office.day.file_faults import POINT
-from office.day.folder import CHANGING, CLOSED, OPEN, REOPENING, STARTING, Day, write_whole
+from office.day.folder import CHANGING, CLOSED, OPEN, REOPENING, STARTING, Day
 from office.day.next_part import NewPart, rules_after
 from office.day.open_drafts import end_work
 from office.day.parts import Part
 from office.day.pipes import HeldSeats
 from office.day.processes import Signals, Stopped
+from office.day.safe_files import write_whole
 from office.refused import Refused, Silent
 from office.words.announce import announce
 

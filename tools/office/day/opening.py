@@ -20,13 +20,14 @@ from office.day.closures_file import (
     standing,
 )
 from office.day.desk_words import encoded
-from office.day.folder import CHECKING, Day, lock, write_whole
+from office.day.folder import CHECKING, Day
 from office.day.instance import Instance, completion_words, read_instance
 from office.day.open_office import Running, keep
 from office.day.parts import FIRST, Part, last_part
 from office.day.pins import pins_path
 from office.day.processes import Signals, Stopped
 from office.day.program import build_words, program_words, run_on_files
+from office.day.safe_files import lock, write_whole
 from office.refused import Refused, Silent
 from office.seat.seat import user_name
 from office.words.announce import announce

@@ -11,9 +11,10 @@ from typing import Any, NamedTuple
 from office.day.closure import Closure
 from office.day.closures_file import read_closures, standing_of
 from office.day.desk_words import words_of
-from office.day.folder import Day, read_text
+from office.day.folder import Day
 from office.day.instance import Instance, read_instance, read_solution
 from office.day.minutes import Entry, Minutes
+from office.day.safe_files import read_text
 from office.day.timetable import Lecture
 from office.refused import Refused
 

@@ -12,9 +12,9 @@ from typing import Any, Mapping, Optional, Sequence
 from office.day import processes
 from office.day.desk_words import decoded
 from office.day.file_faults import NO_NAMES, POINT, explained
-from office.day.folder import write_whole
 from office.day.parts import Part
 from office.day.processes import Signals
+from office.day.safe_files import write_whole
 from office.refused import MACHINE, Refused, Silent
 
 # the folder that has `timedesk` and `office`

@@ -10,7 +10,7 @@ import time
 from office.day import processes
 from office.day.closing import send
 from office.day.closures_file import closures_end
-from office.day.folder import CHECKING, CLOSED, REOPENING, Day, lock
+from office.day.folder import CHECKING, CLOSED, REOPENING, Day
 from office.day.next_part import NewPart, rules_after
 from office.day.open_drafts import end_work
 from office.day.open_office import Running, keep
@@ -18,6 +18,7 @@ from office.day.parts import Part, half_made, last_part
 from office.day.pipes import remove_pipes
 from office.day.processes import Signals, Stopped
 from office.day.program import build_words, program_words
+from office.day.safe_files import lock
 from office.refused import Refused
 from office.words.announce import announce
 

@@ -8,7 +8,7 @@ import stat
 from typing import Sequence
 
 from office.day.desk_words import encoded, words_of
-from office.day.folder import read_text
+from office.day.safe_files import read_text
 
 
 def one_line(text: str) -> str:

@@ -8,9 +8,10 @@ from typing import Optional
 from office.data.label_files import read_labels
 from office.day.closures_file import standing_of
 from office.day.costs import costs_in_words
-from office.day.folder import Day, is_locked
+from office.day.folder import Day
 from office.day.parts import FIRST, Part, instance_of, last_part, read_entries
 from office.day.pins import read_pins
+from office.day.safe_files import is_locked
 from office.past.authors import read_pasts
 from office.past.replay import play_costs
 from office.past.timetable_at import read_at

@@ -6,7 +6,8 @@ import secrets
 import time
 from typing import NamedTuple, Optional
 
-from office.day.folder import Day, is_locked, lock, read_text, write_whole
+from office.day.folder import Day
+from office.day.safe_files import is_locked, lock, read_text, write_whole
 from office.refused import Refused
 
 READER = "reader"
