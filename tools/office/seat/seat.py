@@ -11,10 +11,11 @@ import time
 from typing import Callable, Optional
 
 from office.day.desk_words import decoded, encoded, has_words
-from office.day.folder import Day, lock, read_text
+from office.day.folder import Day
 from office.day.open_drafts import end_work
 from office.day.parts import last_part, read_parts
 from office.day.processes import now
+from office.day.safe_files import lock, open_pipe, read_text
 from office.refused import Refused
 from office.seat.seat_log import SeatLog, read_past, settle
 
@@ -90,21 +91,35 @@ class Seat:
         if not day.is_ready():
             why = "the office is not open yet in" if day.is_open() else "no office is open in"
             raise Refused(f"{why} {day.path}")
-        self._lock = self._take_lock()
-        # the part of the day of which the desk answers here
-        self.part = last_part(day)
-        self._lines, self.answers = self._open_pipes()
-        self.log = SeatLog(day.log(planner))
-        # what the log said when this client had heard what was under way
-        self.past = past = read_past(day.log(planner))
-        self.story, self.waiting, self.offer = past.story, past.waiting, past.offer
-        # whose draft is here, if it is somebody else's
-        self.owner = past.owner() if past.owner() != self.name else ""
+        self._lines = self.answers = self._lock = CLOSED
+        # what is closed when the planner goes away, or cannot sit down
+        self._left = contextlib.ExitStack()
+        self._left.callback(self._close_ends)
         self._heard = b""
         # the drafts that were accepted, and the lines that were sent, of which no answer was heard
         # before the last part ended
         self.settled: list[int] = []
         self.unanswered: list[str] = []
+        try:
+            self._sit_down()
+        except BaseException:
+            self._left.close()
+            raise
+
+    def _sit_down(self) -> None:
+        """Takes the seat, opens its pipes, and reads its log."""
+        self._lock = self._take_lock()
+        # the part of the day of which the desk answers here
+        self.part = last_part(self.day)
+        self._lines, self.answers = self._open_pipes()
+        log = self.day.log(self.planner)
+        self.log = SeatLog(log)
+        self._left.callback(self.log.close)
+        # what the log said when this client had heard what was under way
+        self.past = past = read_past(log)
+        self.story, self.waiting, self.offer = past.story, past.waiting, past.offer
+        # whose draft is here, if it is somebody else's
+        self.owner = past.owner() if past.owner() != self.name else ""
         if past.part != self.part.number:
             self._begin_part()
         self.log.noted(f"sits {self.name}")
@@ -118,21 +133,39 @@ class Seat:
         if found is None:
             name, since = read_sitter(self.day, self.planner)
             raise Refused(f"{name or 'somebody'} sits at seat {self.planner}, since {since[11:16]}")
+        # on a disk that is full one sits without a name
         with contextlib.suppress(OSError):
             os.fchmod(found, 0o660)
-        os.ftruncate(found, 0)
-        os.pwrite(found, f"{self.name}\n{now()}\n{os.getpid()}\n".encode(), 0)
+        with contextlib.suppress(OSError):
+            os.ftruncate(found, 0)
+            os.pwrite(found, encoded(f"{self.name}\n{now()}\n{os.getpid()}\n"), 0)
         return found
 
     def _open_pipes(self) -> tuple[int, int]:
         seat = self.day.seat(self.planner)
         try:
-            lines = os.open(seat + ".in", os.O_WRONLY | os.O_NONBLOCK)
-            return lines, os.open(seat + ".out", os.O_RDONLY | os.O_NONBLOCK)
+            lines = open_pipe(seat + ".in", os.O_WRONLY)
         except OSError as fault:
-            if fault.errno in (errno.ENXIO, errno.ENOENT):
-                raise Refused(f"nobody answers at seat {self.planner}: it has ended") from None
-            raise Refused(f"cannot sit at seat {self.planner}: {fault.strerror}") from None
+            raise self._silent(fault) from None
+        try:
+            return lines, open_pipe(seat + ".out", os.O_RDONLY)
+        except OSError as fault:
+            os.close(lines)
+            raise self._silent(fault) from None
+
+    def _silent(self, fault: OSError) -> Refused:
+        """Why nobody can sit at the seat whose pipes cannot be opened."""
+        if fault.errno in (errno.ENXIO, errno.ENOENT):
+            return Refused(f"nobody answers at seat {self.planner}: it has ended")
+        return Refused(f"cannot sit at seat {self.planner}: {fault.strerror}")
+
+    def _close_ends(self) -> None:
+        """Closes what is open, the lock last."""
+        ends = self._lines, self.answers, self._lock
+        self._lines = self.answers = self._lock = CLOSED
+        for end in ends:
+            if end != CLOSED:
+                os.close(end)
 
     def go(self) -> None:
         """Goes away: the desk goes on, and an open draft stays as it is."""
@@ -140,10 +173,7 @@ class Seat:
             self.log.noted("went away")
         if not self.story.is_open:
             end_work(self.day, self.planner)
-        for end in (self._lines, self.answers, self._lock):
-            if end != CLOSED:
-                os.close(end)
-        self.log.close()
+        self._left.close()
 
     # from one part of the day to the next
 

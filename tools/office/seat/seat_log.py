@@ -16,12 +16,14 @@ from typing import Optional
 
 from office.day.desk_words import encoded, has_words
 from office.day.edits import Story, is_edit
-from office.day.folder import read_text
 from office.day.minutes import Entry
 from office.day.processes import now
+from office.day.safe_files import open_or_make, read_text
 from office.refused import Refused
 
 SENT, HEARD, NOTED = ">", "<", "="
+# no file
+CLOSED = -1
 # answers to looks can be long, and are not what a draft is made of: so much of them is in the log
 LONGEST_LOOK = 200
 LOOKS = ("lectures ", "prices ", "missing ")
@@ -34,11 +36,14 @@ class SeatLog:
 
     def __init__(self, path: str) -> None:
         try:
-            self.end = os.open(path, os.O_RDWR | os.O_CREAT | os.O_APPEND, 0o600)
+            self.end = open_or_make(path, os.O_RDWR | os.O_APPEND, 0o600)
         except PermissionError:
             raise Refused(f"the log {path} is another planner's: this seat is his") from None
         except OSError as fault:
             raise Refused(f"cannot write {path}: {fault.strerror}") from None
+        if os.fstat(self.end).st_uid != os.geteuid():
+            os.close(self.end)
+            raise Refused(f"the log {path} is another planner's: this seat is his")
         size = os.fstat(self.end).st_size
         # what is to be written; a line that was cut by a crash ends first
         is_cut = size and os.pread(self.end, 1, size - 1) != b"\n"
@@ -80,7 +85,9 @@ class SeatLog:
             self.fault = fault.strerror or "the disk fails"
 
     def close(self) -> None:
+        """Nothing is written from now on."""
         os.close(self.end)
+        self.end = CLOSED
 
 
 @dataclass

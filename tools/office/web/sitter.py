@@ -9,9 +9,9 @@ from functools import partial
 from typing import Any, Callable, Optional
 
 from office.day.costs import COSTS
-from office.day.folder import Day, is_locked
-from office.refused import Refused
-from office.seat.seat import DEAD, DeskEnded, NoAnswer, Seat, read_sitter
+from office.day.folder import Day
+from office.day.safe_files import is_locked
+from office.seat.seat import DeskEnded, NoAnswer, Seat, read_sitter
 from office.web.action_names import key_table
 from office.web.frame import Frame
 from office.web.guard import Fault
@@ -19,6 +19,7 @@ from office.web.messages import notice_data, question_data
 from office.web.news_sent import Heard, last_news
 from office.web.picture import Picture
 from office.web.questions import WHY, Shown
+from office.web.seat_faults import LOST, fault_of
 from office.web.verbs import CHANGES, VERBS, Request, Turn, hold_again
 from office.web.windows import Window, Windows
 from office.words.notice import NOTHING, Question, say
@@ -30,8 +31,6 @@ from office.work.work import Work
 # so many requests of a seat may wait for their turn; a seat without a window is left after so many
 # seconds; letters of a name
 WAIT, IDLE, NAME = 16, 30.0, 40
-# the status of a seat whose desk has ended or does not answer
-LOST = 503
 # what changes nothing
 LOOKS = ("show", "next_week", "about", "offers", "print", "close")
 FAREWELL = (
@@ -96,20 +95,22 @@ class Sitter:
 
     def _do(self, work: Callable[[], Data], is_look: bool) -> Data:
         try:
+            return self._done(work, is_look)
+        except Exception as thrown:
+            fault = fault_of(thrown)
+            if fault.status == LOST:
+                self._go()
+            raise fault from None
+
+    def _done(self, work: Callable[[], Data], is_look: bool) -> Data:
+        try:
             if is_look or not self._is_over():
                 return work()
-            self._step_over()
-            return {}
-        except Refused as refused:
-            raise Fault(409, refused.reason) from None
-        except (DeskEnded, NoAnswer) as fault:
-            with contextlib.suppress(DeskEnded, NoAnswer):
-                if self._is_over():
-                    self._step_over()
-                    return work() if is_look else {}
-            self._go()
-            told = DEAD if isinstance(fault, DeskEnded) else "the desk does not answer"
-            raise Fault(LOST, told) from None
+        except (DeskEnded, NoAnswer):
+            if not self._is_over():
+                raise
+        self._step_over()
+        return work() if is_look else {}
 
     # in the seat's thread
 
@@ -146,16 +147,16 @@ class Sitter:
 
     def _sit(self, name: str) -> None:
         seat = Seat(self.day, self.planner, name)
-        planning = Planning(seat, self.frame.instance)
-        seat.waits = partial(self._tell_waiting, seat)
         try:
+            planning = Planning(seat, self.frame.instance)
+            seat.waits = partial(self._tell_waiting, seat)
             self.begun = Work(planning)
             self.first = self.begun.begin()
+            self.heard = Heard(planning, self.frame.wording)
         except BaseException:
             seat.go()
             raise
         self.planning, self.name = planning, name
-        self.heard = Heard(planning, self.frame.wording)
         self.prices.clear()
 
     def _tell_waiting(self, seat: Seat, seconds: float) -> None:
