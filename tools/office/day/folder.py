@@ -3,6 +3,7 @@ is."""
 from __future__ import annotations
 
 import json
+import math
 import os
 from typing import Any, Optional
 
@@ -100,9 +101,10 @@ class Day:
     def closes_at(self) -> Optional[float]:
         """When the seats are closed, in seconds of the epoch, if the office is closing."""
         try:
-            return float(read_text(self.closing))
-        except ValueError:
+            found = float(read_text(self.closing))
+        except (OSError, ValueError):
             return None
+        return found if math.isfinite(found) else None
 
     def barred_words(self) -> list[str]:
         """The option for barred rooms, if the day has any."""

@@ -18,6 +18,7 @@ from office.day.parts import Part
 from office.day.pipes import HeldSeats
 from office.day.processes import Signals, Stopped
 from office.day.safe_files import write_whole
+from office.day.web_beside import WebBeside
 from office.refused import Refused, Silent
 from office.words.announce import announce
 
@@ -37,6 +38,7 @@ class Running:
         self.planners, self.lock, self.signals = planners, lock, signals
         self.program: list[str] = []
         self.seats = HeldSeats()
+        self.web = WebBeside([])
         self.desk: Optional[subprocess.Popen[bytes]] = None
         # how long the closures were when it was looked whether they change the rules, and when it
         # is looked again although they are as long as then
@@ -93,6 +95,7 @@ class Running:
         assert self.desk is not None
         while self.desk.poll() is None and not self.signals.count:
             self.signals.wait(PACE)
+            self.web.look()
             if closures_size(self.day) != self.looked or time.monotonic() > self.again:
                 self.look()
         if self.desk.poll() is None:
@@ -180,18 +183,15 @@ def keep(running: Running, web_words: list[str]) -> int:
         f"open, seats 0 to {running.planners - 1}: office sit {day.path} PLANNER; "
         f"Ctrl-C, or office close {day.path}, closes it"
     )
-    web = processes.start(web_words, None) if web_words else None
+    running.web = WebBeside(web_words)
+    running.web.start()
     status = 0
     try:
         with contextlib.suppress(Stopped):
             status = running.keep()
     finally:
         running.forget()
-        if web is not None:
-            # it sees that the day is closed, and says so in its windows
-            with contextlib.suppress(subprocess.TimeoutExpired):
-                web.wait(processes.GRACE)
-            processes.end(web)
+        running.web.end()
     if status < 0 and not signals.count:
         announce(
             f"the desk has ended {processes.how_ended(status)}; "

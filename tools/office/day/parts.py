@@ -22,6 +22,14 @@ FOLDER = re.compile(r"part([1-9][0-9]*)\Z")
 FIRST = 1
 
 
+def is_part(found: Any) -> bool:
+    """Whether a file has said when a part began, and how much it has taken up."""
+    if not isinstance(found, dict) or not isinstance(found.get("begun"), str):
+        return False
+    taken = found.get("closures", 0)
+    return isinstance(taken, int) and taken >= 0
+
+
 class Part:
     """A part of a day, by its number from 1."""
 
@@ -58,6 +66,8 @@ class Part:
             found = json.loads(read_text(self.facts_file))
         except (OSError, ValueError) as fault:
             raise Refused(f"cannot read {self.facts_file}: {fault}") from None
+        if not is_part(found):
+            raise Refused(f"cannot read {self.facts_file}: it has no facts of a part")
         return dict(found)
 
     def taken(self) -> int:

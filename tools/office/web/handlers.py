@@ -11,14 +11,16 @@ import tornado.iostream
 import tornado.web
 from tornado import httputil
 
+from office.web.connections import TAKES
 from office.web.guard import ALWAYS, Fault, Head, media_type
+from office.web.seat_faults import fault_of
 
 if TYPE_CHECKING:
     from office.web.server import Office
     from office.web.windows import Window
 
-# seconds between two signs of life, and that one who listens may take to hear something
-ALIVE, TAKES = 15.0, 20.0
+# seconds between two signs of life
+ALIVE = 15.0
 WINDOW = "X-Window"
 Data = dict[str, Any]
 
@@ -102,10 +104,12 @@ class PageFile(Handler):
 class Keyed(Handler):
     """A request of somebody who has a key."""
 
+    listens = False
+
     def check(self) -> None:
         self.office.guard.check_origin(self.asked)
         self.who = self.office.guard.who(self.asked)
-        self.office.connections.is_known(self.request)
+        self.office.connections.is_known(self.request, self.who, self.listens)
 
     @property
     def window(self) -> str:
@@ -134,6 +138,8 @@ class Verb(Keyed):
             self.answer(await self.office.answer(self.who, self.window, verb, told))
         except Fault as fault:
             self.refuse(fault)
+        except Exception as thrown:
+            self.refuse(fault_of(thrown))
 
     def told(self) -> Data:
         """What the request says."""
@@ -149,6 +155,7 @@ class Verb(Keyed):
 class NewsStream(Keyed):
     """What changes, a line of JSON each, as long as the window listens."""
 
+    listens = True
     listened: Optional[Window] = None
 
     def check(self) -> None:

@@ -22,6 +22,8 @@ Data = dict[str, Any]
 class Readers:
     """Those who have the reader's link."""
 
+    called = "who reads"
+
     def __init__(self, day: Day, frame: Frame) -> None:
         self.frame = frame
         self.windows = Windows(MOST)

@@ -12,8 +12,8 @@ from office.web.guard import Fault
 LOST = 503
 SILENT = "the desk does not answer"
 FAILED = (
-    "something has failed at this seat, and the office's terminal says what; what was committed is "
-    "on the disk, and open edits are there when you sit down again"
+    "something has failed here, and the office's terminal says what; what was committed is "
+    "on the disk, and open edits are in the log of their seat"
 )
 
 

@@ -45,7 +45,7 @@ class Sitter:
 
     def __init__(self, day: Day, planner: int, frame: Frame) -> None:
         self.day, self.planner, self.frame = day, planner, frame
-        self.windows = Windows()
+        self.windows, self.called = Windows(), f"seat {planner}"
         self.planning: Optional[Planning] = None
         self.name = ""
         # what is asked of who has sat down, until it is answered in one of his windows
