@@ -137,6 +137,33 @@ class Files(WebTest):
             end.close()
         self.assertEqual(self.ask("hello", {"name": "anna"})[0], 200)
 
+    def test_unread(self):
+        """Who does not take his answers is let go."""
+        self.open("day", SMALL, "1")
+        self.serve("day")
+        host, port = self.address().split(":")
+        with socket.create_connection((host, int(port)), timeout=60) as end:
+            end.setsockopt(socket.SOL_SOCKET, socket.SO_RCVBUF, 4096)
+            page = f"GET /seat.js HTTP/1.1\r\nHost: {self.address()}\r\n\r\n".encode()
+            end.settimeout(1)
+            with contextlib.suppress(OSError):
+                end.sendall(5000 * page)
+            end.settimeout(60)
+            gone = lambda: self.is_gone(end, page)  # noqa: E731
+            self.assertTrue(wait_until(gone, 60))
+
+    @staticmethod
+    def is_gone(end, text):
+        time.sleep(1.0)
+        try:
+            end.settimeout(0.2)
+            end.sendall(text)
+        except socket.timeout:
+            return False
+        except OSError:
+            return True
+        return False
+
 
 @skip_without_tornado
 class Again(WebTest):

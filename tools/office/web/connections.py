@@ -7,7 +7,7 @@ import errno
 import resource
 import socket as sockets
 from collections import OrderedDict
-from typing import Any
+from typing import Any, Awaitable
 
 import tornado.httpserver
 from tornado import httputil
@@ -103,6 +103,17 @@ class Connections:
 
 def stream_of(request: httputil.HTTPServerRequest) -> IOStream:
     return request.connection.stream  # type: ignore[union-attr,no-any-return]
+
+
+def must_take(request: httputil.HTTPServerRequest, sent: Awaitable[None]) -> None:
+    """Ends the connection of who does not take an answer in time."""
+    stream, future = stream_of(request), asyncio.ensure_future(sent)
+
+    def look() -> None:
+        if not future.done():
+            stream.close()
+
+    asyncio.get_running_loop().call_later(TAKES, look)
 
 
 class Listener(tornado.httpserver.HTTPServer):

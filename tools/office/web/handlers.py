@@ -5,13 +5,14 @@ import asyncio
 import json
 import sys
 import traceback
+from asyncio import Future
 from typing import Any, Optional, TYPE_CHECKING
 
 import tornado.iostream
 import tornado.web
 from tornado import httputil
 
-from office.web.connections import TAKES
+from office.web.connections import TAKES, must_take, stream_of
 from office.web.guard import ALWAYS, Fault, Head, media_type
 from office.web.seat_faults import fault_of
 
@@ -72,6 +73,11 @@ class Handler(tornado.web.RequestHandler):
     def answer(self, data: Data) -> None:
         self.set_header("Content-Type", "application/json")
         self.write(json_of(data))
+
+    def finish(self, chunk: Any = None) -> Future[None]:
+        sent = super().finish(chunk)
+        must_take(self.request, sent)
+        return sent
 
     def write_error(self, status_code: int, **more: Any) -> None:
         self.finish(json_of({"fault": f"status {status_code}"}))
@@ -181,8 +187,10 @@ class NewsStream(Keyed):
                 if event is None:
                     break
                 await self.tell(json_of(event) + b"\n" if event else b"\n")
-        except (tornado.iostream.StreamClosedError, asyncio.TimeoutError):
+        except tornado.iostream.StreamClosedError:
             pass
+        except asyncio.TimeoutError:
+            stream_of(self.request).close()
         finally:
             listened.end()
 
