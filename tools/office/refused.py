@@ -22,6 +22,11 @@ class Silent(Refused):
         super().__init__("", status)
 
 
+def reason_of(fault: Exception) -> str:
+    """Why something was not done, in one line."""
+    return sentence(fault) if isinstance(fault, OSError) else str(fault)
+
+
 def sentence(fault: OSError) -> str:
     """What the system refuses, with the name of the file."""
     why = fault.strerror or str(fault)

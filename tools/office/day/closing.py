@@ -16,7 +16,7 @@ from office.day.open_drafts import end_work
 from office.day.parts import Part, half_made, parts_of
 from office.day.pipes import remove_pipes
 from office.day.program import Left
-from office.day.safe_files import write_whole
+from office.day.safe_files import read_whole, write_whole
 from office.refused import CONTENT, Refused
 from office.words.text import counted
 
@@ -96,9 +96,7 @@ class Disagrees(Refused):
 def check_start(part: Part, end: bytes) -> None:
     """Checks that a part begins with what the one before has left, as far as it can stand under the
     rules of the part."""
-    with open(part.start, "rb") as file:
-        start = file.read()
-    if Left(part, quiet=True).mended(end) != start:
+    if Left(part, quiet=True).mended(end) != read_whole(part.start):
         told = f"part {part.number} does not begin where part {part.number - 1} ended"
         raise Disagrees(part, f"{part.day.path}: {told}", told)
 
@@ -117,8 +115,7 @@ def audit_parts(day: Day) -> bytes:
 
 def count_of(part: Part) -> int:
     """How many drafts the journal of a part has."""
-    with open(part.journal, "rb") as file:
-        return int(file.readline().split()[1])
+    return int(read_whole(part.journal).split(None, 2)[1])
 
 
 def write_audit(day: Day) -> bytes:

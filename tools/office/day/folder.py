@@ -7,13 +7,29 @@ import math
 import os
 from typing import Any, Optional
 
-from office.day.safe_files import is_locked, read_text, write_whole
+from office.day.safe_files import is_locked, must_be_own, read_text, read_whole, write_whole
 from office.refused import Refused
 
+# planners of a day at most
+SEATS = 64
 # how far an office is
 CHECKING, STARTING, OPEN, CHANGING, REOPENING, CLOSED = (
     "checking starting open changing reopening closed".split()
 )
+
+
+def is_day(found: Any) -> bool:
+    """Whether a file has said how many planners a day has, by which program, and since when."""
+    if not isinstance(found, dict) or not isinstance(found.get("opened"), str):
+        return False
+    words, after = found.get("program"), found.get("after")
+    has_words = isinstance(words, list) and words and all(isinstance(one, str) for one in words)
+    is_counted = is_count(found.get("planners"), 1, SEATS) and is_count(found.get("closures", 0))
+    return bool(has_words and is_counted and (after is None or isinstance(after, str)))
+
+
+def is_count(found: Any, least: int = 0, most: float = math.inf) -> bool:
+    return isinstance(found, int) and not isinstance(found, bool) and least <= found <= most
 
 
 class Day:
@@ -62,17 +78,18 @@ class Day:
 
     def facts(self) -> dict[str, Any]:
         try:
-            with open(self.facts_file, encoding="utf-8") as file:
-                found = json.load(file)
+            found = json.loads(read_whole(self.facts_file, must_be_own))
         except FileNotFoundError:
             raise Refused(f"{self.path} is not the folder of a day") from None
         except PermissionError:
             raise Refused(f"the folder {self.path} is closed to you") from None
-        except (OSError, ValueError) as fault:
+        except OSError as fault:
+            raise Refused(f"cannot read {self.facts_file}: {fault.strerror}") from None
+        except (ValueError, RecursionError) as fault:
             raise Refused(f"cannot read {self.facts_file}: {fault}") from None
-        if not isinstance(found, dict):
+        if not is_day(found):
             raise Refused(f"cannot read {self.facts_file}: it has no facts of a day")
-        return found
+        return dict(found)
 
     def write_facts(self, facts: dict[str, Any]) -> None:
         text = json.dumps(facts, indent=1, ensure_ascii=True) + "\n"
@@ -101,7 +118,7 @@ class Day:
     def closes_at(self) -> Optional[float]:
         """When the seats are closed, in seconds of the epoch, if the office is closing."""
         try:
-            found = float(read_text(self.closing))
+            found = float(read_text(self.closing, must_be_own))
         except (OSError, ValueError):
             return None
         return found if math.isfinite(found) else None

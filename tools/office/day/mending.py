@@ -15,7 +15,7 @@ from office.day.folder import Day
 from office.day.instance import Instance, read_barred, read_instance, read_solution
 from office.day.parts import Part
 from office.day.processes import Signals
-from office.day.safe_files import write_whole
+from office.day.safe_files import make_anew, write_whole
 from office.day.timetable import Lecture
 from office.refused import Silent
 from office.words.notice import say
@@ -82,7 +82,8 @@ def mend(
     known = part.file("known.sol")
     write_solution(known, left)
     words = [*program, "mend", part.day.instance, known, *part.side_words(), POINT]
-    with open(part.start, "wb") as start, open(part.aside, "w+b") as aside:
+    ends = make_anew(part.start, 0o640), make_anew(part.aside, 0o640, os.O_RDWR)
+    with open(ends[0], "wb") as start, open(ends[1], "w+b") as aside:
         aside.write(encoded("".join(lines)))
         aside.flush()
         status = processes.run(signals, words, stdout=start, stderr=aside)

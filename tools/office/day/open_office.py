@@ -17,9 +17,9 @@ from office.day.open_drafts import end_work
 from office.day.parts import Part
 from office.day.pipes import HeldSeats
 from office.day.processes import Signals, Stopped
-from office.day.safe_files import write_whole
+from office.day.safe_files import has_loose_names, write_whole
 from office.day.web_beside import WebBeside
-from office.refused import Refused, Silent
+from office.refused import Refused, Silent, reason_of
 from office.words.announce import announce
 
 # how many seconds those who sit have when the office is closed by a signal, and for the way to the
@@ -133,9 +133,18 @@ class Running:
     def look(self) -> None:
         """Changes the rules, if something is blocked or lifted since they were made."""
         self.looked, self.again = closures_size(self.day), NEVER
-        taken = rules_after(self.part, self.part.instance())
+        try:
+            taken = rules_after(self.part, self.part.instance())
+        except (Refused, OSError) as fault:
+            self.rules_stay(reason_of(fault))
+            return
         if taken is not None:
             self.change(taken)
+
+    def rules_stay(self, why: str) -> None:
+        """Says why the rules cannot be changed just now. It is tried again."""
+        announce(f"the rules stay as they are, for now: {why}")
+        self.again = time.monotonic() + LATER
 
     def change(self, taken: int) -> None:
         """The desk ends, and another one begins with what it has left, less what cannot stand any
@@ -145,9 +154,7 @@ class Running:
         try:
             new.begin(taken)
         except (Refused, OSError) as fault:
-            told = str(fault) or "the program does not read the new ones"
-            announce(f"the rules stay as they are, for now: {told}")
-            self.again = time.monotonic() + LATER
+            self.rules_stay(reason_of(fault) or "the program does not read the new ones")
             return
         announce("the rules change: the desk ends, and another one opens")
         self.note(CHANGING)
@@ -183,6 +190,8 @@ def keep(running: Running, web_words: list[str]) -> int:
         f"open, seats 0 to {running.planners - 1}: office sit {day.path} PLANNER; "
         f"Ctrl-C, or office close {day.path}, closes it"
     )
+    if has_loose_names(day.path):
+        announce(f"others can put files of theirs in the place of the day's: chmod +t {day.path}")
     running.web = WebBeside(web_words)
     running.web.start()
     status = 0

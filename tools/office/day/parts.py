@@ -11,7 +11,7 @@ from typing import Any, NamedTuple
 from office.day.closure import Closure
 from office.day.closures_file import read_closures, standing_of
 from office.day.desk_words import words_of
-from office.day.folder import Day
+from office.day.folder import Day, is_count
 from office.day.instance import Instance, read_instance, read_solution
 from office.day.minutes import Entry, Minutes
 from office.day.safe_files import read_text
@@ -26,8 +26,7 @@ def is_part(found: Any) -> bool:
     """Whether a file has said when a part began, and how much it has taken up."""
     if not isinstance(found, dict) or not isinstance(found.get("begun"), str):
         return False
-    taken = found.get("closures", 0)
-    return isinstance(taken, int) and taken >= 0
+    return is_count(found.get("closures", 0))
 
 
 class Part:

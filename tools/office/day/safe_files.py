@@ -9,7 +9,7 @@ import fcntl
 import os
 import stat
 import time
-from typing import Optional
+from typing import Callable, Optional
 
 from office.refused import Refused
 
@@ -17,6 +17,8 @@ from office.refused import Refused
 GUARDED = os.O_NOFOLLOW | os.O_NONBLOCK | os.O_CLOEXEC
 # who may not write a file that its owner alone writes
 OTHERS = stat.S_IWGRP | stat.S_IWOTH
+# what refuses a file by its owner and its mode
+Check = Callable[[int, str], None]
 # how often a file is tried that comes and goes
 TRIES = 5
 
@@ -89,11 +91,17 @@ def open_or_make(path: str, flags: int, mode: int) -> int:
     raise unsafe(path, "it comes and goes")
 
 
-def make_anew(path: str, mode: int) -> int:
+def make_anew(path: str, mode: int, flags: int = os.O_WRONLY) -> int:
     """Makes a file to be written; what stood there, by whomever, is gone."""
     with contextlib.suppress(FileNotFoundError):
         os.remove(path)
-    return _open(path, os.O_WRONLY | os.O_CREAT | os.O_EXCL, mode)
+    return _open(path, flags | os.O_CREAT | os.O_EXCL, mode)
+
+
+def share(end: int, mode: int = 0o660) -> None:
+    """Opens a file to those of the folder's group, as far as it is one's own."""
+    with contextlib.suppress(OSError):
+        os.fchmod(end, mode)
 
 
 def sync(path: str) -> None:
@@ -105,6 +113,10 @@ def sync(path: str) -> None:
         os.close(end)
 
 
+def anyone(end: int, path: str) -> None:
+    """A file may be anybody's."""
+
+
 def must_be_own(end: int, path: str) -> None:
     """Refuses a file that neither who asks nor the owner of its folder has made, or that others can
     write, in a folder into which they can."""
@@ -113,6 +125,20 @@ def must_be_own(end: int, path: str) -> None:
         raise unsafe(path, "it is another user's")
     if found.st_mode & OTHERS and folder.st_mode & OTHERS:
         raise unsafe(path, "others can write it: chmod go-w takes that away")
+
+
+def has_loose_names(folder: str) -> bool:
+    """Whether others can take away, or rename, what is in a folder and is not theirs."""
+    mode = os.stat(folder).st_mode
+    return bool(mode & OTHERS) and not mode & stat.S_ISVTX
+
+
+def must_be_secret(end: int, path: str) -> None:
+    """Refuses a file that others can read."""
+    must_be_own(end, path)
+    mode = stat.S_IMODE(os.fstat(end).st_mode)
+    if mode & (stat.S_IRWXG | stat.S_IRWXO):
+        raise unsafe(path, f"others can read it (mode {mode:04o}): chmod 600 takes that away")
 
 
 def lock(path: str, mode: int = 0o660, shared: bool = False) -> Optional[int]:
@@ -156,18 +182,17 @@ def write_whole(path: str, text: bytes, mode: int = 0o640) -> None:
         raise Refused(f"cannot write {path}: {fault.strerror}") from None
 
 
-def read_whole(path: str, is_own: bool = False) -> bytes:
-    """The bytes of a file; of one that has to be one's own, if it is."""
+def read_whole(path: str, check: Check = anyone) -> bytes:
+    """The bytes of a file that is what it has to be."""
     with open(open_there(path, os.O_RDONLY), "rb") as file:
-        if is_own:
-            must_be_own(file.fileno(), path)
+        check(file.fileno(), path)
         return file.read()
 
 
-def read_text(path: str, is_own: bool = False) -> str:
+def read_text(path: str, check: Check = anyone) -> str:
     """The text of a file, empty if it is not there."""
     try:
-        return read_whole(path, is_own).decode("utf-8", "surrogateescape")
+        return read_whole(path, check).decode("utf-8", "surrogateescape")
     except FileNotFoundError:
         return ""
 

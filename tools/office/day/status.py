@@ -11,12 +11,11 @@ from office.day.costs import costs_in_words
 from office.day.folder import Day
 from office.day.parts import FIRST, Part, instance_of, last_part, read_entries
 from office.day.pins import read_pins
-from office.day.safe_files import is_locked
 from office.past.authors import read_pasts
 from office.past.replay import play_costs
 from office.past.timetable_at import read_at
 from office.refused import Refused
-from office.seat.seat import read_sitter
+from office.seat.seat import is_taken, read_sitter
 from office.seat.seat_log import SeatPast
 from office.words.closure_notices import closure_notice
 from office.words.text import counted, shown
@@ -56,7 +55,7 @@ def of_whom(past: SeatPast) -> str:
 def seat_line(day: Day, planner: int, past: Optional[SeatPast], accepted: int) -> list[str]:
     """What is known of a seat, column by column."""
     name, since = read_sitter(day, planner)
-    sits = is_locked(day.sitter(planner))
+    sits = is_taken(day, planner)
     who, when = (name or "somebody", since[11:16]) if sits else ("nobody", "")
     if past is not None and past.story.has_left:
         who = "left for the day"

@@ -8,10 +8,10 @@ from office.day.folder import Day
 from office.day.open_drafts import AtWork, OthersAtWork, end_work, keep_work, read_work
 from office.day.pins import Pin, Pinned, pin, pins_path, read_pins, unpin
 from office.day.processes import now
-from office.day.safe_files import file_size, is_locked
+from office.day.safe_files import file_size
 from office.day.shifts import Shift
 from office.day.timetable import Lecture
-from office.seat.seat import Seat, read_sitter
+from office.seat.seat import Seat, is_taken, read_sitter
 
 
 class SeatStatus(NamedTuple):
@@ -30,7 +30,7 @@ def who_sits(day: Day, planners: int) -> list[SeatStatus]:
         SeatStatus(
             planner,
             *read_sitter(day, planner),
-            is_locked(day.sitter(planner)),
+            is_taken(day, planner),
             read_work(day, planner),
         )
         for planner in range(planners)

@@ -15,7 +15,7 @@ from office.day.folder import Day
 from office.day.open_drafts import end_work
 from office.day.parts import last_part, read_parts
 from office.day.processes import now
-from office.day.safe_files import lock, open_pipe, read_text
+from office.day.safe_files import is_locked, lock, open_pipe, read_text
 from office.refused import Refused
 from office.seat.seat_log import SeatLog, read_past, settle
 
@@ -47,8 +47,18 @@ CLOSED = -1
 
 def read_sitter(day: Day, planner: int) -> tuple[str, str]:
     """Who sits at a seat, or sat there last, and since when."""
-    lines = read_text(day.sitter(planner)).split("\n")
+    try:
+        lines = read_text(day.sitter(planner)).split("\n")
+    except OSError:
+        return "", ""
     return (lines[0], lines[1]) if len(lines) > 1 else ("", "")
+
+
+def is_taken(day: Day, planner: int) -> bool:
+    """Whether somebody sits at a seat; not if that cannot be seen."""
+    with contextlib.suppress(OSError):
+        return is_locked(day.sitter(planner))
+    return False
 
 
 def user_name() -> str:

@@ -10,8 +10,7 @@ from typing import Any, Callable, Optional
 
 from office.day.costs import COSTS
 from office.day.folder import Day
-from office.day.safe_files import is_locked
-from office.seat.seat import DeskEnded, NoAnswer, Seat, read_sitter
+from office.seat.seat import DeskEnded, NoAnswer, Seat, is_taken, read_sitter
 from office.web.action_names import key_table
 from office.web.frame import Frame
 from office.web.guard import Fault
@@ -333,7 +332,7 @@ class Sitter:
     def person(self) -> Optional[Data]:
         """Who sits at the seat now, here or at a terminal."""
         name, since = read_sitter(self.day, self.planner)
-        if self.planning is None and not is_locked(self.day.sitter(self.planner)):
+        if self.planning is None and not is_taken(self.day, self.planner):
             return None
         who = self.frame.wording.safe(name) or f"planner {self.planner}"
         return {

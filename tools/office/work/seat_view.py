@@ -14,6 +14,7 @@ from office.day.instance import Instance
 from office.day.minutes import Entry
 from office.day.parts import DayMinutes, RuleChange, instance_of
 from office.day.processes import now
+from office.day.safe_files import open_or_make
 from office.day.shifts import Shift, all_shifts, shifts_of
 from office.day.timetable import Lecture, Timetable, read_lectures
 from office.seat.courtesies import Courtesies
@@ -272,7 +273,7 @@ class Reading:
         self.is_failing = True
         self._cache.clear()
         with contextlib.suppress(OSError):
-            os.close(os.open(self.seat.day.failing, os.O_WRONLY | os.O_CREAT, 0o660))
+            os.close(open_or_make(self.seat.day.failing, os.O_WRONLY, 0o660))
 
     def read_anew(self) -> None:
         """Reads everything anew, as the desk has it, and says so; if the minutes fail, that is said
