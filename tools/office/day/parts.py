@@ -15,6 +15,7 @@ from office.day.folder import Day, is_count
 from office.day.instance import Instance, read_instance, read_solution
 from office.day.minutes import Entry, Minutes
 from office.day.safe_files import read_text
+from office.day.shared_lines import is_number
 from office.day.timetable import Lecture
 from office.refused import Refused
 
@@ -140,10 +141,11 @@ def read_aside(path: str) -> list[Aside]:
     for line in read_text(path).split("\n"):
         _, is_aside, rest = line.partition(": set aside ")
         words = words_of(rest)
-        if is_aside and len(words) > 4:
-            course, room, day, period, *why = words
-            lecture = Lecture(course, room, int(day), int(period.rstrip(":")))
-            found.append(Aside(lecture, " ".join(why)))
+        course, room, day, period, *why = [*words, "", "", "", ""]
+        period = period.rstrip(":")
+        if is_aside and len(words) > 4 and is_number(day) and is_number(period):
+            lecture = Lecture(course, room, int(day), int(period))
+            found.append(Aside(lecture, " ".join(filter(None, why))))
     return found
 
 
@@ -220,6 +222,14 @@ class DayMinutes:
         """Goes on to the next part, which is there. The minutes of this one grow no more, and were
         read to their end since then."""
         self._begin(self.part.next())
+
+
+def read_all_minutes(day: Day) -> list[tuple[Part, Minutes]]:
+    """The parts of a day, each with its minutes, which are read to their end."""
+    found = [(part, Minutes(part.minutes)) for part in parts_of(day)]
+    for _, minutes in found:
+        minutes.read_on()
+    return found
 
 
 def read_parts(day: Day) -> list[tuple[Part, list[Entry]]]:

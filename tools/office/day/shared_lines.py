@@ -40,6 +40,11 @@ def add_line(path: str, fields: Sequence[str]) -> str:
     return ""
 
 
+def is_number(text: str) -> bool:
+    """Whether a field is a number of this day."""
+    return text.isascii() and text.isdigit() and len(text) < 10
+
+
 def fields_of(text: str, count: int) -> list[list[str]]:
     """The lines of so many fields. A line that is torn is left out."""
     found = [line.split("\t") for line in text.split("\n")[:-1]]

@@ -9,7 +9,7 @@ from office.data.label_files import read_labels
 from office.day.closures_file import standing_of
 from office.day.costs import costs_in_words
 from office.day.folder import Day
-from office.day.parts import FIRST, Part, instance_of, last_part, read_entries
+from office.day.parts import FIRST, Part, instance_of, last_part, read_all_minutes, read_entries
 from office.day.pins import read_pins
 from office.past.authors import read_pasts
 from office.past.replay import play_costs
@@ -89,6 +89,9 @@ def minutes_line(day: Day, pasts: list[Optional[SeatPast]]) -> str:
     is_full = any(past is not None and past.story.is_full for past in pasts)
     if is_full or os.path.exists(day.failing):
         return "minutes cannot be written: close the office, make room, and open a day after it"
+    damaged = [part.minutes for part, minutes in read_all_minutes(day) if minutes.is_damaged]
+    if damaged:
+        return f"{damaged[0]} is damaged: what stands behind these drafts is not read"
     room = os.statvfs(day.path)
     if room.f_bavail == 0:
         return "minutes: the disk is full"

@@ -42,7 +42,8 @@ def answers(part: Part, lines: list[str]) -> list[str]:
     status, printed = left.run("run", left.instance, "-", *part.start_words(), text=text)
     found = decoded(printed).split("\n")[:-1]
     if status != 0 or len(found) != len(lines):
-        raise Refused(f"the program does not play the minutes of {part.day.path}", CONTENT)
+        start = f" from {part.start}" if part.has_start() else ""
+        raise Refused(f"the program does not play the drafts of {part.minutes}{start}", CONTENT)
     for line, answer in zip(lines, found):
         if line == "0 commit" and not answer.startswith("committed "):
             told = f"the minutes of {part.day.path} do not fit its start: {answer}"

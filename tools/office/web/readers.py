@@ -8,6 +8,7 @@ from typing import Any, Optional
 from office.day.folder import Day
 from office.day.parts import DayMinutes
 from office.day.timetable import Timetable
+from office.refused import Refused
 from office.web.frame import Frame
 from office.web.guard import Fault
 from office.web.verbs import Request
@@ -47,14 +48,21 @@ class Readers:
             # what a part has is whole once the next one is there
             is_last = self.minutes.part.is_last()
             entries = self.minutes.read_on()
-            for entry in entries:
-                for edit in entry.edits():
-                    self.timetable.make(edit)
+            self._make([edit for entry in entries for edit in entry.edits()])
             is_new = is_new or bool(entries) or not is_last
             if is_last:
                 return is_new
             self.minutes.step()
             self._begin()
+
+    def _make(self, edits: list[str]) -> None:
+        """Makes the edits of accepted drafts."""
+        for edit in edits:
+            try:
+                self.timetable.make(edit)
+            except (ValueError, KeyError, IndexError):
+                path = self.minutes.part.minutes
+                raise Refused(f"{path} is damaged: {edit} is no edit of this day") from None
 
     async def answer(self, window: Window, verb: str, data: Data) -> Data:
         told = Request(self.instance, data)
