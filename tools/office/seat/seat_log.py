@@ -11,6 +11,7 @@ from __future__ import annotations
 import contextlib
 import json
 import os
+import re
 from dataclasses import dataclass, field
 from typing import Optional
 
@@ -22,11 +23,14 @@ from office.day.safe_files import open_or_make, read_text
 from office.refused import Refused
 
 SENT, HEARD, NOTED = ">", "<", "="
+# the end of a line of which the rest is lost
+CUT = "\x18"
 # no file
 CLOSED = -1
 # answers to looks can be long, and are not what a draft is made of: so much of them is in the log
 LONGEST_LOOK = 200
 LOOKS = ("lectures ", "prices ", "missing ")
+COMMITTED = re.compile(r"committed [0-9]{1,9}\Z")
 # answers behind which a planner has lost something if they are not on the disk
 TURNS = ("done", "committed", "redone", "stale", "left")
 
@@ -45,9 +49,9 @@ class SeatLog:
             os.close(self.end)
             raise Refused(f"the log {path} is another planner's: this seat is his")
         size = os.fstat(self.end).st_size
-        # what is to be written; a line that was cut by a crash ends first
+        # what is to be written; a line that was cut, as by a full disk, is marked first
         is_cut = size and os.pread(self.end, 1, size - 1) != b"\n"
-        self._unwritten = b"\n" if is_cut else b""
+        self._unwritten = encoded(CUT) + b"\n" if is_cut else b""
         # why not all could be written
         self.fault = ""
 
@@ -119,9 +123,13 @@ class SeatPast:
     def take(self, line: str) -> None:
         """Takes up a line of the log."""
         parts = line.split(" ", 2)
-        if len(parts) != 3:
+        if len(parts) != 3 or is_cut(parts[1], parts[2]):
             return
-        time, sign, text = parts
+        # what somebody has written by hand has no sense
+        with contextlib.suppress(ValueError, IndexError):
+            self._take(*parts)
+
+    def _take(self, time: str, sign: str, text: str) -> None:
         self.last = (time, text)
         if sign == SENT:
             if has_words(encoded(text)):
@@ -205,6 +213,12 @@ class SeatPast:
         return self.story.unfinished() + [line for line in self.waiting if is_edit(line)]
 
 
+def is_cut(sign: str, text: str) -> bool:
+    """Whether the rest of a line is lost: the next one may tell what it was."""
+    is_short = sign == HEARD and text.startswith("committed") and not COMMITTED.match(text)
+    return is_short or text.endswith(CUT)
+
+
 def accept(story: Story, waiting: list[str], number: int) -> bool:
     """Takes up that the commit was accepted that waits for its answer, with the edits that were
     sent before it; answers whether one waits."""
@@ -227,6 +241,7 @@ def settle(story: Story, waiting: list[str], entries: list[Entry], planner: int)
 def read_past(path: str) -> SeatPast:
     """What the log of a seat says; nothing, if there is none."""
     past = SeatPast()
-    for line in read_text(path).split("\n"):
+    # a last line without an end is written just now, or was cut
+    for line in read_text(path).split("\n")[:-1]:
         past.take(line)
     return past
