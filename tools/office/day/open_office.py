@@ -19,7 +19,7 @@ from office.day.pipes import HeldSeats
 from office.day.processes import Signals, Stopped
 from office.day.safe_files import has_loose_names, write_whole
 from office.day.web_beside import WebBeside
-from office.refused import Refused, Silent, reason_of
+from office.refused import MACHINE, Refused, Silent, reason_of
 from office.words.announce import announce
 
 # how many seconds those who sit have when the office is closed by a signal, and for the way to the
@@ -210,4 +210,7 @@ def keep(running: Running, web_words: list[str]) -> int:
         f"closed; office close {day.path} writes the journal of the day "
         "and the timetable that it leaves"
     )
+    if status < 0 and not signals.count:
+        # who has killed it wants to know it, as a supervisor does
+        return MACHINE
     return max(0, status)
