@@ -1,7 +1,7 @@
 """A day whose rules change while anna and ben sit at the small instance."""
 import threading
 
-from support import SMALL, SMALL_SOL, OfficeTest, wait_until
+from support import SMALL, SMALL_SOL, OfficeTest, make_edit, wait_until
 
 from office.day.closure import Scope
 from office.day.closures_file import add_closure, blocked_now
@@ -56,9 +56,9 @@ class Parts(OfficeTest):
     def blocked_under_draft(self):
         """Ben has committed, anna has a draft open, and ben blocks a room."""
         self.open_day()
-        self.ben.planning.edit("reroom alg A 1 0")
+        make_edit(self.ben.planning, "reroom alg A 1 0")
         self.ben.planning.commit("the beamer")
-        self.anna.planning.edit(MOVE)
-        self.anna.planning.edit(REROOM)
+        make_edit(self.anna.planning, MOVE)
+        make_edit(self.anna.planning, REROOM)
         self.block()
         self.go_on(self.anna, self.ben)

@@ -3,6 +3,7 @@ from support import SMALL, SMALL_SOL
 
 from office.day.instance import read_instance, read_solution
 from office.day.timetable import Timetable
+from office.seat.answers import read_answer
 
 
 class FakePlanner:
@@ -21,8 +22,8 @@ class FakePlanner:
 
     def look(self, words):
         self.asked.append(words)
-        return self.answers[words]
+        return read_answer(self.answers[words])
 
     def lectures(self, words):
         self.asked.append(words)
-        return self.now.look(words)
+        return self.now.look(words.split())

@@ -48,6 +48,18 @@ def said(told):
     return Wording(KeyNames()).notice(getattr(told, "notice", told))
 
 
+def make_edit(planning, line):
+    """Makes an edit, which is written as a line of the desk; answers whether it was made."""
+    from office.day.edits import Edit
+
+    return planning.edit(Edit.parse(line))
+
+
+def lines_of(edits):
+    """Edits as lines of the desk."""
+    return [str(edit) for edit in edits]
+
+
 def is_alive(number):
     """Whether a process goes on; one that has ended and was not waited for does not."""
     try:

@@ -7,7 +7,7 @@ import sys
 import unittest
 
 from changed_rules import HALL, MOVE, REROOM, Parts
-from support import HERE, PATIENCE, SMALL, SMALL_SOL, wait_until
+from support import HERE, PATIENCE, SMALL, SMALL_SOL, lines_of, make_edit, wait_until
 
 from office.day.closures_file import blocked_text, read_closures, standing
 from office.day.folder import Day
@@ -37,10 +37,10 @@ class Killed(Parts):
         self.assertIn("open, seats 0 to 1", self.process.stderr.readline())
         self.day = Day(self.path("day"))
         self.anna, self.ben = self.sit_at(0, "anna"), self.sit_at(1, "ben")
-        self.ben.planning.edit("reroom alg A 1 0")
+        make_edit(self.ben.planning, "reroom alg A 1 0")
         self.ben.planning.commit("the beamer")
         for edit in (MOVE, REROOM):
-            self.anna.planning.edit(edit)
+            make_edit(self.anna.planning, edit)
 
     def end_all(self, process):
         """Ends an office, and the desk that it may have left."""
@@ -89,7 +89,7 @@ class Killed(Parts):
         self.assertEqual([one.scope for one in read_closures(self.day)], [HALL])
         self.assertEqual(len(read_entries(self.day)), 1)
         past = read_past(self.day.log(0))
-        self.assertEqual(past.unfinished(), [MOVE, REROOM])
+        self.assertEqual(lines_of(past.unfinished()), [MOVE, REROOM])
         printed = self.office("status", self.path("day"))
         self.assertEqual(printed[0], 0)
         self.assertIn("1 draft accepted", printed[1])
@@ -116,7 +116,7 @@ class Killed(Parts):
         anna = self.sit_at(0, "anna", "next")
         self.assertEqual(anna.overlay.title, "2 edits of day not accepted: make them again?")
         self.press(anna, "y")
-        self.assertEqual(anna.planning.edits(), [MOVE])
+        self.assertEqual(lines_of(anna.planning.edits()), [MOVE])
         anna.planning.seat.go()
 
     def goes_on(self):
@@ -126,7 +126,7 @@ class Killed(Parts):
         self.assertEqual(self.rules(self.day), blocked_text(read_closures(self.day)))
         self.assertEqual(len(parts_of(self.day)), 2)
         anna = self.sit_at(0, "anna")
-        self.assertEqual(anna.planning.edits(), [MOVE])
+        self.assertEqual(lines_of(anna.planning.edits()), [MOVE])
         self.assertEqual(anna.planning.missing(), {"alg": 1, "geo": 1})
         anna.planning.commit("again")
         anna.planning.seat.go()

@@ -6,7 +6,7 @@ import sys
 import threading
 import unittest.mock
 
-from support import HERE, PROGRAM, SMALL, SMALL_SOL, SPRING, SPRING_SOL, OfficeTest, said
+from support import HERE, PROGRAM, SMALL, SMALL_SOL, SPRING, SPRING_SOL, OfficeTest, make_edit, said
 from support import wait_until
 
 sys.path.append(os.path.join(HERE, "tests"))
@@ -14,11 +14,12 @@ from drawn import draw_instance, draw_solution  # noqa: E402
 from rules import Instance as Plain  # noqa: E402
 
 from office.day.closures_file import blocked_text, closures_end, standing_of  # noqa: E402
-from office.day.edits import is_edit, read_prices  # noqa: E402
+from office.day.edits import Edit  # noqa: E402
 from office.day.folder import Day  # noqa: E402
 from office.day.instance import read_instance, read_solution  # noqa: E402
-from office.day.parts import read_entries  # noqa: E402
+from office.day.parts import parts_of  # noqa: E402
 from office.day.timetable import Timetable  # noqa: E402
+from office.seat.answers import Said, offers_in  # noqa: E402
 from office.terminal.board import Board  # noqa: E402
 from office.terminal.overlays import CommitBox  # noqa: E402
 from office.words.text import cut, fit, shown, width, wrap  # noqa: E402
@@ -92,6 +93,18 @@ class Drawn(OfficeTest):
             if plain.courses and run.returncode == 0:
                 return files[0], options
 
+    def calls(self):
+        """What the minutes of the day have, but the answers."""
+        found = []
+        for part in parts_of(Day(self.path("day"))):
+            with open(part.minutes) as file:
+                lines = file.read().split("\n")
+            while lines and lines[0]:
+                count = 2 * int(lines.pop(0).split()[2])
+                found += lines[0:count:2]
+                del lines[:count]
+        return found
+
     def check_rows(self, board, draw):
         """The rows fill a window of any size."""
         height, columns = draw.choice(SIZES)
@@ -148,8 +161,7 @@ class Drawn(OfficeTest):
             self.assertEqual(said(board.planning.alarm), "")
         # no look of the screen is a call
         self.go_on(boards)
-        calls = [call for entry in read_entries(Day(self.path("day"))) for call in entry.calls]
-        self.assertEqual([call for call, _ in calls if not is_edit(call)], [])
+        self.assertEqual([call for call in self.calls() if Edit.parse(call) is None], [])
         for board in boards:
             board.tick()
         newest = boards[0].planning.known.newest
@@ -184,7 +196,7 @@ class Drawn(OfficeTest):
             thread.join()
         for board in boards:
             self.assertEqual(blocked_text(board.planning.instance.closures), wanted)
-            self.assertEqual(board.planning.seat.story.again, [])
+            self.assertEqual(board.planning.seat.state.again, [])
 
     def test_days(self):
         for seed in range(DAYS):
@@ -202,10 +214,10 @@ class Beside(OfficeTest):
         while not self.is_over:
             course, _, day, period = draw.choice(self.lectures)
             seat.ask("open")
-            if seat.ask(f"drop {course} {day} {period}") != "done":
-                found = read_prices(seat.ask(f"peek cheapest 1 place {course} * * *"))
+            if seat.ask(f"drop {course} {day} {period}") is not Said.DONE:
+                found = offers_in(seat.ask(f"peek cheapest 1 place {course} * * *"))
                 if found:
-                    seat.ask(found[0][1])
+                    seat.ask(found[0].edit)
             seat.ask("commit")
 
     def test_beside_others(self):
@@ -320,7 +332,7 @@ class Shown(OfficeTest):
         self.open("day", SMALL, "1", "--start", SMALL_SOL)
         board = Board(self.planning("day", 0))
         board.begin()
-        board.planning.edit("drop geo 1 2")
+        make_edit(board.planning, "drop geo 1 2")
         for key in ("a", "escape", "a", "x"):
             board.press(key)
         self.assertTrue(board.planning.is_open)

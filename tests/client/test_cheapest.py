@@ -1,7 +1,7 @@
 """The cheapest of what is offered, and each slot of it."""
 import random
 
-from support import said
+from support import lines_of, said
 from two_screens import Two
 
 from office.terminal.board import Board
@@ -22,7 +22,7 @@ class Cheapest(Two):
                     wanted = min(
                         one.price
                         for one in offers
-                        if not one.edit.startswith(
+                        if not str(one.edit).startswith(
                             f"reroom {course} {lecture.room} {lecture.day} {lecture.period}"
                         )
                     )
@@ -32,7 +32,7 @@ class Cheapest(Two):
         self.assertIn("-231 r04", text)
         self.assertIn("Cheapest: -231 in r04, day 1, period 1", text)
         self.type_keys(anna, "b", "enter")
-        self.assertEqual(anna.planning.edits(), ["reroom c0049 r04 0 0"])
+        self.assertEqual(lines_of(anna.planning.edits()), ["reroom c0049 r04 0 0"])
 
     def test_is_said_anew(self):
         """A move that becomes a swap has another cheapest."""

@@ -6,10 +6,10 @@ import threading
 from support import OfficeTest
 
 from office.day.folder import Day
+from office.day.lecture import Lecture
 from office.day.open_drafts import AtWork, OthersAtWork, end_work, keep_work, read_work
 from office.day.pins import pin, pins_path, read_pins, unpin
 from office.day.shared_lines import add_line, read_lines
-from office.day.timetable import Lecture
 
 
 class Lines(OfficeTest):

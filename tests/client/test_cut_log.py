@@ -41,7 +41,7 @@ class Cut(OfficeTest):
             past.settle(entries, 0)
             self.assertEqual(past.name, "ben")
             if at >= commit:
-                self.assertEqual(past.story.accepted, [1], self.text[:at])
+                self.assertEqual(past.state.accepted, [1], self.text[:at])
 
     def test_commands(self):
         """The seat is alive, and so are status and log of the day."""

@@ -1,7 +1,7 @@
 """Minutes that cannot be written any more: what each screen says."""
 import os
 
-from support import FAKE, PROGRAM, SMALL, SMALL_SOL, OfficeTest, said, wait_until
+from support import FAKE, PROGRAM, SMALL, SMALL_SOL, OfficeTest, make_edit, said, wait_until
 from test_day import LIMITED
 from two_screens import text_of
 
@@ -23,7 +23,7 @@ class Failing(OfficeTest):
             board.begin()
             text_of(board)
         for edit in ("drop geo 1 2", "drop top 0 2", "drop geo 0 1"):
-            anna.planning.edit(edit)
+            make_edit(anna.planning, edit)
             self.commit(anna)
             if "Not written" in text_of(anna):
                 return anna, ben
@@ -74,7 +74,7 @@ class Failing(OfficeTest):
         for board in (anna, ben):
             board.begin()
             text_of(board)
-        anna.planning.edit("drop geo 1 2")
+        make_edit(anna.planning, "drop geo 1 2")
         self.commit(anna)
         ben.show_view(View("course", "geo"))
         text_of(ben)
@@ -82,7 +82,7 @@ class Failing(OfficeTest):
         text = text_of(ben)
         self.assertNotIn("Nothing can be committed", text)
         self.assertEqual(len(ben.work.lectures()), 1)
-        self.assertTrue(ben.planning.edit("drop geo 0 1"))
+        self.assertTrue(make_edit(ben.planning, "drop geo 0 1"))
         self.assertEqual(said(ben.planning.alarm), "")
 
     def test_no_log_either(self):

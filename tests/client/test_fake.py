@@ -7,7 +7,7 @@ from test_known import PLANNERS, Drawn, Seats
 from fake_desk import FakeDesk
 from plain_instance import lectures_of
 from office.day.instance import read_solution
-from office.seat.known import Known
+from seat_states import KnownState
 
 DRAWS = int(os.environ.get("DRAWS", "200")) // 5
 
@@ -74,7 +74,7 @@ class Beside(OfficeTest):
         start = read_solution(drawn.start) if drawn.start else []
         seats = Seats(self, drawn)
         fake = FakeDesk(drawn.plain, lectures_of(drawn.start), PLANNERS, os.devnull)
-        knowns = [Known(drawn.instance, start) for _ in range(PLANNERS)]
+        knowns = [KnownState(drawn.instance, start) for _ in range(PLANNERS)]
         for _ in range(80):
             planner = drawn.draw.randrange(PLANNERS)
             line = self.line(drawn, knowns[planner])
@@ -85,10 +85,10 @@ class Beside(OfficeTest):
             answer, told = seats.ask(planner, line), fake.answer(planner, line)
             self.assertEqual(told, answer, (seed, line))
             made = list(knowns[planner].made)
-            self.assertTrue(knowns[planner].hear(line, answer), (seed, line, answer))
+            self.assertTrue(knowns[planner].feed(line, answer), (seed, line, answer))
             if answer.startswith("committed "):
                 for known in knowns:
-                    known.accept(made)
+                    known.accept_edits(made)
         seats.end()
 
     def test_drawn(self):

@@ -5,9 +5,22 @@ import subprocess
 import sys
 import time
 
-from support import FAKE, OFFICE, SMALL, SMALL_SOL, SPRING, SPRING_SOL, OfficeTest, said, wait_until
+from support import (
+    FAKE,
+    OFFICE,
+    SMALL,
+    SMALL_SOL,
+    SPRING,
+    SPRING_SOL,
+    OfficeTest,
+    lines_of,
+    make_edit,
+    said,
+    wait_until,
+)
 
 import office.seat.seat
+from office.day.edits import Edit
 from office.past.earlier_days import Earlier
 from office.seat.seat import NoAnswer
 from office.seat.seat_log import read_past
@@ -45,7 +58,7 @@ class Faults(OfficeTest):
     def test_desk_lies(self):
         """An answer that was not expected: everything is read anew, and the screen says so."""
         board = self.board("lies")
-        board.planning.edit(EDIT)
+        make_edit(board.planning, EDIT)
         self.assertNotIn("read anew", self.text(board))
         text = self.type_line(board, EDIT)
         self.assertIn("The desk answered otherwise than expected: everything was read anew.", text)
@@ -56,7 +69,7 @@ class Faults(OfficeTest):
     def test_committed_without_minutes(self):
         """Nothing is said to be on the disk that the minutes do not have."""
         board = self.board("no minutes")
-        board.planning.edit(EDIT)
+        make_edit(board.planning, EDIT)
         self.commit(board)
         text = self.text(board)
         self.assertIn("Not written: committed 1, says the desk; the minutes do not have it.", text)
@@ -66,15 +79,15 @@ class Faults(OfficeTest):
         board = self.board("no memory")
         planning = board.planning
         for _ in range(8):
-            planning.edit(EDIT)
+            make_edit(planning, EDIT)
             self.text(board)
             planning.undo()
             self.text(board)
-        while planning.edits() != [EDIT]:
-            planning.edit(EDIT)
+        while lines_of(planning.edits()) != [EDIT]:
+            make_edit(planning, EDIT)
         while not planning.minutes.entries:
             self.commit(board)
-        self.assertEqual(planning.minutes.entries[0].edits()[-1], EDIT)
+        self.assertEqual(planning.minutes.entries[0].edits[-1], Edit.parse(EDIT))
         self.assertEqual(len(planning.known.newest.of_course("geo")), 1)
 
     def test_answers_without_sense(self):
@@ -89,7 +102,7 @@ class Faults(OfficeTest):
 
     def test_no_answer(self):
         board = self.board("no answer")
-        board.planning.edit(EDIT)
+        make_edit(board.planning, EDIT)
         patience, office.seat.seat.PATIENCE = office.seat.seat.PATIENCE, 0.5
         try:
             with self.assertRaises(NoAnswer):
@@ -114,8 +127,8 @@ class Faults(OfficeTest):
 
         commit(EDIT)
         self.assertEqual(len(anna.lectures("course geo")), 1)
-        anna.edit("move top 0 2 B 1 1")
-        anna.edit("reroom geo B 0 1")
+        make_edit(anna, "move top 0 2 B 1 1")
+        make_edit(anna, "reroom geo B 0 1")
         commit("drop top 0 2")
         self.assertTrue(wait_until(anna.tick))
         self.commit(board)
@@ -123,14 +136,14 @@ class Faults(OfficeTest):
         board.press("r")
         text = self.text(board)
         self.assertIn("0 of 2 edits made again, none committed yet.", text)
-        self.assertEqual((said(anna.alarm), anna.edits()), ("", []))
+        self.assertEqual((said(anna.alarm), lines_of(anna.edits())), ("", []))
         self.assertTrue(anna.known.base.same_as(anna.known.newest))
 
     def dies(self, fault):
         """The desk dies at a commit: what the minutes have is not offered again, and the rest
         is."""
         board = self.board(fault)
-        board.planning.edit(EDIT)
+        make_edit(board.planning, EDIT)
         with self.assertRaises(office.seat.seat.DeskEnded):
             self.commit(board)
         board.desk_ended("The desk has ended")
@@ -213,7 +226,7 @@ class FullDisk(OfficeTest):
         self.assertTrue(lines[-2].endswith("= went away"))
         # what could not be written was written when it could be
         past = read_past(log)
-        self.assertEqual((past.story.accepted, past.story.ended, past.waiting), ([1], [], []))
+        self.assertEqual((past.state.accepted, past.state.ended, past.waiting), ([1], [], []))
         self.assertIn(" > commit", "\n".join(lines))
         self.assertEqual(self.sit("day", 0, "status\n"), ["no draft"])
 

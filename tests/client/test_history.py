@@ -1,5 +1,5 @@
 """The history of a lecture or a week at the screen, and drafts taken back there."""
-from support import SMALL, OfficeTest
+from support import SMALL, OfficeTest, lines_of, make_edit
 
 from office.day.folder import Day
 from office.terminal.board import Board
@@ -18,7 +18,7 @@ class History(OfficeTest):
         self.ben = self.planning("day", 1, "ben")
         for edits in (["place geo A 0 1"], ["move geo 0 1 B 1 2", "place alg A 1 1"]):
             for edit in edits:
-                self.assertTrue(self.ben.edit(edit))
+                self.assertTrue(make_edit(self.ben, edit))
             self.ben.commit()
         self.anna = self.planning("day", 0, "anna")
         self.board = Board(self.anna)
@@ -61,30 +61,30 @@ class History(OfficeTest):
         self.press("h", "enter", "t")
         told = text_of(self.board)
         self.assertIn("Draft 2 is taken back by 2 edits; none is committed yet.", told)
-        self.assertEqual(self.anna.edits(), ["move geo 1 2 A 0 1", "drop alg 1 1"])
+        self.assertEqual(lines_of(self.anna.edits()), ["move geo 1 2 A 0 1", "drop alg 1 1"])
         self.assertEqual(len(self.anna.minutes.entries), 2)
         self.anna.commit()
         lectures = self.anna.known.newest.lectures()
         self.assertEqual([one.words() for one in lectures], ["geo A 0 1"])
         # what was taken back can be taken back
         self.press("h", "enter", "t")
-        self.assertEqual(len(self.anna.edits()), 2)
+        self.assertEqual(len(lines_of(self.anna.edits())), 2)
 
     def test_what_stands_in_the_way(self):
         """What cannot go back is said as the desk says it, and is no part of the draft."""
-        self.ben.edit("place alg B 0 1")
+        make_edit(self.ben, "place alg B 0 1")
         self.ben.commit()
         self.press("v", *"course geo", "enter", "h", "enter", "t")
         told = text_of(self.board)
         self.assertIn("Draft 2 is taken back by 1 edit; none is committed yet.", told)
         reason = "curriculum q1 has alg then"
         self.assertIn(f"geo: day 2, period 3, B -> day 1, period 2, A: {reason}", told)
-        self.assertEqual(self.anna.seat.story.made, ["drop alg 1 1"])
+        self.assertEqual(lines_of(self.anna.seat.state.made), ["drop alg 1 1"])
         # who changes a lecture that does not go back has not made the draft stale
-        self.ben.edit("drop geo 1 2")
+        make_edit(self.ben, "drop geo 1 2")
         self.ben.commit()
         self.anna.read_status()
-        self.assertEqual((self.anna.foretold, self.anna.behind()), ("", 1))
+        self.assertEqual((self.anna.stale_preview, self.anna.accepted_count()), (None, 1))
 
     def test_without_a_program(self):
         """If nobody says what can go back, nothing is done, and the reason is said."""
@@ -106,9 +106,9 @@ class History(OfficeTest):
         self.assertEqual(found[0], 0)
 
     def test_changed_since(self):
-        self.ben.edit("move geo 1 2 A 0 1")
-        self.ben.edit("drop alg 1 1")
-        self.ben.edit("place alg B 0 0")
+        make_edit(self.ben, "move geo 1 2 A 0 1")
+        make_edit(self.ben, "drop alg 1 1")
+        make_edit(self.ben, "place alg B 0 0")
         self.ben.commit()
         self.press("v", *"course alg", "enter", "h")
         self.press("down", "enter", "t")
@@ -120,11 +120,11 @@ class History(OfficeTest):
 
     def test_stale_draft_first(self):
         """Who has a stale draft decides on it first."""
-        self.anna.edit("move geo 1 2 A 1 0")
-        self.ben.edit("drop geo 1 2")
+        make_edit(self.anna, "move geo 1 2 A 1 0")
+        make_edit(self.ben, "drop geo 1 2")
         self.ben.commit()
         self.anna.commit()
-        self.assertEqual(self.anna.ended(), ["move geo 1 2 A 1 0"])
+        self.assertEqual(lines_of(self.anna.ended()), ["move geo 1 2 A 1 0"])
         self.press("v", *"course alg", "enter", "h", "enter", "t")
         self.assertIn("First say what becomes of the 1 edit", text_of(self.board))
         self.assertFalse(self.anna.is_open)

@@ -4,8 +4,9 @@ import unittest
 
 from fake_week import FakeWeek
 from plain_instance import instance_of
-from support import PROGRAM, SMALL, SPRING, SPRING_SOL
+from support import PROGRAM, SMALL, SPRING, SPRING_SOL, lines_of
 
+from office.day.edits import Edit, Kind
 from office.day.instance import read_instance, read_solution
 from office.day.scratch_desk import Scratch
 from office.day.shifts import Shift
@@ -29,16 +30,22 @@ def week_of(timetable):
     return FakeWeek(PLAIN, timetable.lectures())
 
 
+def parsed(edit):
+    """An edit, which may be written as a line of the desk."""
+    return edit if isinstance(edit, Edit) else Edit.parse(edit)
+
+
 def make(timetable, edit):
     """Makes an edit if it can be made, and answers whether it could."""
-    return week_of(timetable).fault(edit) is None and timetable.make(edit) is not None
+    edit = parsed(edit)
+    return week_of(timetable).fault(str(edit)) is None and timetable.make(edit) is not None
 
 
 def draft(timetable, *edits):
     """What a draft of these edits does to a timetable, which is changed."""
     trial = timetable.copy()
     assert all(make(trial, edit) for edit in edits), edits
-    return make_draft(timetable, edits)
+    return make_draft(timetable, list(map(parsed, edits)))
 
 
 def state(timetable):
@@ -69,7 +76,7 @@ class OnComp07(unittest.TestCase):
     def check_back(self, edits, back):
         """A draft, and the edits that take it back."""
         inverse = invert(self.timetable, draft(self.timetable, *edits))
-        self.assertEqual((inverse.edits, inverse.kept), (back, []))
+        self.assertEqual((lines_of(inverse.edits), inverse.kept), (back, []))
         self.makes(inverse)
         self.assertEqual(state(self.timetable), state(self.start))
 
@@ -82,10 +89,10 @@ class OnComp07(unittest.TestCase):
         self.check_back(["drop c0109 4 1", "place c0109 r04 4 3"], ["move c0109 4 3 r01 4 1"])
 
     def test_place(self):
-        self.timetable.make("drop c0109 4 1")
+        self.timetable.make(parsed("drop c0109 4 1"))
         before = state(self.timetable)
         inverse = invert(self.timetable, draft(self.timetable, "place c0109 r04 4 3"))
-        self.assertEqual(inverse.edits, ["drop c0109 4 3"])
+        self.assertEqual(lines_of(inverse.edits), ["drop c0109 4 3"])
         self.makes(inverse)
         self.assertEqual(state(self.timetable), before)
 
@@ -110,9 +117,9 @@ class OnComp07(unittest.TestCase):
         """Of two that were swapped one was moved on: the other one goes back alone, where there is
         room."""
         shifts = draft(self.timetable, "swap c0109 4 1 c0078 3 1")
-        self.timetable.make("drop c0078 4 1")
+        self.timetable.make(parsed("drop c0078 4 1"))
         inverse = invert(self.timetable, shifts)
-        self.assertEqual(inverse.edits, ["move c0109 3 1 r01 4 1"])
+        self.assertEqual(lines_of(inverse.edits), ["move c0109 3 1 r01 4 1"])
         self.assertEqual(self.kept(inverse), [("c0078", "changed since")])
 
     def test_taken_since(self):
@@ -124,7 +131,7 @@ class OnComp07(unittest.TestCase):
             for lecture in self.timetable.lectures()
             if not week.fault(f"move {lecture.course} {lecture.day} {lecture.period} r01 4 1")
         )
-        self.timetable.make(f"move {free.course} {free.day} {free.period} r01 4 1")
+        self.timetable.make(parsed(f"move {free.course} {free.day} {free.period} r01 4 1"))
         inverse = invert(self.timetable, shifts)
         self.assertEqual(inverse.edits, [])
         self.assertEqual(self.kept(inverse), [("c0109", "room taken")])
@@ -158,7 +165,7 @@ class OnComp07(unittest.TestCase):
         self.assertEqual(inverse.kept, [])
         self.makes(inverse)
         self.assertEqual(state(self.timetable), state(self.start))
-        self.assertEqual([edit.split()[0] for edit in inverse.edits].count("drop"), 1)
+        self.assertEqual([edit.kind for edit in inverse.edits].count(Kind.DROP), 1)
 
     def rotation(self, one, two):
         """A third lecture with which two of other courses can rotate."""
@@ -187,7 +194,7 @@ class OnComp07(unittest.TestCase):
         shifts = draft(self.timetable, "drop c0109 4 1")
         with self.assertRaises(Refused):
             invert_by(self.timetable, shifts, refuses)
-        self.timetable.make("place c0109 r01 4 1")
+        self.timetable.make(parsed("place c0109 r01 4 1"))
         inverse = invert_by(self.timetable, shifts, refuses)
         self.assertEqual(self.kept(inverse), [("c0109", "back already")])
 
@@ -230,7 +237,7 @@ def draft_by(drawn, timetable):
         edit = drawn_edit(drawn, trial)
         if make(trial, edit):
             edits.append(edit)
-    return make_draft(timetable, edits)
+    return make_draft(timetable, list(map(parsed, edits)))
 
 
 def drawn_edit(drawn, timetable):

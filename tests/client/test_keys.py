@@ -6,6 +6,7 @@ import string
 
 from support import HERE, OfficeTest
 
+from office.day.costs import COSTS, MEANINGS
 from office.terminal.help_page import help_lines
 from office.words.actions import ACTIONS, ANSWERS, BY_NAME, FREE, KeyNames, key_of, row_of
 from office.words.sentences import SENTENCES
@@ -51,6 +52,13 @@ class Keys(OfficeTest):
         for action in ACTIONS:
             if action.help:
                 self.assertIn(f"{key_of(action.name):>6}  {action.help}", lines)
+
+    def test_help_has_each_cost(self):
+        """What each part of the cost counts is said once for both faces."""
+        self.assertEqual(tuple(MEANINGS), COSTS)
+        (line,) = [line for line in help_lines() if line.startswith("Costs: ")]
+        for part, counts in MEANINGS.items():
+            self.assertIn(f"{part} is {counts}", line)
 
     def test_rows_of_keys(self):
         for names in FREE:

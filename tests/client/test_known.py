@@ -13,10 +13,10 @@ from rules import Instance as Plain
 
 from office.day.closure import Scope
 from office.day.closures_file import blocked_now
-from office.day.edits import Redone, Story
 from office.day.instance import read_instance, read_solution
 from office.day.minutes import Minutes
-from office.seat.known import Known
+from office.seat.answers import read_answer
+from seat_states import FedState, KnownState
 
 DRAWS = int(os.environ.get("DRAWS", "200"))
 PLANNERS = 3
@@ -176,8 +176,8 @@ class Scripts(OfficeTest):
         # answers before
         seats = Seats(self, drawn)
         fake = FakeDesk(drawn.plain, lectures_of(drawn.start), PLANNERS, os.devnull)
-        knowns = [Known(drawn.instance, start) for _ in range(PLANNERS)]
-        stories = [Story() for _ in range(PLANNERS)]
+        knowns = [KnownState(drawn.instance, start) for _ in range(PLANNERS)]
+        logged = [FedState() for _ in range(PLANNERS)]
         for _ in range(60):
             planner = drawn.draw.randrange(PLANNERS)
             known = knowns[planner]
@@ -186,12 +186,12 @@ class Scripts(OfficeTest):
             self.assertEqual(fake.answer(planner, line), answer, (seed, line))
             edits = list(known.made)
             lines += self.lines_of_run(planner, known, line, answer)
-            self.assertTrue(known.hear(line, answer), (seed, planner, line, answer, lines))
-            stories[planner].hear(line, answer)
-            self.check_story(stories[planner], known, drawn)
+            self.assertTrue(known.feed(line, answer), (seed, planner, line, answer, lines))
+            logged[planner].feed(line, answer)
+            self.check_log(logged[planner], known, drawn)
             if answer.startswith("committed "):
                 for each in knowns:
-                    self.assertTrue(each.accept(edits), (seed, line, edits))
+                    self.assertTrue(each.accept_edits(edits), (seed, line, edits))
         seats.end()
         self.minutes = seats.minutes
         return drawn, lines, knowns
@@ -202,23 +202,25 @@ class Scripts(OfficeTest):
         with their answers."""
         if line == "undo" and answer.startswith(("done ", "refused ")):
             told = "done" if answer.startswith("done ") else answer
-            return [(planner, known.standing[-1][1], told)]
+            return [(planner, str(known.standing[-1].back), told)]
         if line == "redo" and answer.startswith("redone "):
-            left_out = [number for number, _, _ in Redone.read(answer).refused]
-            made = [edit for number, edit in enumerate(known.ended, 1) if number not in left_out]
-            return [(planner, "open", "opened"), *((planner, edit, "done") for edit in made)]
+            made = read_answer(answer).made_of(known.ended_made)
+            return [(planner, "open", "opened"), *((planner, str(edit), "done") for edit in made)]
         return [] if line in ("undo", "redo") else [(planner, line, answer)]
 
-    def check_story(self, story, known, drawn):
+    def check_log(self, logged, known, drawn):
         """By the log a seat has the draft that is known from answers, and its edits lead to it."""
-        self.assertEqual(story.is_open, known.draft is not None)
-        self.assertEqual(story.made, known.made)
-        if story.is_open:
-            timetable = known.base.copy()
+        self.assertEqual(logged.is_open, known.draft is not None)
+        self.assertEqual(logged.is_open, known.is_open)
+        self.assertEqual(logged.made, known.made)
+        self.assertEqual(logged.ended_made, known.ended_made)
+        self.assertEqual(logged.accepted, known.accepted)
+        if logged.is_open:
+            timetable = known.timetables.base.copy()
             week = FakeWeek(drawn.plain, timetable.lectures())
-            for edit in story.edits:
-                self.assertIsNone(week.fault(edit))
-                self.assertEqual(timetable.make(edit), week.make(edit))
+            for edit in logged.edits:
+                self.assertIsNone(week.fault(str(edit)))
+                self.assertEqual(str(timetable.make(edit)), week.make(str(edit)))
             self.assertTrue(timetable.same_as(known.draft))
             self.assertEqual(week.by_course, known.draft.by_course)
 
@@ -234,9 +236,9 @@ class Scripts(OfficeTest):
         the script as the desk."""
         minutes = Minutes(self.minutes)
         start = read_solution(drawn.start) if drawn.start else []
-        newest = Known(drawn.instance, start)
+        newest = KnownState(drawn.instance, start)
         for entry in minutes.read_on():
-            self.assertTrue(newest.accept(entry.edits()))
+            self.assertTrue(newest.accept_edits(entry.edits))
         self.assertTrue(newest.newest.same_as(known.newest))
         script = "".join(
             line + "\n" if line.startswith("show") else f"{p} {line}\n" for p, line, _ in lines

@@ -5,9 +5,10 @@ from fake_planner import FakePlanner
 from support import OfficeTest, said
 
 from office.day.closure import Closure, Scope
-from office.day.timetable import Lecture
+from office.day.edits import Edit
+from office.day.lecture import Lecture
+from office.seat.answers import Fault, Offer, SlotsAre, offers_in, read_answer
 from office.work.carry import MOVE, PLACE, SWAP, Carry
-from office.work.offers import Offer, read_offers, read_slots
 from plain_desk import FAULTS
 
 GRID = (
@@ -15,6 +16,16 @@ GRID = (
 )
 HOME = "prices 2 -1 reroom alg B 0 0 0 reroom alg A 0 0"
 MOVES, HOMES = "slots move alg 0 0 * * *", "cheapest 1000 reroom alg * 0 0"
+
+
+def offer(price, line):
+    return Offer(price, Edit.parse(line))
+
+
+def slots_in(line):
+    """What a `slots` says of each slot; None if it is another answer."""
+    answer = read_answer(line)
+    return answer.slots if isinstance(answer, SlotsAre) else None
 
 
 class Read(OfficeTest):
@@ -34,27 +45,27 @@ class Read(OfficeTest):
             "- clash -",
         ]
         wanted = [
-            Offer(-2, "move alg 0 1 A 0 0", "A"),
-            "clash bio",
-            Offer(0, "place - B 1 2", "B"),
-            "roomtaken clash",
-            "none",
-            Offer(7, "swap geo 0 1 alg 1 1", "alg"),
-            *(fault for fault in FAULTS if fault not in ("clash", "roomtaken")),
-            Offer(1000000, "reroom top A 0 2", "A"),
-            "clash -",
+            offer(-2, "move alg 0 1 A 0 0"),
+            Fault("clash", "bio"),
+            offer(0, "place - B 1 2"),
+            Fault("roomtaken", "clash"),
+            Fault("none"),
+            offer(7, "swap geo 0 1 alg 1 1"),
+            *(Fault(fault) for fault in FAULTS if fault not in ("clash", "roomtaken")),
+            offer(1000000, "reroom top A 0 2"),
+            Fault("clash", "-"),
         ]
-        self.assertEqual(read_slots(" ".join(["slots", str(len(told)), *told])), wanted)
+        self.assertEqual(slots_in(" ".join(["slots", str(len(told)), *told])), wanted)
         for seed in range(50):
             order = random.Random(seed).sample(range(len(told)), len(told))
             line = " ".join(["slots", str(len(told)), *(told[at] for at in order)])
-            self.assertEqual(read_slots(line), [wanted[at] for at in order])
+            self.assertEqual(slots_in(line), [wanted[at] for at in order])
 
     def test_other_answers(self):
         for answer in ("refused full", "no memory", "no draft", "bad line 2 slots", "", "prices 0"):
-            self.assertIsNone(read_slots(answer))
-            self.assertEqual(read_offers(answer), [])
-        self.assertEqual(read_slots("slots 0"), [])
+            self.assertIsNone(slots_in(answer))
+            self.assertEqual(offers_in(read_answer(answer)), [])
+        self.assertEqual(slots_in("slots 0"), [])
 
 
 class Asked(OfficeTest):
@@ -68,7 +79,7 @@ class Asked(OfficeTest):
         desk = FakePlanner({MOVES: GRID, HOMES: HOME, "cheapest 1000 move alg 0 0 * 1 1": rooms})
         carry = Carry(desk, MOVE, "alg", self.ALG)
         told = "Cheapest: -3 in B, day 2, period 2: b goes there."
-        self.assertEqual(said(carry.best_told()), told)
+        self.assertEqual(said(carry.best_notice()), told)
         for slot in desk.instance.slots():
             carry.begin_at(slot)
             carry.chosen(slot)
@@ -78,18 +89,18 @@ class Asked(OfficeTest):
         carry.begin_at((0, 0))
         self.assertTrue(carry.is_in_place((0, 0)))
         carry.begin_at((1, 1))
-        self.assertEqual(said(carry.told((1, 1))), "-3 in B (1 of 2; Tab for the next)")
+        self.assertEqual(said(carry.notice((1, 1))), "-3 in B (1 of 2; Tab for the next)")
         carry.choice += 1
-        self.assertEqual(said(carry.told((1, 1))), "+5 in A (2 of 2; Tab for the next)")
-        self.assertEqual(carry.chosen((1, 1)), Offer(5, "move alg 0 0 A 1 1", "A"))
+        self.assertEqual(said(carry.notice((1, 1))), "+5 in A (2 of 2; Tab for the next)")
+        self.assertEqual(carry.chosen((1, 1)), offer(5, "move alg 0 0 A 1 1"))
         carry.choice += 1
-        self.assertEqual(carry.chosen((1, 1)), Offer(-3, "move alg 0 0 B 1 1", "B"))
+        self.assertEqual(carry.chosen((1, 1)), offer(-3, "move alg 0 0 B 1 1"))
         self.assertEqual(desk.asked, [MOVES, HOMES, "cheapest 1000 move alg 0 0 * 1 1"])
 
     def test_own_slot_is_the_cheapest(self):
         desk = FakePlanner({MOVES: GRID.replace("-3", "3"), HOMES: HOME})
         carry = Carry(desk, MOVE, "alg", self.ALG)
-        self.assertEqual(carry.best(), ((0, 0), Offer(-1, "reroom alg B 0 0", "B")))
+        self.assertEqual(carry.best(), ((0, 0), offer(-1, "reroom alg B 0 0")))
         carry.begin_at((0, 0))
         carry.choose(*carry.best())
         self.assertEqual(carry.chosen((0, 0)).about, "B")
@@ -137,7 +148,7 @@ class Asked(OfficeTest):
         desk.now.put("geo", (0, 2), "A")
         desk.now.put("top", (0, 1), "B")
         carry = Carry(desk, SWAP, "alg", self.ALG)
-        self.assertEqual(said(carry.best_told())[:26], "Cheapest: +4 with top, day")
+        self.assertEqual(said(carry.best_notice())[:26], "Cheapest: +4 with top, day")
         self.assertEqual(desk.asked, [swaps])
         short = [said(carry.short_reason((0, at))) for at in (0, 1)]
         self.assertEqual(short, ["no swap", "clash geo"])
@@ -149,18 +160,18 @@ class Asked(OfficeTest):
         asked = ["slot 0 1", refused.format("geo"), refused.format("top")]
         self.assertEqual(desk.asked, asked)
         desk.asked.clear()
-        self.assertEqual(carry.at((0, 2)), [Offer(4, "swap alg 0 0 top 0 2", "top")])
+        self.assertEqual(carry.at((0, 2)), [offer(4, "swap alg 0 0 top 0 2")])
         self.assertEqual(desk.asked, ["slot 0 2", price.format("geo"), price.format("top")])
 
     def test_refused(self):
         """What makes every edit fail is said of each slot."""
         desk = FakePlanner({MOVES: "refused notplaced"})
         carry = Carry(desk, MOVE, "alg", self.ALG)
-        self.assertEqual(said(carry.best_told()), "It can stand nowhere else now.")
+        self.assertEqual(said(carry.best_notice()), "It can stand nowhere else now.")
         for slot in desk.instance.slots():
             self.assertEqual(said(carry.short_reason(slot)), "gone")
             told = "cannot stand there: no lecture of alg stands there any more"
-            self.assertEqual(said(carry.told(slot)), told)
+            self.assertEqual(said(carry.notice(slot)), told)
         desk = FakePlanner({"slots swap alg 0 0 * * *": "refused notplaced"})
         self.assertEqual(said(Carry(desk, SWAP, "alg", self.ALG).short_reason((0, 1))), "gone")
         desk = FakePlanner({"slots place alg * * *": "refused full"})
@@ -183,9 +194,9 @@ class Asked(OfficeTest):
             ("bad line 2 slots", "The desk says: bad line 2 slots"),
         ):
             carry = Carry(FakePlanner({MOVES: answer}), MOVE, "alg", self.ALG)
-            self.assertEqual(said(carry.best_told()), told)
+            self.assertEqual(said(carry.best_notice()), told)
             self.assertEqual(said(carry.short_reason((0, 1))), "not known")
             self.assertEqual(
-                said(carry.told((0, 1))),
+                said(carry.notice((0, 1))),
                 "cannot stand there: the desk has not said what it would cost",
             )

@@ -1,5 +1,5 @@
 """Two seats that know of each other: marks, who is where, and pins, at the screen."""
-from support import SMALL, OfficeTest
+from support import SMALL, OfficeTest, lines_of, make_edit
 
 from office.day.folder import Day
 from office.day.pins import read_pins
@@ -18,7 +18,7 @@ class Others(OfficeTest):
         self.open("day", SMALL, "3")
         self.ben = self.planning("day", 1, "ben")
         for edit in ["place geo A 0 1", "place alg A 1 1"]:
-            self.assertTrue(self.ben.edit(edit))
+            self.assertTrue(make_edit(self.ben, edit))
         self.ben.commit()
         self.anna = self.planning("day", 0, "anna")
         self.board = Board(self.anna)
@@ -37,7 +37,7 @@ class Others(OfficeTest):
 
     def test_marks(self):
         self.assertNotIn("@ben", self.see("course geo"))
-        self.ben.edit("move geo 0 1 B 1 2")
+        make_edit(self.ben, "move geo 0 1 B 1 2")
         told = self.see("course geo")
         self.assertEqual(told.count("@ben"), 2)
         self.assertIn("week of course geo: 1 lecture missing; at work on it: ben", told)
@@ -47,14 +47,14 @@ class Others(OfficeTest):
         # what is taken back is no work any more, and what is committed neither
         self.ben.undo()
         self.assertNotIn("@ben", self.see("course geo"))
-        self.ben.edit("move geo 0 1 B 1 2")
+        make_edit(self.ben, "move geo 0 1 B 1 2")
         self.assertIn("@ben", self.see("course geo"))
         self.ben.commit()
         self.assertNotIn("@ben", self.see("course geo"))
 
     def test_away(self):
         """A draft that is left open is marked still; who comes back has it since he opened it."""
-        self.ben.edit("move geo 0 1 B 1 2")
+        make_edit(self.ben, "move geo 0 1 B 1 2")
         since = self.anna.courtesies
         since.read_on()
         (work,) = since.works()
@@ -67,7 +67,7 @@ class Others(OfficeTest):
         self.assertNotIn("@ben", self.see("course geo"))
 
     def test_who_is_where(self):
-        self.ben.edit("move geo 0 1 B 1 2")
+        make_edit(self.ben, "move geo 0 1 B 1 2")
         self.press("i")
         lines = text_of(self.board).split("\n")[2:5]
         self.assertRegex(lines[0], r"seat 0: anna, since \d\d:\d\d; no draft known")
@@ -104,7 +104,7 @@ class Others(OfficeTest):
         self.assertIn("go on all the same?", text_of(board))
         self.assertFalse(self.ben.is_open)
         board.press("y")
-        self.assertEqual(self.ben.edits(), ["drop geo 0 1"])
+        self.assertEqual(lines_of(self.ben.edits()), ["drop geo 0 1"])
         # nothing is refused for it
         self.ben.commit()
         self.assertEqual(len(self.ben.minutes.entries), 2)
@@ -116,7 +116,7 @@ class Others(OfficeTest):
         self.press("y")
         self.assertEqual(read_pins(Day(self.path("day"))), {})
         # what is not committed is not pinned
-        self.anna.edit("move geo 0 1 B 1 2")
+        make_edit(self.anna, "move geo 0 1 B 1 2")
         self.see("course geo")
         self.press("tab", "p")
         self.assertIn("geo is not committed there: commit it first", text_of(self.board))
@@ -131,7 +131,7 @@ class Others(OfficeTest):
         self.press("escape")
         self.assertFalse(self.anna.is_open)
         self.press("enter", "y")
-        self.assertEqual(self.anna.edits(), ["swap alg 1 1 geo 0 1"])
+        self.assertEqual(lines_of(self.anna.edits()), ["swap alg 1 1 geo 0 1"])
 
     def test_status_and_next_day(self):
         self.pin()

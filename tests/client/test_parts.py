@@ -2,7 +2,7 @@
 import os
 
 from changed_rules import MOVE, REROOM, Parts, text_of
-from support import SMALL, SMALL_SOL, said, wait_until
+from support import SMALL, SMALL_SOL, lines_of, make_edit, said, wait_until
 
 from office.day.closure import Scope
 from office.day.closures_file import read_closures, standing
@@ -14,7 +14,7 @@ from office.seat.seat_log import read_past
 class Screens(Parts):
     def test_blocked_by_a_key(self):
         self.open_day()
-        self.anna.planning.edit(MOVE)
+        make_edit(self.anna.planning, MOVE)
         self.press(self.ben, "v", *"room A", "enter")
         self.ben.set_cursor((0, 1))
         told = self.press(self.ben, "B")
@@ -51,7 +51,7 @@ class Screens(Parts):
     def test_refused_is_explained(self):
         self.blocked_under_draft()
         anna = self.anna
-        self.assertEqual(anna.planning.edits(), [MOVE])
+        self.assertEqual(lines_of(anna.planning.edits()), [MOVE])
         told = text_of(anna)
         self.assertIn("1 of 2 edits made again, none committed yet.", told)
         why = "A is blocked then: heating (ben at seat 1)"
@@ -59,7 +59,7 @@ class Screens(Parts):
         self.assertIn("geo: stood on day 1, period 2, A", told)
         told = self.press(anna, "enter").replace("made\n ", "made ")
         self.assertIn("your draft is made again: 1 of 2 edits, none committed.", told)
-        self.assertFalse(anna.planning.seat.story.again)
+        self.assertFalse(anna.planning.seat.state.again)
         # nothing of it was committed, and it can be
         self.assertEqual(len(read_entries(self.day)), 1)
         self.commit(anna, "room")
@@ -80,7 +80,7 @@ class Screens(Parts):
         self.assertRegex(told, r"A is blocked here: heating \(ben at seat 1, \d\d:\d\d\)\.")
         # and the program finds nothing blocked
         self.assertNotIn("blocked", [one["kind"] for one in ben.work.findings.read()])
-        self.assertFalse(ben.planning.edit("place alg A 0 0"))
+        self.assertFalse(make_edit(ben.planning, "place alg A 0 0"))
         self.assertIn("A is blocked then: heating (ben at seat 1)", said(ben.planning))
 
     def test_lifted(self):
@@ -96,7 +96,7 @@ class Screens(Parts):
         self.assertIn(f"{line}; your draft is made again: 1 of 1 edits", text_of(self.anna))
         # what ben has not read yet is there to be read
         self.assertIn("These lectures are missing now:", text_of(self.ben))
-        self.assertTrue(self.ben.planning.edit("place alg A 0 0"))
+        self.assertTrue(make_edit(self.ben.planning, "place alg A 0 0"))
         self.assertEqual(standing(read_closures(self.day)), [])
 
     def test_teacher_and_course(self):
@@ -122,7 +122,7 @@ class Screens(Parts):
     def test_what_is_typed_stays(self):
         """A reason that is being typed is there again behind what is to be read."""
         self.open_day()
-        self.anna.planning.edit(MOVE)
+        make_edit(self.anna.planning, MOVE)
         self.press(self.anna, "c", *"why not")
         self.press(self.ben, ":", *"show cost")
         self.block()
@@ -138,7 +138,7 @@ class Screens(Parts):
         """A commit of which the answer is not heard was accepted, if the minutes have it."""
         self.open_day()
         planning = self.anna.planning
-        planning.edit(MOVE)
+        make_edit(planning, MOVE)
         seat = planning.seat
         seat.log.noted("why quick")
         seat.send("commit")
@@ -148,18 +148,18 @@ class Screens(Parts):
         os.close(seat.answers)
         seat.answers = -1
         self.go_on(self.anna, self.ben)
-        self.assertEqual(planning.seat.story.accepted, [1])
+        self.assertEqual(planning.seat.state.accepted, [1])
         self.assertFalse(planning.is_open)
-        self.assertEqual(planning.ended(), [])
+        self.assertEqual(lines_of(planning.ended()), [])
         past = read_past(self.day.log(0))
-        self.assertEqual((past.part, past.story.accepted, past.waiting), (2, [1], []))
+        self.assertEqual((past.part, past.state.accepted, past.waiting), (2, [1], []))
         self.assertEqual(past.whys[1], "quick")
 
     def test_edits_without_an_answer(self):
         """Edits that were sent and not answered are made again, too."""
         self.open_day()
         seat = self.anna.planning.seat
-        self.anna.planning.edit(MOVE)
+        make_edit(self.anna.planning, MOVE)
         self.block()
         self.assertTrue(wait_until(self.anna.work.is_over))
         seat.leave_desk()

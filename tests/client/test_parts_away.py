@@ -1,4 +1,5 @@
 """A draft that was left open over a change of the rules."""
+from support import lines_of, make_edit
 from changed_rules import MOVE, REROOM, Parts, text_of
 
 from office.day.closure import Scope
@@ -12,7 +13,7 @@ class Away(Parts):
     def leave_and_block(self):
         self.open_day()
         for edit in (MOVE, REROOM):
-            self.anna.planning.edit(edit)
+            make_edit(self.anna.planning, edit)
         self.anna.planning.seat.go()
         self.block()
         self.go_on(self.ben)
@@ -26,12 +27,12 @@ class Away(Parts):
         self.assertIn("A is blocked on day 1: heating (ben at seat 1)", told)
         self.assertIn("1 of 2 edits made again, none committed yet.", told)
         self.assertIn("A is blocked then", told)
-        self.assertEqual(anna.planning.edits(), [MOVE])
+        self.assertEqual(lines_of(anna.planning.edits()), [MOVE])
         anna.planning.seat.go()
         # once is enough
         anna = self.sit_at(0, "anna")
         self.assertNotIn("made again", text_of(anna))
-        self.assertEqual(anna.planning.edits(), [MOVE])
+        self.assertEqual(lines_of(anna.planning.edits()), [MOVE])
 
     def test_of_somebody_else(self):
         self.leave_and_block()
@@ -44,18 +45,18 @@ class Away(Parts):
         carla = self.sit_at(0, "carla")
         told = self.press(carla, "y")
         self.assertIn("1 of 2 edits made again, none committed yet.", told)
-        self.assertEqual(carla.planning.edits(), [MOVE])
+        self.assertEqual(lines_of(carla.planning.edits()), [MOVE])
 
     def test_broken_off_while_it_is_made(self):
         """A client that dies while it makes a draft again loses nothing of it."""
         self.leave_and_block()
         planning = self.planning("day", 0, "anna")
-        self.assertEqual(planning.seat.story.again, [MOVE, REROOM])
+        self.assertEqual(lines_of(planning.seat.state.again), [MOVE, REROOM])
         planning._open_new()
         planning.seat.go()
         anna = self.sit_at(0, "anna")
         self.assertIn("1 of 2 edits made again, none committed yet.", text_of(anna))
-        self.assertEqual(anna.planning.edits(), [MOVE])
+        self.assertEqual(lines_of(anna.planning.edits()), [MOVE])
 
     def test_given_up(self):
         self.leave_and_block()
@@ -69,5 +70,5 @@ class Away(Parts):
         self.block(Scope("room", "B", 1), "paint")
         self.go_on(self.ben)
         anna = self.sit_at(0, "anna")
-        self.assertEqual(anna.planning.edits(), [MOVE])
+        self.assertEqual(lines_of(anna.planning.edits()), [MOVE])
         self.assertEqual(len(parts_of(self.day)), 3)

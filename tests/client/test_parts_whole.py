@@ -3,7 +3,7 @@ import json
 import os
 
 from changed_rules import MOVE, Parts
-from support import PROGRAM
+from support import PROGRAM, lines_of, make_edit
 
 from office.day.closures_file import read_closures, standing
 from office.day.folder import Day
@@ -56,7 +56,7 @@ class Whole(Parts):
         self.assertIn("Draft 1, ben,", told)
         self.assertIn("Why: the beamer", told)
         self.press(self.ben, "t")
-        self.assertEqual(self.ben.planning.edits(), ["reroom alg B 1 0"])
+        self.assertEqual(lines_of(self.ben.planning.edits()), ["reroom alg B 1 0"])
 
     def test_close_and_the_next_day(self):
         for board in (self.anna, self.ben):
@@ -126,7 +126,7 @@ class Audited(Parts):
         self.reopen()
         self.assertEqual(len(parts_of(self.day)), 2)
         anna = self.sit_at(0, "anna")
-        self.assertEqual(anna.planning.edits() or anna.planning.ended(), [MOVE])
+        self.assertEqual(lines_of(anna.planning.edits()) or lines_of(anna.planning.ended()), [MOVE])
         anna.planning.seat.go()
         self.end(self.process)
         self.assertEqual(self.office("close", self.path("day"))[0], 0)
@@ -139,7 +139,7 @@ class Audited(Parts):
             "lazy", f'#!/bin/sh\n[ "$1" = mend ] && exec cat "$3"\nexec {PROGRAM} "$@"\n', 0o755
         )
         self.open_day()
-        self.anna.planning.edit(MOVE)
+        make_edit(self.anna.planning, MOVE)
         self.block()
         self.anna.planning.seat.go()
         self.ben.planning.seat.go()
@@ -152,7 +152,7 @@ class Audited(Parts):
         self.reopen()
         self.assertEqual(len(parts_of(self.day)), 2)
         self.assertEqual(half_made(self.day), [])
-        self.assertEqual(self.sit_at(0, "anna").planning.edits(), [MOVE])
+        self.assertEqual(lines_of(self.sit_at(0, "anna").planning.edits()), [MOVE])
 
     def reopen(self):
         """Goes on with the day."""

@@ -2,9 +2,19 @@
 import os
 import signal
 
-from support import SMALL, SMALL_SOL, SPRING, SPRING_SOL, OfficeTest, said, wait_until
+from support import (
+    SMALL,
+    SMALL_SOL,
+    SPRING,
+    SPRING_SOL,
+    OfficeTest,
+    lines_of,
+    make_edit,
+    said,
+    wait_until,
+)
 
-from office.day.timetable import Lecture
+from office.day.lecture import Lecture
 from office.past.earlier_days import Earlier
 from office.seat.seat import DeskEnded
 from office.terminal.board import Board
@@ -41,9 +51,9 @@ class Planners(OfficeTest):
         anna, ben = self.two()
         self.look_around(anna)
         self.assertFalse(anna.is_open)
-        self.assertTrue(anna.edit(BEST))
+        self.assertTrue(make_edit(anna, BEST))
         self.look_around(anna)
-        self.assertTrue(ben.edit("swap c0110 4 2 c0014 4 2"))
+        self.assertTrue(make_edit(ben, "swap c0110 4 2 c0014 4 2"))
         ben.commit()
         self.assertIn("Committed as draft 1", said(ben))
         self.assertTrue(anna.tick())
@@ -60,24 +70,24 @@ class Planners(OfficeTest):
     def test_stale_and_redo(self):
         anna, ben = self.two()
         for edit in (BEST, "reroom c0049 r04 0 0", "drop c0001 1 2"):
-            self.assertTrue(anna.edit(edit), said(anna))
-        ben.edit("move c0109 4 1 r09 4 2")
+            self.assertTrue(make_edit(anna, edit), said(anna))
+        make_edit(ben, "move c0109 4 1 r09 4 2")
         ben.commit()
         anna.tick()
-        self.assertEqual(anna.foretold, "course c0109")
+        self.assertEqual(str(anna.stale_preview), "course c0109")
         board = Board(anna)
         self.commit(board)
         text = "\n".join(row[0][0] for row in board.rows(24, 80))
         self.assertIn("Your draft is stale: nothing is lost", text)
         self.assertIn("draft 1, ben, ", text)
         self.assertIn("  c0109: day 5, period 2, r01 -> day 5, period 3, r09", text)
-        self.assertEqual(anna.seat.story.ended, [BEST, "reroom c0049 r04 0 0", "drop c0001 1 2"])
+        self.assertEqual(lines_of(anna.seat.state.ended), [BEST, "reroom c0049 r04 0 0", "drop c0001 1 2"])
         board.press("r")
         text = "\n".join(row[0][0] for row in board.rows(24, 80))
         self.assertIn("2 of 3 edits made again, none committed yet.", text)
         self.assertIn(f"1. {TOLD}: no lecture of c0109 stands", text)
         self.assertEqual(len(anna.minutes.entries), 1)
-        self.assertEqual(anna.edits(), ["reroom c0049 r04 0 0", "drop c0001 1 2"])
+        self.assertEqual(lines_of(anna.edits()), ["reroom c0049 r04 0 0", "drop c0001 1 2"])
         # what was refused stays to be seen, also after one goes away
         anna.seat.go()
         anna = self.planning("day", 0, "anna")
@@ -94,36 +104,36 @@ class Planners(OfficeTest):
     def test_stale_edits_are_not_left_behind(self):
         """Who goes on after a stale draft is asked first what becomes of its edits."""
         anna, ben = self.two()
-        anna.edit(BEST)
-        ben.edit("move c0109 4 1 r09 4 2")
+        make_edit(anna, BEST)
+        make_edit(ben, "move c0109 4 1 r09 4 2")
         ben.commit()
         anna.commit()
-        self.assertFalse(anna.edit("drop c0001 1 2"))
+        self.assertFalse(make_edit(anna, "drop c0001 1 2"))
         self.assertIn("r makes them again, a gives them up", said(anna))
         anna.seat.go()
         anna = self.planning("day", 0, "anna")
-        self.assertEqual(anna.ended(), [BEST])
+        self.assertEqual(lines_of(anna.ended()), [BEST])
         self.assertEqual(said(anna.redo()[0]).rsplit(":", 1)[0], f"1. {TOLD}")
         anna.abandon()
-        self.assertTrue(anna.edit("move c0109 3 2 r04 4 3"))
-        ben.edit("drop c0109 3 2")
+        self.assertTrue(make_edit(anna, "move c0109 3 2 r04 4 3"))
+        make_edit(ben, "drop c0109 3 2")
         ben.commit()
         anna.commit()
         board = Board(anna)
         for key in ("escape", "a", "y"):
             board.press(key)
-        self.assertEqual(anna.ended(), [])
-        self.assertTrue(anna.edit("drop c0001 1 2"))
+        self.assertEqual(lines_of(anna.ended()), [])
+        self.assertTrue(make_edit(anna, "drop c0001 1 2"))
         self.assertEqual(said(anna.alarm), "")
 
     def test_undo(self):
         anna, _ = self.two()
         total = sum(anna.costs().values())
-        anna.edit(BEST)
-        anna.edit("drop c0001 1 2")
+        make_edit(anna, BEST)
+        make_edit(anna, "drop c0001 1 2")
         self.assertEqual(anna.missing(), {"c0001": 1})
         anna.undo()
-        self.assertEqual((anna.missing(), anna.edits()), ({}, [BEST]))
+        self.assertEqual((anna.missing(), lines_of(anna.edits())), ({}, [BEST]))
         anna.undo()
         anna.undo()
         self.assertEqual(said(anna), "No edit is left to undo.")
@@ -138,39 +148,39 @@ class Planners(OfficeTest):
         and the log agree on what is left; also after one goes away, and after a redo."""
         anna, ben = self.two()
         for edit in (BEST, "drop c0001 1 2", "place c0001 r14 1 2"):
-            anna.edit(edit)
-        self.assertEqual(anna.edits(), [BEST])
+            make_edit(anna, edit)
+        self.assertEqual(lines_of(anna.edits()), [BEST])
         anna.seat.go()
         anna = self.planning("day", 0)
-        self.assertEqual(anna.edits(), [BEST])
-        anna.edit("reroom c0049 r04 0 0")
+        self.assertEqual(lines_of(anna.edits()), [BEST])
+        make_edit(anna, "reroom c0049 r04 0 0")
         anna.undo()
-        self.assertEqual(anna.edits(), [BEST])
-        anna.edit("drop c0001 1 2")
-        ben.edit("drop c0001 1 2")
+        self.assertEqual(lines_of(anna.edits()), [BEST])
+        make_edit(anna, "drop c0001 1 2")
+        make_edit(ben, "drop c0001 1 2")
         ben.commit()
         anna.commit()
         self.assertIn("Stale", said(anna))
         # the desk counts all that was accepted, also what was taken back
         self.assertEqual([said(line).split(".")[0] for line in anna.redo()], ["2"])
-        self.assertEqual(anna.edits(), [BEST])
+        self.assertEqual(lines_of(anna.edits()), [BEST])
         anna.undo()
         anna.undo()
-        self.assertEqual((said(anna), anna.edits()), ("No edit is left to undo.", []))
+        self.assertEqual((said(anna), lines_of(anna.edits())), ("No edit is left to undo.", []))
         self.assertEqual((said(anna.alarm), said(ben.alarm)), ("", ""))
 
     def test_goes_away_and_comes_back(self):
         anna, ben = self.two()
         total = sum(anna.costs().values())
-        anna.edit(BEST)
-        anna.edit("reroom c0049 r04 0 0")
+        make_edit(anna, BEST)
+        make_edit(anna, "reroom c0049 r04 0 0")
         anna.undo()
         anna.seat.go()
-        ben.edit("swap c0110 4 2 c0014 4 2")
+        make_edit(ben, "swap c0110 4 2 c0014 4 2")
         ben.commit()
         anna = self.planning("day", 0, "anna")
         self.assertEqual(said(anna), "Your draft is as you left it: 1 edit.")
-        self.assertEqual((anna.edits(), anna.base_total, anna.behind()), ([BEST], total, 1))
+        self.assertEqual((lines_of(anna.edits()), anna.base_total, anna.accepted_count()), ([BEST], total, 1))
         cells = cells_of(anna, View("course", "c0109"))
         self.assertTrue(cells[4, 1].is_mine and cells[4, 3].is_mine and not cells[4, 3].is_others)
         self.assertTrue(cells_of(anna, View("course", "c0014"))[4, 2].is_others)
@@ -182,16 +192,16 @@ class Planners(OfficeTest):
         lecture = Lecture("c0109", "r01", 4, 1)
         carry = Carry(anna, MOVE, "c0109", lecture)
         self.assertEqual(carry.best()[0], (4, 3))
-        self.assertEqual(said(carry.told((4, 3))), "-257 in r04 (1 of 3; Tab for the next)")
-        self.assertEqual(said(carry.told((0, 0))), "cannot stand there: c0109 is unavailable then")
+        self.assertEqual(said(carry.notice((4, 3))), "-257 in r04 (1 of 3; Tab for the next)")
+        self.assertEqual(said(carry.notice((0, 0))), "cannot stand there: c0109 is unavailable then")
         self.assertEqual(
-            said(carry.told((3, 0))), "cannot stand there: its teacher t067 teaches c0120 then"
+            said(carry.notice((3, 0))), "cannot stand there: its teacher t067 teaches c0120 then"
         )
         carry.begin_at((4, 1))
         self.assertTrue(carry.is_in_place((4, 1)))
         swap = Carry(anna, SWAP, "c0109", lecture)
-        self.assertEqual(said(swap.told((4, 1))).split(" (")[0], "-258 with c0113")
-        anna.edit("drop c0109 4 1")
+        self.assertEqual(said(swap.notice((4, 1))).split(" (")[0], "-258 with c0113")
+        make_edit(anna, "drop c0109 4 1")
         place = Carry(anna, PLACE, "c0109", None)
         self.assertEqual(place.best()[0], (4, 3))
         self.assertEqual(len(anna.minutes.entries), 0)
@@ -200,11 +210,11 @@ class Planners(OfficeTest):
         """A line at the seat of which the client does not know: it reads everything anew, and says
         so."""
         anna, ben = self.two()
-        anna.edit(BEST)
+        make_edit(anna, BEST)
         with open(self.path("day/0.in"), "w") as lines:
             lines.write("drop c0109 4 3\n")
         self.assertTrue(wait_until(lambda: anna.seat.read(1) == "done"))
-        anna.edit("reroom c0049 r04 0 0")
+        make_edit(anna, "reroom c0049 r04 0 0")
         self.assertEqual(said(anna.alarm), "")
         anna._cache.clear()
         self.assertEqual(
@@ -215,13 +225,13 @@ class Planners(OfficeTest):
 
     def test_desk_is_killed(self):
         anna, ben = self.two()
-        ben.edit("swap c0110 4 2 c0014 4 2")
+        make_edit(ben, "swap c0110 4 2 c0014 4 2")
         ben.commit()
-        anna.edit(BEST)
-        anna.edit("drop c0001 1 2")
+        make_edit(anna, BEST)
+        make_edit(anna, "drop c0001 1 2")
         os.kill(self.desk_of("day"), signal.SIGKILL)
         with self.assertRaises(DeskEnded):
-            anna.edit("reroom c0049 r04 0 0")
+            make_edit(anna, "reroom c0049 r04 0 0")
         board = Board(anna)
         board.desk_ended("The desk has ended")
         text = "\n".join(row[0][0] for row in board.rows(24, 80))
@@ -236,7 +246,7 @@ class Planners(OfficeTest):
         anna = self.planning("next", 0, "anna")
         earlier = Earlier(anna)
         # the last one was sent, and may have been made
-        self.assertEqual(earlier.edits, [BEST, "drop c0001 1 2", "reroom c0049 r04 0 0"])
+        self.assertEqual(lines_of(earlier.edits), [BEST, "drop c0001 1 2", "reroom c0049 r04 0 0"])
         self.assertEqual(earlier.take_up(), [])
         self.assertEqual(anna.edits(), earlier.edits)
         self.assertEqual(len(anna.minutes.entries), 0)
@@ -268,7 +278,7 @@ class Planners(OfficeTest):
         board.show_view(View("course", "top"))
         board.press("enter")
         self.assertIsNotNone(board.work.carry)
-        ben.edit("drop top 0 2")
+        make_edit(ben, "drop top 0 2")
         ben.commit()
         board.tick()
         self.assertIsNone(board.work.carry)
@@ -277,7 +287,7 @@ class Planners(OfficeTest):
         # the same, if a key comes before the news
         board.show_view(View("course", "geo"))
         board.press("enter")
-        ben.edit("drop geo 0 1")
+        make_edit(ben, "drop geo 0 1")
         ben.commit()
         anna.read_minutes()
         board.press("enter")

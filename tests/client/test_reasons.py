@@ -4,8 +4,11 @@ from support import SMALL, SMALL_SOL, SPRING, OfficeTest, said
 
 from office.data.labels import Labels, Name
 from office.day.closure import Closure, Scope
+from office.day.edits import Edit
 from office.day.instance import read_instance, read_solution
-from office.day.timetable import Lecture, Timetable
+from office.day.lecture import Lecture
+from office.day.timetable import Timetable
+from office.seat.answers import Fault
 from office.words.actions import KeyNames
 from office.words.reasons import reason, short_reason, slot_reason
 from office.words.wording import Wording
@@ -26,6 +29,7 @@ class Told(OfficeTest):
         )
 
     def slot_told(self, fault, course="alg", slot=(0, 0)):
+        fault = Fault.parse(fault) if fault else None
         found = slot_reason(self.instance, course, slot, fault)
         return said(found), said(short_reason(self.instance, course, slot, fault))
 
@@ -63,7 +67,7 @@ class Told(OfficeTest):
         """Who teaches both is told before what both are in."""
         instance = read_instance(SPRING)
         self.assertEqual(
-            said(slot_reason(instance, "c0109", (3, 0), "clash c0120")),
+            said(slot_reason(instance, "c0109", (3, 0), Fault("clash", "c0120"))),
             "its teacher t067 teaches c0120 then",
         )
 
@@ -146,7 +150,8 @@ class Told(OfficeTest):
             ("reroom alg B 0 0", "roomtaken top", "top is in B then"),
             ("drop alg 0 1", "notplaced", "no lecture of alg stands there any more"),
         ):
-            self.assertEqual(said(reason(self.instance, edit, fault)), told, (edit, fault))
+            found = reason(self.instance, Edit.parse(edit), Fault.parse(fault))
+            self.assertEqual(said(found), told, (edit, fault))
 
     def test_names(self):
         """Courses, rooms and teachers by their names."""
@@ -154,6 +159,6 @@ class Told(OfficeTest):
         labels.names["course", "geo"] = Name("Geometry", "Geo")
         labels.names["curriculum", "q1"] = Name("First year", "Y1")
         wording = Wording(KeyNames(), labels)
-        notice = slot_reason(self.instance, "alg", (0, 1), "clash geo")
+        notice = slot_reason(self.instance, "alg", (0, 1), Fault("clash", "geo"))
         told = "curriculum First year (q1) has Geometry (geo) then"
         self.assertEqual(wording.notice(notice), told)

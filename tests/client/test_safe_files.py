@@ -1,5 +1,5 @@
-"""The folder of a group: what somebody of it lays in the place of a file of the day is not taken for
-it, and nothing of its owner is written or shown by it."""
+"""The folder of a group: what somebody of it lays in the place of a file of the day is not taken
+for it, and nothing of its owner is written or shown by it."""
 import os
 import stat
 from unittest import mock
@@ -40,8 +40,8 @@ class Links(OfficeTest):
 
     def test_new_ones(self):
         """What is made anew takes the place of what lay there."""
-        for name in ("instance.ctt.new", "day.json.new", "names.new", "closing.new", "web.keys.new"):
-            self.link(name)
+        for name in ("instance.ctt", "day.json", "names", "closing", "web.keys"):
+            self.link(f"{name}.new")
         self.open("day", SMALL, "1")
         self.is_kept()
         self.assertEqual(self.sit("day", 0, "show cost\n"), ["costs 0 20 0 0"])
@@ -56,7 +56,8 @@ class Links(OfficeTest):
         os.remove(self.path("day/2.in"))
         self.link("2.in")
         for planner in range(3):
-            status, printed, said = self.office("sit", self.path("day"), str(planner), text="open\n")
+            words = ["sit", self.path("day"), str(planner)]
+            status, printed, said = self.office(*words, text="open\n")
             self.assertEqual((status, printed), (3, ""), said)
             self.assertTrue(said.startswith("office: "), said)
             self.assertEqual(said.count("\n"), 1, said)

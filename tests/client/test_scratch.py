@@ -1,18 +1,24 @@
 """A desk of the program beside that of the day, where edits are tried."""
 import unittest
 
-from support import PROGRAM, SMALL, SMALL_SOL, OfficeTest
+from support import PROGRAM, SMALL, SMALL_SOL, OfficeTest, lines_of
 
 from office.data.instance_files import written
+from office.day.edits import Edit
 from office.day.folder import Day
 from office.day.instance import read_instance, read_solution
+from office.day.lecture import Lecture
 from office.day.parts import last_part
 from office.day.scratch_desk import Scratch, scratch_of
-from office.day.timetable import Lecture
 from office.refused import Refused
 
 RUN = [PROGRAM, "run", SMALL, "-"]
 PLACED = [Lecture(*row) for row in read_solution(SMALL_SOL)]
+
+
+def answers_of(scratch, lines):
+    """What a desk answers edits, both as lines."""
+    return lines_of(scratch.answers(list(map(Edit.parse, lines))))
 
 
 class Tried(OfficeTest):
@@ -21,32 +27,33 @@ class Tried(OfficeTest):
         edits = ["drop geo 0 1", "place top A 0 1", "place alg B 0 1", "place geo B 0 1"]
         wanted = ["done", "refused full", "refused full", "done"]
         for _ in range(2):
-            self.assertEqual(scratch.answers(edits), wanted)
-        self.assertEqual(scratch.answers(["place geo B 0 1"]), ["refused already"])
-        self.assertEqual(scratch.answers([]), [])
+            self.assertEqual(answers_of(scratch, edits), wanted)
+        self.assertEqual(answers_of(scratch, ["place geo B 0 1"]), ["refused already"])
+        self.assertEqual(answers_of(scratch, []), [])
 
     def test_without_lectures(self):
-        answers = Scratch(RUN).answers(["drop geo 0 1", "place geo A 0 1", "place geo A 0 9"])
+        edits = ["drop geo 0 1", "place geo A 0 1", "place geo A 0 9"]
+        answers = answers_of(Scratch(RUN), edits)
         self.assertEqual(answers, ["refused notplaced", "done", "bad line"])
 
     def test_lectures_that_cannot_stand(self):
         scratch = Scratch(RUN, [*PLACED, Lecture("top", "A", 0, 1)])
         with self.assertRaisesRegex(Refused, "the program does not try edits"):
-            scratch.answers([])
+            answers_of(scratch, [])
 
     def test_program_that_fails(self):
         for text in ("exit 3", "echo opened; exit 0", "yes done", "kill -9 $$"):
             text = text.replace("yes done", "echo opened; echo done; echo done")
             broken = self.write("broken", f"#!/bin/sh\ncat >/dev/null\n{text}\n", 0o755)
             with self.assertRaisesRegex(Refused, "the program does not try edits"):
-                Scratch([broken]).answers(["drop geo 0 1"])
+                answers_of(Scratch([broken]), ["drop geo 0 1"])
         with self.assertRaisesRegex(Refused, "cannot run .*nowhere: No such file"):
-            Scratch([self.path("nowhere")]).answers([])
+            answers_of(Scratch([self.path("nowhere")]), [])
 
     def test_what_it_says(self):
         """Who waits for it hears why the program refuses; then nothing more is said."""
         with self.assertRaises(Refused) as caught:
-            Scratch([PROGRAM, "run", self.path("nowhere"), "-"], quiet=False).answers([])
+            answers_of(Scratch([PROGRAM, "run", self.path("nowhere"), "-"], quiet=False), [])
         self.assertEqual(caught.exception.reason, "")
 
     def test_rules_of_a_day(self):
@@ -56,7 +63,7 @@ class Tried(OfficeTest):
         scratch = scratch_of(last_part(Day(self.path("day"))), [])
         edits = ["place geo A 0 1", "place geo B 0 1", "place alg B 0 1"]
         self.assertEqual(
-            scratch.answers(edits), ["refused barred", "refused blocked", "refused blocked"]
+            answers_of(scratch, edits), ["refused barred", "refused blocked", "refused blocked"]
         )
 
     def test_written(self):
@@ -64,7 +71,7 @@ class Tried(OfficeTest):
         instance = read_instance(SMALL)
         instance.barred.add(("geo", "A"))
         with written(instance) as files:
-            answers = Scratch([PROGRAM, "run", *files]).answers(["place geo A 0 1"])
+            answers = answers_of(Scratch([PROGRAM, "run", *files]), ["place geo A 0 1"])
         self.assertEqual(answers, ["refused barred"])
 
 

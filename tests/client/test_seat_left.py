@@ -61,6 +61,6 @@ class Left(OfficeTest):
         full = OSError(errno.ENOSPC, "No space left on device")
         with mock.patch.object(os, "pwrite", side_effect=full):
             seat = self.seat("day", 0)
-        self.assertEqual(seat.ask("show cost"), "costs 0 20 0 0")
+        self.assertEqual(str(seat.ask("show cost")), "costs 0 20 0 0")
         seat.go()
         self.goes()

@@ -2,10 +2,12 @@
 import test_speed
 from fake_week import FakeWeek
 from fake_words import words_of
-from support import SMALL, SMALL_SOL, SPRING, SPRING_SOL, OfficeTest, said
+from support import SMALL, SMALL_SOL, SPRING, SPRING_SOL, OfficeTest, make_edit, said
 
+from office.day.edits import Edit
 from office.day.folder import Day
-from office.day.timetable import Lecture
+from office.day.lecture import Lecture
+from office.seat.answers import Fault
 from office.terminal.board import Board
 from office.terminal.grid import Grid
 from office.words.reasons import reason
@@ -23,7 +25,7 @@ class AtDesk(OfficeTest):
         found, ask = [], planning.seat.ask
 
         def keep(line):
-            found.append(line)
+            found.append(str(line))
             return ask(line)
 
         planning.seat.ask = keep
@@ -31,15 +33,15 @@ class AtDesk(OfficeTest):
 
     def edits_to(self, planning, carry, slot):
         """The edits by which it can come to a slot."""
-        about = planning.instance.courses if carry.kind == SWAP else planning.instance.rooms
-        return [carry._edit(one, f"{slot[0]} {slot[1]}") for one in about]
+        about = planning.instance.courses if carry.kind is SWAP else planning.instance.rooms
+        return [carry._edit(one, slot) for one in about]
 
     def compare(self, planning, carry):
         for slot in planning.instance.slots():
-            if carry.kind == MOVE and slot == carry.slot:
+            if carry.kind is MOVE and slot == carry.slot:
                 continue
             edits = self.edits_to(planning, carry, slot)
-            answers = [words_of(planning.look(f"price {edit}")) for edit in edits]
+            answers = [words_of(str(planning.look(f"price {edit}"))) for edit in edits]
             prices = [int(words[1]) for words in answers if words[0] == "price"]
             offers = carry.cheapest(slot)
             if prices:
@@ -51,9 +53,9 @@ class AtDesk(OfficeTest):
                 self.assertEqual(offers, [])
                 faults = [" ".join(words[1:]) for words in answers]
                 furthest = max(faults, key=lambda fault: FAULTS.index(fault.split(" ")[0]))
-                self.assertEqual(carry._fault(slot), furthest, (carry.kind, slot))
+                self.assertEqual(str(carry._fault(slot)), furthest, (carry.kind, slot))
                 self.assertTrue(said(carry.short_reason(slot)) and said(carry.reason(slot)))
-                if carry.kind == SWAP:
+                if carry.kind is SWAP:
                     found = said(carry.reason(slot)), said(carry.short_reason(slot))
                     self.assertEqual(found, self.swap_told(planning, carry, slot, furthest))
 
@@ -76,10 +78,10 @@ class AtDesk(OfficeTest):
             }
             return said_alone[fault], shortly
         edits = {one: f"swap {start} {one.course} {end}" for one in there}
-        answers = {one: planning.look(f"price {edits[one]}") for one in there}
+        answers = {one: str(planning.look(f"price {edits[one]}")) for one in there}
         first = [one for one in there if answers[one] == f"refused {fault}"][0]
-        told = said(reason(planning.instance, edits[first], fault))
-        moved = planning.look(f"price move {start} {first.room} {end}")
+        told = said(reason(planning.instance, Edit.parse(edits[first]), Fault.parse(fault)))
+        moved = str(planning.look(f"price move {start} {first.room} {end}"))
         kind, *other = fault.split(" ")
         if kind == "unavailable" and moved == "refused unavailable":
             return told, "closed"
@@ -96,7 +98,7 @@ class AtDesk(OfficeTest):
             for kind in (MOVE, SWAP):
                 self.compare(anna, Carry(anna, kind, lecture.course, lecture))
         for lecture in anna.known.present().lectures():
-            anna.edit(f"drop {lecture.course} {lecture.day} {lecture.period}")
+            make_edit(anna, f"drop {lecture.course} {lecture.day} {lecture.period}")
             self.compare(anna, Carry(anna, PLACE, lecture.course, None))
 
     def test_spring(self):
@@ -105,7 +107,7 @@ class AtDesk(OfficeTest):
         lecture = Lecture("c0109", "r01", 4, 1)
         self.compare(anna, Carry(anna, MOVE, "c0109", lecture))
         self.compare(anna, Carry(anna, SWAP, "c0109", lecture))
-        anna.edit("drop c0109 4 1")
+        make_edit(anna, "drop c0109 4 1")
         self.compare(anna, Carry(anna, PLACE, "c0109", None))
 
     def test_blocked(self):

@@ -2,7 +2,7 @@
 import os
 import re
 
-from support import SPRING, SPRING_SOL, OfficeTest, said
+from support import SPRING, SPRING_SOL, OfficeTest, lines_of, make_edit, said
 from two_screens import BEST, Two, text_of
 
 from office.day.commit_notes import read_commit_notes
@@ -13,7 +13,7 @@ from office.terminal.board import Board
 class Meant(Two):
     def test_typed_text_publishes_nothing(self):
         anna, _ = self.boards()
-        anna.planning.edit(BEST)
+        make_edit(anna.planning, BEST)
         text = self.type_keys(anna, *"c0109")
         self.assertIn("Why? 0109", text)
         self.assertEqual(anna.planning.minutes.read_on(), [])
@@ -28,14 +28,14 @@ class Meant(Two):
         self.assertEqual(anna.planning.missing(), {"c0001": 1})
         self.assertIn("It leaves lectures missing: c0001.", self.type_keys(anna, "c"))
         self.type_keys(anna, "escape", "u")
-        self.assertEqual((anna.planning.missing(), anna.planning.edits()), ({}, [BEST]))
+        self.assertEqual((anna.planning.missing(), lines_of(anna.planning.edits())), ({}, [BEST]))
         self.assertEqual(anna.planning.minutes.read_on(), [])
 
     def test_box(self):
         """Each edit in words, what the cost changes, whether it is stale; the reason is kept."""
         anna, ben = self.boards()
-        anna.planning.edit(BEST)
-        anna.planning.edit("swap c0110 4 2 c0014 4 2")
+        make_edit(anna.planning, BEST)
+        make_edit(anna.planning, "swap c0110 4 2 c0014 4 2")
         text = self.type_keys(anna, "c")
         self.assertIn("1. c0109: day 5, period 2, r01 -> day 5, period 4, r04", text)
         self.assertRegex(
@@ -43,7 +43,7 @@ class Meant(Two):
         )
         self.assertRegex(text, r"Cost -\d+: capacity -\d+")
         self.assertIn("Nothing that it stands on has changed.", text)
-        ben.planning.edit("drop c0109 3 2")
+        make_edit(ben.planning, "drop c0109 3 2")
         self.commit(ben, "a teacher is ill")
         self.assertIn("The reason is kept.", text_of(ben))
         self.assertTrue(anna.tick())
@@ -61,9 +61,9 @@ class Meant(Two):
     def test_other_edits(self):
         """A draft that has other edits than those that were confirmed is not committed."""
         anna, _ = self.boards()
-        anna.planning.edit(BEST)
+        make_edit(anna.planning, BEST)
         box = anna.work.drafting.box()
-        anna.planning.edit("drop c0001 1 2")
+        make_edit(anna.planning, "drop c0001 1 2")
         self.assertIsNone(anna.work.drafting.commit(box.edits, ""))
         self.assertIn("other edits", said(anna.planning))
         self.assertEqual(anna.planning.minutes.read_on(), [])
@@ -73,19 +73,19 @@ class Meant(Two):
         anna, ben = self.boards()
         self.go_to(anna, "course c0109", (4, 1))
         self.type_keys(anna, "enter", "b")
-        ben.planning.edit("drop c0109 0 3")
+        make_edit(ben.planning, "drop c0109 0 3")
         self.commit(ben)
         text = self.type_keys(anna, "enter")
-        if anna.planning.edits():
+        if lines_of(anna.planning.edits()):
             # the price was the same
-            self.assertEqual(anna.planning.edits(), [BEST])
+            self.assertEqual(lines_of(anna.planning.edits()), [BEST])
         else:
             self.assertIn("Others have changed it just now", text)
 
     def test_reason_that_cannot_be_written(self):
         anna, _ = self.boards()
         os.symlink("/dev/full", self.path("day/reasons"))
-        anna.planning.edit(BEST)
+        make_edit(anna.planning, BEST)
         self.commit(anna, "for the dean")
         text = text_of(anna)
         self.assertIn("Committed as draft 1: 1 edit, on the disk. The reason could not be", text)
@@ -98,11 +98,11 @@ class Meant(Two):
 
     def test_torn_note(self):
         anna, ben = self.boards()
-        anna.planning.edit(BEST)
+        make_edit(anna.planning, BEST)
         self.commit(anna, "one\tof many")
         with open(self.path("day/reasons"), "a") as file:
             file.write("7\t2026")
-        ben.planning.edit("drop c0001 1 2")
+        make_edit(ben.planning, "drop c0001 1 2")
         self.commit(ben, "two")
         notes = read_commit_notes(Day(self.path("day")))
         self.assertEqual({n: note.why for n, note in notes.items()}, {1: "one of many", 2: "two"})
@@ -112,7 +112,7 @@ class Seen(Two):
     def test_key_acts_on_what_was_seen(self):
         anna, ben = self.boards()
         self.go_to(anna, "room r01", (4, 1))
-        ben.planning.edit("swap c0109 4 1 c0113 4 1")
+        make_edit(ben.planning, "swap c0109 4 1 c0113 4 1")
         self.commit(ben)
         # no drawing in between
         anna.press("x")
@@ -121,13 +121,13 @@ class Seen(Two):
         self.assertIn("~", text_of(anna))
         # now it has been seen
         anna.press("x")
-        self.assertEqual(anna.planning.edits(), ["drop c0113 4 1"])
+        self.assertEqual(lines_of(anna.planning.edits()), ["drop c0113 4 1"])
 
     def test_changes_of_others_without_a_draft(self):
         anna, ben = self.boards()
         text = self.go_to(anna, "course c0109", (4, 3))
         self.assertNotIn("~", text)
-        ben.planning.edit(BEST)
+        make_edit(ben.planning, BEST)
         self.commit(ben)
         self.assertTrue(anna.tick())
         text = text_of(anna)
@@ -136,7 +136,7 @@ class Seen(Two):
         anna.set_cursor((4, 1))
         self.assertRegex(text_of(anna), r"ben took c0109 away from here, \d\d:\d\d\.")
         # a draft of one's own begins from what others have left
-        anna.planning.edit("drop c0001 1 2")
+        make_edit(anna.planning, "drop c0001 1 2")
         anna.planning.abandon()
         self.assertNotIn("~", text_of(anna))
 
@@ -163,9 +163,9 @@ class Overtaken(Two):
     def overtaken(self):
         anna, ben = self.boards()
         one = anna.planning.known.present().of_course("c0068")[0]
-        anna.planning.edit(f"drop c0068 {one.day} {one.period}")
+        make_edit(anna.planning, f"drop c0068 {one.day} {one.period}")
         anna.planning.undo()
-        ben.planning.edit(f"drop c0068 {one.day} {one.period}")
+        make_edit(ben.planning, f"drop c0068 {one.day} {one.period}")
         self.commit(ben)
         anna.tick()
         return anna
@@ -179,19 +179,19 @@ class Overtaken(Two):
                 text = self.type_keys(anna, key)
                 self.assertIn("had no edits left: it is closed", text)
                 self.assertFalse(anna.planning.is_open)
-                self.assertEqual(anna.planning.ended(), [])
-                self.assertTrue(anna.planning.edit("drop c0001 1 2"))
+                self.assertEqual(lines_of(anna.planning.ended()), [])
+                self.assertTrue(make_edit(anna.planning, "drop c0001 1 2"))
 
     def test_typed_edit_opens_a_draft(self):
         anna, _ = self.boards()
         self.type_keys(anna, ":", *"swap c0110 4 2 c0014 4 2", "enter")
-        self.assertEqual(anna.planning.edits(), ["swap c0110 4 2 c0014 4 2"])
+        self.assertEqual(lines_of(anna.planning.edits()), ["swap c0110 4 2 c0014 4 2"])
 
 
 class TakenOver(Two):
     def test_draft_of_somebody_else(self):
         anna, _ = self.boards()
-        anna.planning.edit(BEST)
+        make_edit(anna.planning, BEST)
         anna.planning.seat.go()
         carla = Board(self.planning("day", 0, "carla"))
         carla.begin()
@@ -218,7 +218,7 @@ class TakenOver(Two):
 
     def test_own_draft(self):
         anna, _ = self.boards()
-        anna.planning.edit(BEST)
+        make_edit(anna.planning, BEST)
         anna.planning.seat.go()
         anna = Board(self.planning("day", 0, "anna"))
         anna.begin()
@@ -273,7 +273,7 @@ class Findings(Two):
         self.assertIn("week of course c0109", text)
         self.assertEqual(anna.cursor, (4, 1))
         # of the draft, if one is open
-        anna.planning.edit(BEST)
+        make_edit(anna.planning, BEST)
         self.assertIn("530 findings, 8590 points", self.type_keys(anna, "!"))
         text = self.type_keys(anna, *"no points", "enter")
         self.assertIn("Gaps in days of curricula", text)

@@ -1,4 +1,5 @@
 """Drafts that are put aside and made again, and edits that are taken back and made again."""
+from support import lines_of, make_edit
 from two_screens import BEST, Two
 
 from office.day.folder import Day
@@ -8,14 +9,14 @@ from office.terminal.board import Board
 class Variants(Two):
     def test_put_aside_and_made_again(self):
         anna, ben = self.boards()
-        anna.planning.edit(BEST)
-        anna.planning.edit("drop c0001 1 2")
+        make_edit(anna.planning, BEST)
+        make_edit(anna.planning, "drop c0001 1 2")
         text = self.type_keys(anna, "n", *"big room", "enter")
         self.assertIn("Put aside as big room: 2 edits.", text)
         self.assertFalse(anna.planning.is_open)
-        anna.planning.edit("reroom c0049 r04 0 0")
+        make_edit(anna.planning, "reroom c0049 r04 0 0")
         self.type_keys(anna, "n", *"other", "enter")
-        ben.planning.edit("drop c0109 4 1")
+        make_edit(ben.planning, "drop c0109 4 1")
         self.commit(ben)
         anna.tick()
         text = self.type_keys(anna, "N")
@@ -29,17 +30,17 @@ class Variants(Two):
         self.assertIn("c0049: day 1, period 1, r09 -> r04", text)
         text = self.type_keys(anna, "escape", "N", "enter")
         self.assertIn("1 of 2 edits made again, none committed yet.", text)
-        self.assertEqual(anna.planning.edits(), ["drop c0001 1 2"])
+        self.assertEqual(lines_of(anna.planning.edits()), ["drop c0001 1 2"])
         # another one is made the draft only when this one is put aside or given up
         anna.press("escape")
         self.assertIn("puts them aside", self.type_keys(anna, "N", "down", "enter"))
-        self.assertEqual(anna.planning.edits(), ["drop c0001 1 2"])
+        self.assertEqual(lines_of(anna.planning.edits()), ["drop c0001 1 2"])
 
     def test_without_a_program(self):
         """What was put aside is listed, and can be taken up, if the program says nothing."""
         anna, _ = self.boards()
         for edit in (BEST, "drop c0001 1 2"):
-            anna.planning.edit(edit)
+            make_edit(anna.planning, edit)
             self.type_keys(anna, "n", *edit.split(" ")[0], "enter")
         day = Day(self.path("day"))
         day.write_facts({**day.facts(), "program": [self.path("nowhere")]})
@@ -49,14 +50,14 @@ class Variants(Two):
         self.assertIn(f"drop: {told}", text)
         text = self.type_keys(anna, "d", "down", "d")
         self.assertIn("move -> drop", text)
-        self.assertIn("In what they differ now is not known", text)
+        self.assertIn("Cannot compare them: the program gave no answer.", text)
         self.type_keys(anna, "escape", "N", "enter")
-        self.assertEqual(anna.planning.edits(), [BEST])
+        self.assertEqual(lines_of(anna.planning.edits()), [BEST])
 
     def test_survives(self):
         """Variants are there after a crash of the client, of the desk, and on the next day."""
         anna, _ = self.boards()
-        anna.planning.edit(BEST)
+        make_edit(anna.planning, BEST)
         self.type_keys(anna, "n", *"one", "enter")
         # no farewell: the client is killed
         leave, anna.planning.seat.log.noted = anna.planning.seat.log.noted, lambda text: None
@@ -73,7 +74,7 @@ class Variants(Two):
         anna.begin()
         self.assertEqual(anna.work.variants.kept, {"one": [BEST]})
         self.type_keys(anna, "N", "enter")
-        self.assertEqual(anna.planning.edits(), [BEST])
+        self.assertEqual(lines_of(anna.planning.edits()), [BEST])
         self.type_keys(anna, "N", "x")
         anna.planning.seat.go()
         anna = Board(self.planning("next", 0, "anna"))
@@ -83,18 +84,18 @@ class Variants(Two):
     def test_undone_is_done_again(self):
         anna, _ = self.boards()
         for edit in (BEST, "drop c0001 1 2"):
-            anna.planning.edit(edit)
+            make_edit(anna.planning, edit)
         self.type_keys(anna, "u", "u")
-        self.assertEqual(anna.planning.edits(), [])
+        self.assertEqual(lines_of(anna.planning.edits()), [])
         anna.planning.seat.go()
         anna = Board(self.planning("day", 0, "anna"))
         anna.begin()
         self.type_keys(anna, "U")
-        self.assertEqual(anna.planning.edits(), [BEST])
+        self.assertEqual(lines_of(anna.planning.edits()), [BEST])
         self.type_keys(anna, "U")
-        self.assertEqual(anna.planning.edits(), [BEST, "drop c0001 1 2"])
+        self.assertEqual(lines_of(anna.planning.edits()), [BEST, "drop c0001 1 2"])
         self.assertIn("Nothing was taken back", self.type_keys(anna, "U"))
         # another edit in between ends it
         self.type_keys(anna, "u")
-        anna.planning.edit("reroom c0049 r04 0 0")
+        make_edit(anna.planning, "reroom c0049 r04 0 0")
         self.assertIn("Nothing was taken back", self.type_keys(anna, "U"))

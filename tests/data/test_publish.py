@@ -17,7 +17,7 @@ from test_weeks import LABELS, TERM, Weeks, small_times
 from office.data.changed_weeks import by_view, changes_between
 from office.data.site import file_name
 from office.day.instance import read_instance
-from office.day.timetable import Lecture
+from office.day.lecture import Lecture
 
 MOVED = "Geometrie für Anfänger (geo): Thu 12:15, Hall 2, left (A) -> Thu 10:15, Hall 2, left (A)"
 # publishes with a stop before so many files are written

@@ -19,7 +19,7 @@ from served import (
 )
 
 from office.web.action_names import BUTTONS, ELSEWHERE, button, key_table, keys_of
-from office.web.verbs import Turn
+from office.web.verbs import WindowTurn
 from office.words.actions import ACTIONS, ANSWERS
 
 ACTS = os.path.join(HERE, "tools/office/web/static/acts.js")
@@ -54,7 +54,7 @@ class Tables(unittest.TestCase):
     def test_each_action_is_done(self):
         """By the page, or by what the page asks."""
         page = done_by_the_page() - BY_BUTTON
-        asked = set(Turn(mock.MagicMock(), mock.MagicMock()).acts())
+        asked = set(WindowTurn(mock.MagicMock(), mock.MagicMock()).acts())
         self.assertEqual(page & asked, set())
         self.assertEqual(page | asked, {action.name for action in ACTIONS} - set(ELSEWHERE))
 

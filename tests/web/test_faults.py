@@ -201,4 +201,4 @@ class Faults(BrowserTest):
         port = self.address().split(":")[1]
         browser = self.browser(words=["--host-resolver-rules=MAP evil.example 127.0.0.1"])
         browser.go(f"http://evil.example:{port}/#{self.key()}")
-        browser.sees("this is no name of this office")
+        browser.sees("unknown host name")

@@ -178,7 +178,7 @@ class Talk(WebTest):
         self.assertEqual(question["answers"][0]["name"], "go on")
         self.assertIn("anna", str(self.act("who")["question"]["lines"]))
         about = self.ask("about", {"lecture": there})[1]["about"]
-        self.assertIn("exam", " ".join(about["told"]))
+        self.assertIn("exam", " ".join(about["notices"]))
 
     def test_draft_of_another(self):
         """A draft that somebody else has left is asked about first; who leaves it has left it."""

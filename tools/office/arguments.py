@@ -20,11 +20,11 @@ def draft_number(text: str) -> int:
 Commands = Any
 
 
-def add_command(commands: Commands, name: str, told: str) -> argparse.ArgumentParser:
+def add_command(commands: Commands, name: str, does: str) -> argparse.ArgumentParser:
     """Adds a command about a day."""
-    told_whole = told[0].upper() + told[1:] + "."
+    sentence = does[0].upper() + does[1:] + "."
     made: argparse.ArgumentParser = commands.add_parser(
-        name, help=told, description=told_whole, allow_abbrev=False
+        name, help=does, description=sentence, allow_abbrev=False
     )
     made.add_argument("day", metavar="DAY", help="the folder of the day")
     return made

@@ -15,9 +15,9 @@ FORMS = {
 
 
 def add_data(commands: Commands) -> None:
-    told = "make an instance, a start and labels of the tables of an office"
+    does = "make an instance, a start and labels of the tables of an office"
     one = commands.add_parser(
-        "import", help=told, description=told[0].upper() + told[1:] + ".", allow_abbrev=False
+        "import", help=does, description=does[0].upper() + does[1:] + ".", allow_abbrev=False
     )
     one.add_argument("folder", metavar="FOLDER", help="the tables: courses.csv, rooms.csv ..")
     add_output(one, "DIR")
@@ -30,25 +30,25 @@ def add_data(commands: Commands) -> None:
     one.add_argument("folder", metavar="DIR", help="the folder, a link to its newest version")
     follow = "again after each accepted draft, until the day is closed"
     one.add_argument("--follow", action="store_true", help=follow)
-    told = "tell whose weeks have changed as JSON, one in a line"
-    one.add_argument("--json", action="store_true", help=told)
+    does = "tell whose weeks have changed as JSON, one in a line"
+    one.add_argument("--json", action="store_true", help=does)
     one.set_defaults(do=do_publish)
 
 
 def add_output(command: argparse.ArgumentParser, name: str) -> None:
-    told = "the folder that is made"
-    command.add_argument("-o", "--output", metavar=name, dest="into", required=True, help=told)
+    does = "the folder that is made"
+    command.add_argument("-o", "--output", metavar=name, dest="into", required=True, help=does)
 
 
 def add_view(command: argparse.ArgumentParser) -> None:
     """Adds whose week is meant, and the form in which it is told."""
     kinds = command.add_mutually_exclusive_group()
     for kind in KINDS:
-        told = f"the week of this {kind} alone, by its code or its name"
-        kinds.add_argument(f"--{kind}", metavar=kind.upper(), help=told)
+        does = f"the week of this {kind} alone, by its code or its name"
+        kinds.add_argument(f"--{kind}", metavar=kind.upper(), help=does)
     forms = command.add_mutually_exclusive_group()
-    for form, told in FORMS.items():
-        forms.add_argument(f"--{form}", dest="form", action="store_const", const=form, help=told)
+    for form, does in FORMS.items():
+        forms.add_argument(f"--{form}", dest="form", action="store_const", const=form, help=does)
     command.add_argument("--costs", action="store_true", help="with what lectures cost")
 
 

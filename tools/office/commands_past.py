@@ -33,9 +33,9 @@ def add_past(commands: Commands) -> None:
 
 
 def add_diff(commands: Commands) -> None:
-    told = "say in which lectures two timetables differ, of one day or of two"
+    does = "say in which lectures two timetables differ, of one day or of two"
     one: argparse.ArgumentParser = commands.add_parser(
-        "diff", help=told, description=told[0].upper() + told[1:] + ".", allow_abbrev=False
+        "diff", help=does, description=does[0].upper() + does[1:] + ".", allow_abbrev=False
     )
     for name, place in (("one", "first"), ("other", "second")):
         of = f"the {place} day; with a number as it was after this draft, 0 for the start"

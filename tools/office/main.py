@@ -39,8 +39,8 @@ and docs/OFFICE.md has a whole day."""
 
 
 def add_open(commands: Commands) -> None:
-    told = "open a day, and keep it until it is closed; DAY alone goes on with one that was killed"
-    one = add_command(commands, "open", told)
+    does = "open a day, and keep it until it is closed; DAY alone goes on with one that was killed"
+    one = add_command(commands, "open", does)
     instance = "the instance, or what an import has made; not if the day follows another one"
     one.add_argument("instance", metavar="INSTANCE", nargs="?", help=instance)
     count = "how many planners, 1 to 64"

@@ -10,7 +10,7 @@ from urllib.parse import quote
 from office.data.labels import Labels, Term
 from office.data.one_week import OneWeek
 from office.data.time_zones import ClockChange, Offset, changes, check_zone, offsets
-from office.day.timetable import Lecture, Slot
+from office.day.lecture import Lecture, Slot
 from office.refused import CONTENT, Refused
 from office.words.text import shown
 
@@ -23,7 +23,7 @@ class Event(NamedTuple):
     begins: datetime.datetime
     ends: datetime.datetime
     uid: str
-    told: bytes
+    lines: bytes
 
 
 def why_none(labels: Labels) -> str:
@@ -73,12 +73,12 @@ def events_of(week: OneWeek) -> list[Event]:
     events: list[Event] = []
     for lecture, number in numbered(week):
         time, name = labels.times[lecture.slot], lecture.course
-        told = folded_lines(
+        lines = folded_lines(
             f"SUMMARY:{escaped(labels.name('course', name))}",
             f"LOCATION:{escaped(labels.name('room', lecture.room))}",
             f"DESCRIPTION:{escaped(f'{week.teacher(name)}; {labels.course(name)}')}",
         )
-        before, behind = quote(name, safe=""), quote(instance.name, safe="")
+        course, plan = quote(name, safe=""), quote(instance.name, safe="")
         for date in dates_of(labels.term, labels.weekdays[lecture.day]):
             midnight = datetime.datetime(date.year, date.month, date.day)
             year, number_of_week, _ = date.isocalendar()
@@ -86,8 +86,8 @@ def events_of(week: OneWeek) -> list[Event]:
                 Event(
                     midnight + datetime.timedelta(minutes=time.begins),
                     midnight + datetime.timedelta(minutes=time.ends),
-                    f"{before}.{number}.{year}W{number_of_week:02}@{behind}.timedesk",
-                    told,
+                    f"{course}.{number}.{year}W{number_of_week:02}@{plan}.timedesk",
+                    lines,
                 )
             )
     return sorted(events)
@@ -176,7 +176,7 @@ def calendar_of(week: OneWeek, made: datetime.datetime) -> bytes:
                 f"DTSTART;TZID={labels.zone}:{stamp(event.begins)}",
                 f"DTEND;TZID={labels.zone}:{stamp(event.ends)}",
             ),
-            event.told,
+            event.lines,
             folded_lines("END:VEVENT"),
         ]
     return b"".join([*parts, folded_lines("END:VCALENDAR")])

@@ -4,8 +4,8 @@ from __future__ import annotations
 from typing import Iterable
 
 from office.day.instance import Instance
+from office.day.lecture import Lecture
 from office.day.shifts import Shift
-from office.day.timetable import Lecture
 from office.past.drafts import CourseRow, row_shifts
 from office.work.week import View, weeks_of
 

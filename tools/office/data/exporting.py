@@ -12,7 +12,7 @@ from office.data.tables import read_bytes, write_table
 from office.day.closure import BLOCKABLE as CLOSED
 from office.day.folder import Day
 from office.day.instance import Instance
-from office.day.timetable import Slot
+from office.day.lecture import Slot
 from office.past.timetable_at import At, read_at
 
 Rows = Iterable[tuple[object, ...]]

@@ -9,7 +9,7 @@ from typing import Optional
 
 from office.data.labels import KINDS, PLAN, WEEKDAYS, Labels, Name, Term, Time
 from office.data.tables import Column, Faults, Row, read_table
-from office.day.timetable import Slot
+from office.day.lecture import Slot
 from office.refused import Refused
 
 FILES = ("labels.csv", "times.csv", "term.csv")
@@ -187,11 +187,11 @@ def stamps(folder: str) -> list[tuple[int, int, int]]:
     found = []
     for file in FILES:
         try:
-            told = os.stat(os.path.join(folder, file))
+            stat = os.stat(os.path.join(folder, file))
         except OSError:
             found.append((0, 0, 0))
         else:
-            found.append((told.st_mtime_ns, told.st_ino, told.st_size))
+            found.append((stat.st_mtime_ns, stat.st_ino, stat.st_size))
     return found
 
 

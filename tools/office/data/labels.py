@@ -5,7 +5,7 @@ from __future__ import annotations
 import datetime
 from typing import NamedTuple, Optional
 
-from office.day.timetable import Slot
+from office.day.lecture import Slot
 from office.refused import CONTENT, Refused
 
 KINDS = ("course", "room", "teacher", "curriculum")

@@ -6,10 +6,11 @@ from typing import NamedTuple
 
 from office.data.labels import Labels, clock
 from office.day.costs import COSTS
-from office.day.timetable import Lecture, Slot
+from office.day.lecture import Lecture, Slot
+from office.day.rules import alone_points, students_without_seat
 from office.past.timetable_at import At
 from office.words.text import counted, shown
-from office.work.week import View, alone_points, by_slot, courses_of_view, of_view
+from office.work.week import View, by_slot, courses_of_view, of_view
 
 CSV_HEADS = (
     "day,period,weekday,from,to,course,course name,room,room name,teacher,teacher name,students"
@@ -52,8 +53,8 @@ class OneWeek:
         if kind == "course":
             curricula = ", ".join(map(labels.curriculum, instance.curricula_of[code]))
             students = counted(instance.courses[code].students, "student")
-            told = f"{self.teacher(code)}, {students}"
-            return shown(f"{told}; {curricula}" if curricula else told)
+            text = f"{self.teacher(code)}, {students}"
+            return shown(f"{text}; {curricula}" if curricula else text)
         return counted(len(courses_of_view(instance, self.view)), "course")
 
     def missing(self) -> list[str]:
@@ -65,7 +66,7 @@ class OneWeek:
             if course in found
         ]
 
-    def told(self, lecture: Lecture) -> LectureWords:
+    def words(self, lecture: Lecture) -> LectureWords:
         """A lecture without what the title says already."""
         course, room = self.labels.course(lecture.course), self.labels.room(lecture.room)
         teacher = self.teacher(lecture.course)
@@ -80,11 +81,11 @@ class OneWeek:
     def costs(self, lecture: Lecture) -> str:
         """What a lecture costs where it stands, in words; empty if nothing."""
         instance = self.at.instance
-        short = instance.courses[lecture.course].students - instance.rooms[lecture.room]
+        short = students_without_seat(instance, lecture)
         of_course = instance.curricula_of[lecture.course]
         curricula = [self.view.name] if self.view.kind == "curriculum" else of_course
         alone = alone_points(self.at.timetable, curricula, lecture.slot)
-        parts = [f"{counted(short, 'student')} without a seat"] if short > 0 else []
+        parts = [f"{counted(short, 'student')} without a seat"] if short else []
         parts += [f"stands alone: {counted(alone, 'point')}"] if alone else []
         return "; ".join(parts)
 
@@ -107,9 +108,9 @@ def text_of(week: OneWeek, has_costs: bool) -> str:
     for day in days:
         lines += ["", week.labels.day(day)]
         for slot, lectures in week.slots.items():
-            for told in map(week.told, lectures if slot[0] == day else []):
-                costs = f" ({told.costs})" if has_costs and told.costs else ""
-                what = ", ".join(filter(None, told[:2]))
+            for words in map(week.words, lectures if slot[0] == day else []):
+                costs = f" ({words.costs})" if has_costs and words.costs else ""
+                what = ", ".join(filter(None, words[:2]))
                 lines.append(f"  {week.when(slot):>{width}}  {what}{costs}")
     if not days:
         lines += ["", "no lectures"]

@@ -12,7 +12,7 @@ from office.data.tables import Column, Faults, Row, read_table
 from office.day.closure import BLOCKABLE as CLOSED, Closure, Scope
 from office.day.closures_file import blocked_now
 from office.day.instance import Course, Instance
-from office.day.timetable import Lecture, Slot
+from office.day.lecture import Lecture, Slot
 from office.seat.seat import user_name
 
 CODE = Column("code", ("id",), is_needed=False)
@@ -125,8 +125,8 @@ class Tables:
         there = set(slots)
         if not os.path.exists(os.path.join(self.folder, "times.csv")):
             heads = ", ".join(column.name for column in TIMES_COLUMNS)
-            told = f"the file is missing: a row for each slot, with the columns {heads}"
-            self.faults.add("times.csv", 0, told)
+            cause = f"the file is missing: a row for each slot, with the columns {heads}"
+            self.faults.add("times.csv", 0, cause)
         elif self.days * self.periods > SLOTS:
             self.faults.add("times.csv", 0, f"more than {SLOTS} slots are too many")
         elif "times.csv" not in self.faults.found:
@@ -219,8 +219,8 @@ class Tables:
         if typed.isascii() and typed.isdigit() and 1 <= int(typed) <= self.periods:
             return [int(typed) - 1]
         if "times.csv" not in self.faults.found:
-            told = f"1 to {self.periods}, nor when one begins by times.csv"
-            row.fault(f"the period is not {told}: {typed}")
+            cause = f"1 to {self.periods}, nor when one begins by times.csv"
+            row.fault(f"the period is not {cause}: {typed}")
         return []
 
     def slots_of(self, row: Row) -> list[Slot]:

@@ -15,10 +15,10 @@ from office.data.changed_weeks import by_view, changes_between
 from office.data.label_files import read_labels
 from office.data.site import Published, Site
 from office.day.folder import Day
+from office.day.lecture import Lecture
 from office.day.parts import DayMinutes
 from office.day.safe_files import lock
 from office.day.shifts import Shift
-from office.day.timetable import Lecture
 from office.past.timetable_at import read_at
 from office.refused import Refused
 from office.words.text import counted
@@ -167,8 +167,8 @@ def publish_once(day: Day, folder: Folder, is_json: bool) -> None:
         return
     differ = sum(folder.old(name) != files[name] for name in files)
     folder.write(files)
-    told = f"{at.title()}: {counted(len(changed), 'lecture')} changed, {counted(differ, 'file')}"
-    print(f"office: {told} of {len(files)} written", file=sys.stderr, flush=True)
+    summary = f"{at.title()}: {counted(len(changed), 'lecture')} changed, {counted(differ, 'file')}"
+    print(f"office: {summary} of {len(files)} written", file=sys.stderr, flush=True)
     for view, shifts in sorted(by_view(at.instance, changed).items()):
         if view.kind in PEOPLE:
             person = site.person(view, shifts, files)

@@ -102,8 +102,8 @@ class Site:
         parts = [f"<header>\n<h1>{escape(self.title)}</h1>\n"]
         if self.labels.term is not None:
             name = f"{self.labels.term.name}, " if self.labels.term.name else ""
-            told = f"{name}{self.labels.term.first} to {self.labels.term.last}"
-            parts.append(f"<p>{escape(told)}</p>\n")
+            dates = f"{name}{self.labels.term.first} to {self.labels.term.last}"
+            parts.append(f"<p>{escape(dates)}</p>\n")
         count = f"{counted(len(newest.changes), 'lecture')} changed" if newest.changes else "new"
         parts.append(f"<p>{newest.time}: {link(CHANGES, count)}</p>\n</header>\n<main>\n")
         views = all_views(self.at.instance)
@@ -126,8 +126,8 @@ class Site:
             rows = "".join(
                 f"<li>{escape(self.wording.shifts([shift]))}</li>\n" for shift in published.changes
             )
-            told = f"<ul>\n{rows}</ul>\n" if rows else "<p>published for the first time</p>\n"
-            parts.append(f"<section>\n<h2>{published.time}</h2>\n{told}</section>\n")
+            items = f"<ul>\n{rows}</ul>\n" if rows else "<p>published for the first time</p>\n"
+            parts.append(f"<section>\n<h2>{published.time}</h2>\n{items}</section>\n")
         parts.append("</main>\n")
         return self.encoded(page(f"What has changed: {self.title}", "".join(parts)))
 

@@ -7,18 +7,19 @@ from typing import Sequence
 from office.data.instance_files import written
 from office.data.labels import Labels
 from office.data.tables import Row
-from office.day.desk_words import words_of
+from office.day.edits import Edit
 from office.day.instance import Instance
+from office.day.lecture import Lecture, Place
 from office.day.scratch_desk import Scratch
-from office.day.timetable import Lecture, Place
 from office.refused import Refused
+from office.seat.answers import Answer, Said, fault_in
 
 Start = Sequence[tuple[Row, Lecture]]
 
 
-def answers_of(program: list[str], instance: Instance, start: Start, quiet: bool) -> list[str]:
+def answers_of(program: list[str], instance: Instance, start: Start, quiet: bool) -> list[Answer]:
     """What a desk answers to who places the lectures one after another."""
-    edits = [f"place {lecture.words()}" for _, lecture in start]
+    edits = [Edit.place(one.course, one.room, one.slot) for _, one in start]
     with written(instance) as files:
         return Scratch([*program, "run", *files], quiet=quiet).answers(edits)
 
@@ -37,19 +38,19 @@ def find_faults(program: list[str], instance: Instance, labels: Labels, start: S
         return
     rows: dict[Place, int] = {}
     for (row, lecture), answer in zip(start, answers):
-        if answer == "done":
+        if answer is Said.DONE:
             rows[lecture.course, lecture.slot] = row.number
         else:
-            row.fault(told(instance, labels, lecture, answer, rows))
+            row.fault(fault_words(instance, labels, lecture, answer, rows))
 
 
-def told(
-    instance: Instance, labels: Labels, lecture: Lecture, answer: str, rows: dict[Place, int]
+def fault_words(
+    instance: Instance, labels: Labels, lecture: Lecture, answer: Answer, rows: dict[Place, int]
 ) -> str:
     """Why a lecture cannot stand; `rows` are those of the lectures that do."""
     course, room, slot = lecture.course, lecture.room, lecture.slot
-    kind, *others = words_of(answer.replace("refused ", "", 1)) or [""]
-    when, other = labels.slot(slot), "".join(others)
+    kind, other = fault_in(answer)
+    when = labels.slot(slot)
     if kind == "already":
         return f"{course} stands at {when} in row {rows[course, slot]} already"
     if kind == "full":

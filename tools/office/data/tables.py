@@ -47,8 +47,8 @@ class Faults:
             for row, cause in sorted(faults, key=lambda fault: fault[0])
         ]
         if lines:
-            told = "\n  ".join([f"{what}: {counted(len(lines), 'fault')}", *lines])
-            raise Refused(told, CONTENT)
+            text = "\n  ".join([f"{what}: {counted(len(lines), 'fault')}", *lines])
+            raise Refused(text, CONTENT)
 
 
 class Row:

@@ -5,7 +5,7 @@ import os
 from functools import lru_cache
 from html import escape
 from office.data.one_week import OneWeek, cost_line
-from office.day.timetable import Slot
+from office.day.lecture import Slot
 from office.words.text import shown, width as columns_of
 
 HERE = os.path.dirname(os.path.abspath(__file__))
@@ -49,8 +49,8 @@ def print_size(week: OneWeek, has_costs: bool) -> str:
     days, periods = week.at.instance.days, range(week.at.instance.periods)
     texts: dict[int, list[list[str]]] = {period: [] for period in periods}
     for slot, lectures in week.slots.items():
-        found = [told[: 3 if has_costs else 2] for told in map(week.told, lectures)]
-        texts[slot[1]].append([text for told in found for text in told])
+        found = [words[: 3 if has_costs else 2] for words in map(week.words, lectures)]
+        texts[slot[1]].append([text for words in found for text in words])
     for half_points in range(20, 6, -1):
         size = half_points / 2
         letters = (SHEET[0] - 6 * size) / max(1, days) / (0.62 * size) - 1.5
@@ -67,10 +67,10 @@ def place(slot: Slot) -> str:
 def lecture_text(week: OneWeek, slot: Slot, has_costs: bool) -> str:
     """What stands in a slot."""
     parts: list[str] = []
-    for told in map(week.told, week.slots[slot]):
-        rest = f"<p>{escape(told.rest)}</p>" if told.rest else ""
-        costs = f"<i>{escape(told.costs)}</i>" if has_costs and told.costs else ""
-        parts.append(f"<b>{escape(told.first)}</b>{rest}{costs}")
+    for words in map(week.words, week.slots[slot]):
+        rest = f"<p>{escape(words.rest)}</p>" if words.rest else ""
+        costs = f"<i>{escape(words.costs)}</i>" if has_costs and words.costs else ""
+        parts.append(f"<b>{escape(words.first)}</b>{rest}{costs}")
     when = f"<p><small>{escape(week.when(slot))}</small></p>"
     return f"<article {place(slot)}>{when}{''.join(parts)}</article>\n"
 
@@ -116,12 +116,12 @@ def week_page(
     title = f"{week.title()} \N{EN DASH} {shown(week.labels.title or week.at.instance.name)}"
     heads = "".join(f"<p>{escape(line)}</p>\n" for line in head_lines(week))
     missing = "; ".join(week.missing())
-    told = f'<p class="missing">Not placed: {escape(missing)}</p>\n' if missing else ""
+    absent = f'<p class="missing">Not placed: {escape(missing)}</p>\n' if missing else ""
     costs = f"<p>Whole timetable: {escape(cost_line(week.at))}</p>\n" if has_costs else ""
     footer = f"<footer><p>{escape(foot)}</p></footer>\n" if foot else ""
     return page(
         title,
-        f"{links}<main>\n<header>\n<h1>{escape(week.title())}</h1>\n{heads}{told}</header>\n"
+        f"{links}<main>\n<header>\n<h1>{escape(week.title())}</h1>\n{heads}{absent}</header>\n"
         f"{grid(week, has_costs)}{costs}</main>\n{footer}{script}",
         print_size(week, has_costs),
     )

@@ -59,8 +59,8 @@ def find_period(text: str, day: Optional[int], instance: Instance, labels: Label
             slot[1] for slot in begun if begun[slot] == minute and day in (None, slot[0])
         } & set(range(instance.periods))
     if len(found) != 1:
-        told = f"there is no period {text}: they are numbers from 1 to {instance.periods}"
-        raise Refused(f"{told}, or times at which one begins", CONTENT)
+        reason = f"there is no period {text}: they are numbers from 1 to {instance.periods}"
+        raise Refused(f"{reason}, or times at which one begins", CONTENT)
     return found.pop()
 
 
@@ -68,8 +68,8 @@ def find_scope(words: list[str], instance: Instance, labels: Labels) -> Scope:
     """What is meant by `room r04 wed 2`; without a period the whole day, without a day all days."""
     if not 2 <= len(words) <= 4 or words[0] not in BLOCKABLE:
         kinds = f"{', '.join(BLOCKABLE[:-1])} or {BLOCKABLE[-1]}"
-        told = f"{kinds}, a name, and perhaps a day and a period"
-        raise Refused(f"{told}: {' '.join(words)}", WORDS)
+        reason = f"{kinds}, a name, and perhaps a day and a period"
+        raise Refused(f"{reason}: {' '.join(words)}", WORDS)
     kind, typed, *when = words
     codes: dict[str, Iterable[str]] = {
         "room": instance.rooms,
@@ -102,8 +102,8 @@ def wait_for_change(day: Day, closure: Closure) -> list[RuleChange]:
     until = time.monotonic() + PATIENCE
     while last_part(day).taken() < end or not day.is_ready():
         if not day.is_open():
-            told = "the office has ended meanwhile; a day after it has the new rules"
-            raise Refused(f"it is written, but {told}: office close {day.path}")
+            reason = "the office has ended meanwhile; a day after it has the new rules"
+            raise Refused(f"it is written, but {reason}: office close {day.path}")
         if time.monotonic() > until:
             raise Refused("it is written, but the office has not changed the rules by it")
         time.sleep(PACE)
@@ -141,11 +141,11 @@ def print_unblock(day: Day, words: list[str], why: str) -> int:
     wording, scope = Wording({}, labels), find_scope(words, instance, labels)
     found = standing_of(day, instance)
     if not any(scope.covers(one.scope) for one in found):
-        told = f"{wording.name(scope.kind, scope.name)} is not blocked {wording.when(scope)}"
+        reason = f"{wording.name(scope.kind, scope.name)} is not blocked {wording.when(scope)}"
         wider = [one for one in found if one.scope.covers(scope)]
         if wider:
-            told = f"{wording.notice(closure_notice(wider[0]))}: that is lifted as a whole"
-        raise Refused(told, CONTENT)
+            reason = f"{wording.notice(closure_notice(wider[0]))}: that is lifted as a whole"
+        raise Refused(reason, CONTENT)
     closure = lifted_now(scope, user_name(), None, " ".join(why.split()))
     add(day, closure)
     tell(day, wait_for_change(day, closure), wording)

@@ -97,8 +97,8 @@ def check_start(part: Part, end: bytes) -> None:
     """Checks that a part begins with what the one before has left, as far as it can stand under the
     rules of the part."""
     if Left(part, quiet=True).mended(end) != read_whole(part.start):
-        told = f"part {part.number} does not begin where part {part.number - 1} ended"
-        raise Disagrees(part, f"{part.day.path}: {told}", told)
+        reason = f"part {part.number} does not begin where part {part.number - 1} ended"
+        raise Disagrees(part, f"{part.day.path}: {reason}", reason)
 
 
 def audit_parts(day: Day) -> bytes:

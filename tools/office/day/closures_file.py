@@ -86,11 +86,11 @@ def read_closures(day: Day, first: int = 0, last: Optional[int] = None) -> list[
     return [closure for closure in found if closure is not None]
 
 
-def standing(told: Iterable[Closure]) -> list[Closure]:
+def standing(closures: Iterable[Closure]) -> list[Closure]:
     """What is blocked after all that was said, in the order in which it was. Lifting takes away all
     that is a part of what is lifted."""
     found: dict[Scope, Closure] = {}
-    for closure in told:
+    for closure in closures:
         scope = closure.scope
         if closure.is_lifted:
             found = {one: kept for one, kept in found.items() if not scope.covers(one)}

@@ -3,16 +3,15 @@ from __future__ import annotations
 
 from typing import Mapping, Union
 
-from office.day.desk_words import words_of
-
 COSTS = ("capacity", "days", "compactness", "stability")
+# what each counts
+MEANINGS = {
+    "capacity": "a point for each student without a seat",
+    "days": "five for each day that a course is taught on too few",
+    "compactness": "two for each lecture of a curriculum that stands alone on its day",
+    "stability": "one for each further room of a course",
+}
 Costs = dict[str, int]
-
-
-def read_costs(answer: str) -> Costs:
-    """The four costs of an answer; none if it is another answer."""
-    words = words_of(answer)
-    return dict(zip(COSTS, map(int, words[1:]))) if words[:1] == ["costs"] else {}
 
 
 def costs_in_words(costs: Mapping[str, Union[int, str]]) -> str:

@@ -9,15 +9,16 @@ from typing import Optional
 
 from office.data.label_files import read_labels
 from office.day import processes
-from office.day.desk_words import decoded, encoded, words_of
+from office.day.desk_words import decoded, encoded
+from office.day.edits import Edit
 from office.day.file_faults import POINT, explained
 from office.day.folder import Day
 from office.day.instance import Instance, read_barred, read_instance, read_solution
-from office.day.parts import Part
+from office.day.parts import Aside, Part
 from office.day.processes import Signals
 from office.day.safe_files import make_anew, write_whole
-from office.day.timetable import Lecture
 from office.refused import Silent
+from office.seat.answers import Fault
 from office.words.notice import say
 from office.words.reasons import reason
 from office.words.text import counted
@@ -52,18 +53,18 @@ def keep_barred(day: Day, source: str) -> None:
     write_whole(day.barred, encoded(f"Barred: {len(pairs)}\n{''.join(pairs)}END.\n"))
 
 
-def told(line: str, instance: Instance, wording: Wording) -> str:
+def aside_words(line: str, instance: Instance, wording: Wording) -> str:
     """A line about a lecture that was set aside, as people read it; another line as it is."""
-    _, is_aside, rest = line.partition(": set aside ")
-    if not is_aside:
+    aside = Aside.parse(line)
+    if aside is None:
         return line
-    course, room, day, period, *why = words_of(rest)
-    lecture, fault = Lecture(course, room, int(day), int(period.rstrip(":"))), " ".join(why)
+    lecture, fault = aside
     if fault.startswith("no such "):
-        notice = say(fault, course=course, room=room, slot=lecture.slot)
+        notice = say(fault, course=lecture.course, room=lecture.room, slot=lecture.slot)
     else:
-        notice = reason(instance, f"place {lecture.words()}", fault)
-    where = f"{wording.course(course)}, {wording.place(lecture)}"
+        edit = Edit.place(lecture.course, lecture.room, lecture.slot)
+        notice = reason(instance, edit, Fault.parse(fault))
+    where = f"{wording.course(lecture.course)}, {wording.place(lecture)}"
     return f"office: set aside {where}: {wording.notice(notice)}"
 
 
@@ -103,7 +104,7 @@ def tell_aside(part: Part, said: str, instance: Instance, is_whole: bool) -> Non
     count = said.count("set aside ")
     with contextlib.suppress(OSError):
         for line in explained(said).split("\n")[:-1]:
-            print(told(line, instance, wording), file=sys.stderr)
+            print(aside_words(line, instance, wording), file=sys.stderr)
         if is_whole:
             place = Part(part.day, part.number).aside
             print(f"office: {counted(count, 'lecture')} set aside, in {place}", file=sys.stderr)

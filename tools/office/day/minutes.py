@@ -5,9 +5,10 @@ from __future__ import annotations
 import os
 import re
 from dataclasses import dataclass
+from typing import Sequence
 
 from office.day.desk_words import decoded
-from office.day.edits import courses_of, is_edit
+from office.day.edits import Edit
 from office.day.safe_files import open_there
 
 # an entry begins with its planner, and with how many calls it has
@@ -16,19 +17,18 @@ HEAD = re.compile(rb"entry [0-9]{1,4} [0-9]{1,9}\Z")
 
 @dataclass(frozen=True)
 class Entry:
-    """An accepted draft: its number from 1, its planner, and its calls with their answers."""
+    """An accepted draft: its number from 1, its planner, and the edits that were made."""
 
     number: int
     planner: int
-    calls: list[tuple[str, str]]
+    edits: list[Edit]
 
-    def edits(self) -> list[str]:
-        """The edits that were made."""
-        return [call for call, answer in self.calls if is_edit(call) and answer == "done"]
 
-    def changes(self, course: str) -> bool:
-        """Whether an edit of it names a course."""
-        return any(course in courses_of(edit) for edit in self.edits())
+def edits_of(lines: Sequence[bytes]) -> list[Edit]:
+    """The edits that were made, of calls with their answers."""
+    pairs = zip(lines[0::2], lines[1::2])
+    found = (Edit.parse(decoded(call)) for call, answer in pairs if answer == b"done")
+    return [edit for edit in found if edit is not None]
 
 
 class Minutes:
@@ -72,14 +72,14 @@ class Minutes:
             if not HEAD.match(b" ".join(head)):
                 self.is_damaged = True
                 break
-            behind = at + 1 + 2 * int(head[2])
-            if behind > len(lines):
+            end = at + 1 + 2 * int(head[2])
+            if end > len(lines):
                 break
-            calls = [(decoded(lines[k]), decoded(lines[k + 1])) for k in range(at + 1, behind, 2)]
+            edits = edits_of(lines[at + 1 : end])
             number = self.before + len(self.entries) + len(new) + 1
-            new.append(Entry(number, int(head[1]), calls))
-            self._at += sum(len(line) + 1 for line in lines[at:behind])
-            at = behind
+            new.append(Entry(number, int(head[1]), edits))
+            self._at += sum(len(line) + 1 for line in lines[at:end])
+            at = end
         self.entries += new
         return new
 

@@ -10,8 +10,8 @@ import os
 from typing import NamedTuple, Optional
 
 from office.day.folder import Day
+from office.day.lecture import Lecture
 from office.day.safe_files import make_anew, read_whole, share
-from office.day.timetable import Lecture
 
 
 class AtWork(NamedTuple):

@@ -75,7 +75,7 @@ class Running:
     def wait_for_seats(self, desk: subprocess.Popen[bytes]) -> None:
         """Waits until each seat has answered what the timetable costs."""
         self.seats.ask(b"show cost")
-        answers = self.seats.hear(self.signals, lambda: desk.poll() is None)
+        answers = self.seats.read_answers(self.signals, lambda: desk.poll() is None)
         self.signals.check()
         if desk.poll() is not None:
             raise Silent(desk.returncode if desk.returncode > 0 else 3)

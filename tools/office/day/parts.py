@@ -6,17 +6,17 @@ from __future__ import annotations
 import json
 import os
 import re
-from typing import Any, NamedTuple
+from typing import Any, NamedTuple, Optional
 
 from office.day.closure import Closure
 from office.day.closures_file import read_closures, standing_of
 from office.day.desk_words import words_of
 from office.day.folder import Day, is_count
 from office.day.instance import Instance, read_instance, read_solution
+from office.day.lecture import Lecture
 from office.day.minutes import Entry, Minutes
 from office.day.safe_files import read_text
 from office.day.shared_lines import is_number
-from office.day.timetable import Lecture
 from office.refused import Refused
 
 FOLDER = re.compile(r"part([1-9][0-9]*)\Z")
@@ -127,7 +127,6 @@ def half_made(day: Day) -> list[str]:
     return [day.file(name) for name in names if FOLDER.match(name[:-4]) and name.endswith(".new")]
 
 
-# what stands in the list of what the program has set aside
 class Aside(NamedTuple):
     """A lecture that was set aside, and why."""
 
@@ -135,18 +134,23 @@ class Aside(NamedTuple):
     fault: str
 
 
-def read_aside(path: str) -> list[Aside]:
-    """What was set aside, as the program lists it."""
-    found = []
-    for line in read_text(path).split("\n"):
+    @staticmethod
+    def parse(line: str) -> Optional[Aside]:
+        """What a line says that was set aside; None if it is another line."""
         _, is_aside, rest = line.partition(": set aside ")
         words = words_of(rest)
         course, room, day, period, *why = [*words, "", "", "", ""]
         period = period.rstrip(":")
-        if is_aside and len(words) > 4 and is_number(day) and is_number(period):
-            lecture = Lecture(course, room, int(day), int(period))
-            found.append(Aside(lecture, " ".join(filter(None, why))))
-    return found
+        if not is_aside or len(words) <= 4 or not (is_number(day) and is_number(period)):
+            return None
+        lecture = Lecture(course, room, int(day), int(period))
+        return Aside(lecture, " ".join(filter(None, why)))
+
+
+def read_aside(path: str) -> list[Aside]:
+    """What was set aside, as the program lists it."""
+    found = map(Aside.parse, read_text(path).split("\n"))
+    return [aside for aside in found if aside is not None]
 
 
 class RuleChange(NamedTuple):
@@ -161,8 +165,8 @@ class RuleChange(NamedTuple):
 
 def change_of(part: Part, taken_before: int) -> RuleChange:
     """How a part has come about that is not the first one."""
-    told = read_closures(part.day, taken_before, part.taken())
-    return RuleChange(part.number, str(part.facts()["begun"]), told, read_aside(part.aside))
+    closures = read_closures(part.day, taken_before, part.taken())
+    return RuleChange(part.number, str(part.facts()["begun"]), closures, read_aside(part.aside))
 
 
 def changes_of(day: Day) -> list[RuleChange]:

@@ -10,9 +10,9 @@ from __future__ import annotations
 from typing import NamedTuple
 
 from office.day.folder import Day
+from office.day.lecture import Slot
 from office.day.processes import now
 from office.day.shared_lines import add_line, is_number, read_lines
-from office.day.timetable import Slot
 
 PIN, UNPIN = "pin", "unpin"
 Pinned = tuple[str, Slot]

@@ -73,17 +73,17 @@ class HeldSeats:
         for seat in self.held:
             os.write(seat.lines, line + b"\n")
 
-    def hear(self, signals: Signals, goes_on: Callable[[], bool]) -> list[bytes]:
+    def read_answers(self, signals: Signals, goes_on: Callable[[], bool]) -> list[bytes]:
         """The first line that each seat answers. It is waited for as long as the desk goes on and
         no signal comes; until then an answer is empty."""
-        heard = {seat.answers: b"" for seat in self.held}
-        waiting = set(heard)
+        found = {seat.answers: b"" for seat in self.held}
+        waiting = set(found)
         while waiting and goes_on() and not signals.count:
             for end in signals.wait(0.2, *waiting):
                 with contextlib.suppress(BlockingIOError):
-                    heard[end] += os.read(end, 4096)
-                if heard[end].endswith(b"\n"):
+                    found[end] += os.read(end, 4096)
+                if found[end].endswith(b"\n"):
                     waiting.discard(end)
         for seat in self.held:
             seat.leave_to_desk()
-        return [heard[seat.answers].rstrip(b"\n") for seat in self.held]
+        return [found[seat.answers].rstrip(b"\n") for seat in self.held]

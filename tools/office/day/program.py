@@ -127,4 +127,4 @@ class Left:
         if status != 0:
             raise Silent(status or MACHINE)
         lines = (line.split(" ", 1) for line in text.decode().split("\n") if " " in line)
-        return {kind: told for kind, told in lines}
+        return {kind: value for kind, value in lines}

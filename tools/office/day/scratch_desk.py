@@ -4,10 +4,12 @@ from __future__ import annotations
 from typing import Iterable, Sequence
 
 from office.day.desk_words import decoded, encoded
+from office.day.edits import Edit
+from office.day.lecture import Lecture
 from office.day.parts import Part
 from office.day.program import output
-from office.day.timetable import Lecture
 from office.refused import CONTENT, Refused, Silent
+from office.seat.answers import Answer, read_answer
 
 
 class Scratch:
@@ -21,7 +23,7 @@ class Scratch:
         # whether what the program says goes nowhere
         self.quiet = quiet
 
-    def answers(self, edits: Sequence[str]) -> list[str]:
+    def answers(self, edits: Sequence[Edit]) -> list[Answer]:
         """What the desk answers edits, one after another; it begins anew each time."""
         lines = [*self.begun, *(f"0 {edit}" for edit in edits)]
         text = encoded("".join(f"{line}\n" for line in lines))
@@ -29,10 +31,10 @@ class Scratch:
         found = decoded(printed).split("\n")[:-1]
         if status != 0 and not self.quiet:
             raise Silent(status)
-        told, wanted = found[: len(self.begun)], ["opened"] + ["done"] * (len(self.begun) - 1)
-        if status != 0 or len(found) != len(lines) or told != wanted:
+        first, wanted = found[: len(self.begun)], ["opened"] + ["done"] * (len(self.begun) - 1)
+        if status != 0 or len(found) != len(lines) or first != wanted:
             raise Refused("the program does not try edits", CONTENT)
-        return found[len(self.begun) :]
+        return list(map(read_answer, found[len(self.begun) :]))
 
 
 def scratch_of(part: Part, lectures: Iterable[Lecture]) -> Scratch:

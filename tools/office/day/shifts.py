@@ -1,10 +1,12 @@
 """What an edit does to each lecture: where it was, and where it is then."""
 from __future__ import annotations
 
+from itertools import zip_longest
 from typing import NamedTuple, Optional, Sequence
 
-from office.day.desk_words import words_of
-from office.day.timetable import Lecture, Slot, Timetable
+from office.day.edits import Edit, Kind
+from office.day.lecture import Lecture, Place, Slot
+from office.day.timetable import Timetable
 
 
 class Shift(NamedTuple):
@@ -25,35 +27,20 @@ class Shift(NamedTuple):
         return list(dict.fromkeys(one.slot for one in (self.was, self.now) if one is not None))
 
 
-def shifts_of(edit: str, timetable: Optional[Timetable] = None) -> list[Shift]:
+def shifts_of(edit: Edit, timetable: Optional[Timetable] = None) -> list[Shift]:
     """The shifts of an edit on a timetable. Without one, rooms that the edit does not name are not
     known."""
-    kind, course, *rest = words_of(edit)
 
-    def lecture(name: str, day: str, period: str, room: str = "") -> Lecture:
-        slot = int(day), int(period)
-        if not room and timetable is not None:
-            room = timetable.room_at(name, slot) or ""
-        return Lecture(name, room, *slot)
+    def room_at(place: Place) -> str:
+        return (timetable.room_at(*place) if timetable is not None else "") or ""
 
-    if kind == "place":
-        return [Shift(None, lecture(course, rest[1], rest[2], rest[0]))]
-    if kind == "drop":
-        return [Shift(lecture(course, rest[0], rest[1]), None)]
-    if kind == "reroom":
-        was, now = lecture(course, rest[1], rest[2]), lecture(course, rest[1], rest[2], rest[0])
-        return [Shift(was, now)]
-    if kind == "move":
-        was, now = lecture(course, rest[0], rest[1]), lecture(course, rest[3], rest[4], rest[2])
-        return [Shift(was, now)]
-    one, other = lecture(course, rest[0], rest[1]), lecture(rest[2], rest[3], rest[4])
-    return [
-        Shift(one, Lecture(one.course, other.room, *other.slot)),
-        Shift(other, Lecture(other.course, one.room, *one.slot)),
-    ]
+    was = [Lecture(place[0], room_at(place), *place[1]) for place in edit.before()]
+    rooms = [one.room for one in was[::-1]] if edit.kind is Kind.SWAP else [edit.room]
+    now = [Lecture(course, room, *slot) for (course, slot), room in zip(edit.after(), rooms)]
+    return [Shift(*pair) for pair in zip_longest(was, now)]
 
 
-def all_shifts(edits: Sequence[str], timetable: Timetable) -> list[list[Shift]]:
+def all_shifts(edits: Sequence[Edit], timetable: Timetable) -> list[list[Shift]]:
     """The shifts of edits one after another, each on what those before it leave. The timetable is
     left as it is."""
     found: list[list[Shift]] = []

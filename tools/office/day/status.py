@@ -39,8 +39,8 @@ def state_of(day: Day) -> str:
 
 def draft_of(past: SeatPast, is_open: bool) -> str:
     """The draft of a seat in words, at a desk that is open or has ended."""
-    if past.story.is_open and is_open:
-        return counted(len(past.story.edits), "edit") + of_whom(past)
+    if past.state.is_open and is_open:
+        return counted(len(past.state.edits), "edit") + of_whom(past)
     if past.unfinished():
         return counted(len(past.unfinished()), "edit") + ", not accepted"
     return "none"
@@ -57,7 +57,7 @@ def seat_line(day: Day, planner: int, past: Optional[SeatPast], accepted: int) -
     name, since = read_sitter(day, planner)
     sits = is_taken(day, planner)
     who, when = (name or "somebody", since[11:16]) if sits else ("nobody", "")
-    if past is not None and past.story.has_left:
+    if past is not None and past.state.has_left:
         who = "left for the day"
     if past is None:
         return [str(planner), who, when, "its log is closed to you", "", str(accepted)]
@@ -86,7 +86,7 @@ def cost_lines(day: Day) -> list[str]:
 
 def minutes_line(day: Day, pasts: list[Optional[SeatPast]]) -> str:
     """Whether minutes can be written, by what seats were told and by the room on the disk."""
-    is_full = any(past is not None and past.story.is_full for past in pasts)
+    is_full = any(past is not None and past.state.is_full for past in pasts)
     if is_full or os.path.exists(day.failing):
         return "minutes cannot be written: close the office, make room, and open a day after it"
     damaged = [part.minutes for part, minutes in read_all_minutes(day) if minutes.is_damaged]

@@ -1,32 +1,14 @@
 """A timetable as a planner's client knows it: what stands where.
 
-It knows no rule. What may stand where, and why an edit is refused, the desk says.
+What may stand where, and why an edit is refused, the desk says.
 """
 from __future__ import annotations
 
-from typing import Iterable, NamedTuple, Optional
+from typing import Iterable, Optional, Sequence
 
-from office.day.desk_words import words_of
+from office.day.edits import Edit, Kind
 from office.day.instance import Instance
-
-Slot = tuple[int, int]
-# a course with a slot
-Place = tuple[str, Slot]
-
-
-class Lecture(NamedTuple):
-    course: str
-    room: str
-    day: int
-    period: int
-
-    @property
-    def slot(self) -> Slot:
-        return self.day, self.period
-
-    def words(self) -> str:
-        return f"{self.course} {self.room} {self.day} {self.period}"
-
+from office.day.lecture import Lecture, Place, Slot
 
 class Timetable:
     """Lectures by courses and by slots."""
@@ -93,9 +75,9 @@ class Timetable:
     def same_as(self, other: Timetable) -> bool:
         return self.by_course == other.by_course
 
-    def fits(self, edit: str) -> bool:
+    def fits(self, edit: Edit) -> bool:
         """Whether the lectures that an edit takes up stand there, and none where one comes to."""
-        was, now = ends_of(edit)
+        was, now = edit.before(), edit.after()
 
         def stands(place: Place) -> bool:
             return self.room_at(*place) is not None
@@ -103,31 +85,21 @@ class Timetable:
         is_there = all(map(stands, was)) and len({*was}) == len(was)
         return is_there and not any(map(stands, {*now} - {*was}))
 
-    def make(self, edit: str) -> Optional[str]:
+    def make(self, edit: Edit) -> Optional[Edit]:
         """Makes an edit that the desk has made, and answers the edit that takes it back. One that
         does not fit is not made: None."""
         if not self.fits(edit):
             return None
-        kind, course, *rest = words_of(edit)
-        was, now = ends_of(edit)
-        rooms = [self.take(*place) for place in was]
-        named = {"place": 0, "reroom": 0, "move": 2}.get(kind)
+        rooms = [self.take(*place) for place in edit.before()]
         # of a swap each one has the room of the other
-        for place, room in zip(now, rooms[::-1] if named is None else [rest[named]]):
+        new = rooms[::-1] if edit.kind is Kind.SWAP else [edit.room]
+        for place, room in zip(edit.after(), new):
             self.put(*place, room)
-        if kind == "place":
-            return f"drop {course} {rest[1]} {rest[2]}"
-        if kind == "drop":
-            return f"place {course} {rooms[0]} {rest[0]} {rest[1]}"
-        if kind == "reroom":
-            return f"reroom {course} {rooms[0]} {rest[1]} {rest[2]}"
-        if kind == "move":
-            return f"move {course} {rest[3]} {rest[4]} {rooms[0]} {rest[0]} {rest[1]}"
-        return f"swap {course} {rest[3]} {rest[4]} {rest[2]} {rest[0]} {rest[1]}"
+        return edit.inverse(rooms[0] if rooms else "")
 
-    def look(self, line: str) -> Optional[list[Lecture]]:
+    def look(self, words: Sequence[str]) -> Optional[list[Lecture]]:
         """The lectures that a look shows; None if it is a look of another kind."""
-        kind, *rest = words_of(line)
+        kind, *rest = words
         if kind == "course":
             return self.of_course(rest[0])
         if kind == "slot":
@@ -137,34 +109,3 @@ class Timetable:
         if kind == "curriculum":
             return self.of_courses(self.instance.curricula[rest[0]])
         return None
-
-
-def ends_of(edit: str) -> tuple[list[Place], list[Place]]:
-    """Where lectures stand before an edit that changes them, and where after it."""
-    kind, course, *rest = words_of(edit)
-
-    def slot(at: int) -> Slot:
-        return int(rest[at]), int(rest[at + 1])
-
-    if kind == "place":
-        return [], [(course, slot(1))]
-    if kind == "drop":
-        return [(course, slot(0))], []
-    if kind == "reroom":
-        return [(course, slot(1))], [(course, slot(1))]
-    if kind == "move":
-        return [(course, slot(0))], [(course, slot(3))]
-    one, other = (course, slot(0)), (rest[2], slot(3))
-    return [one, other], [(course, other[1]), (rest[2], one[1])]
-
-
-def read_lectures(answer: str) -> Optional[list[Lecture]]:
-    """The lectures of an answer `lectures N ..`; None if it is another answer."""
-    words = words_of(answer)
-    if words[:1] != ["lectures"]:
-        return None
-    rest = words[2:]
-    return [
-        Lecture(c, r, int(d), int(p))
-        for c, r, d, p in zip(rest[0::4], rest[1::4], rest[2::4], rest[3::4])
-    ]

@@ -1,5 +1,5 @@
-"""The server of the seats that runs beside an office: where it dies it is started again, and that is
-said."""
+"""The server of the seats that runs beside an office: where it dies it is started again, and that
+is said."""
 from __future__ import annotations
 
 import contextlib

@@ -5,11 +5,13 @@ from __future__ import annotations
 from dataclasses import dataclass
 from typing import Iterable
 
+from office.day.edits import Edit
 from office.day.folder import Day
+from office.day.lecture import Lecture, Slot
 from office.day.minutes import Entry
 from office.day.parts import Part, read_parts
 from office.day.shifts import Shift, shifts_of
-from office.day.timetable import Lecture, Slot, Timetable
+from office.day.timetable import Timetable
 from office.past.authors import NO_FACTS, CommitFacts, read_commit_facts
 from office.refused import CONTENT, Refused
 from office.seat.seat import read_sitter
@@ -27,7 +29,7 @@ class Draft:
     name: str
     time: str
     why: str
-    edits: list[str]
+    edits: list[Edit]
     # what stands elsewhere after it than before; what its edits have taken back is left out
     shifts: list[Shift]
 
@@ -79,7 +81,7 @@ def are_exchanged(one: Shift, other: Shift) -> bool:
     return is_crossed and one.course != other.course
 
 
-def make_draft(timetable: Timetable, edits: Iterable[str]) -> list[Shift]:
+def make_draft(timetable: Timetable, edits: Iterable[Edit]) -> list[Shift]:
     """Makes the edits of an accepted draft, and answers what has become of the lectures."""
     found: list[Shift] = []
     for edit in edits:
@@ -88,27 +90,27 @@ def make_draft(timetable: Timetable, edits: Iterable[str]) -> list[Shift]:
     return net(found)
 
 
-def drafts_of(part: Part, entries: Iterable[Entry], told: dict[int, CommitFacts]) -> list[Draft]:
+def drafts_of(part: Part, entries: Iterable[Entry], facts: dict[int, CommitFacts]) -> list[Draft]:
     """The accepted drafts of a part in their order. Of a seat of which no log can be read the name
     of who sits there is known."""
     timetable, found = Timetable(part.instance(), part.lectures()), []
     for entry in entries:
-        name, time, why = told.get(entry.number, NO_FACTS)
+        name, time, why = facts.get(entry.number, NO_FACTS)
         name = name or read_sitter(part.day, entry.planner)[0]
         try:
-            shifts = make_draft(timetable, entry.edits())
+            shifts = make_draft(timetable, entry.edits)
         except (ValueError, KeyError, IndexError):
             fault = f"cannot read {part.minutes}: draft {entry.number} has edits of no such day"
             raise Refused(fault, CONTENT) from None
-        found.append(Draft(entry.number, entry.planner, name, time, why, entry.edits(), shifts))
+        found.append(Draft(entry.number, entry.planner, name, time, why, entry.edits, shifts))
     return found
 
 
 def read_part_drafts(day: Day) -> list[tuple[Part, list[Draft]]]:
     """The accepted drafts of a day, part by part."""
     day.facts()
-    told = read_commit_facts(day)
-    return [(part, drafts_of(part, entries, told)) for part, entries in read_parts(day)]
+    facts = read_commit_facts(day)
+    return [(part, drafts_of(part, entries, facts)) for part, entries in read_parts(day)]
 
 
 def read_drafts(day: Day) -> list[Draft]:

@@ -3,6 +3,7 @@ from __future__ import annotations
 
 from typing import Iterator, Optional
 
+from office.day.edits import Edit
 from office.day.folder import Day
 from office.day.parts import read_entries
 from office.refused import Refused
@@ -26,7 +27,7 @@ def days_before(day: Day) -> Iterator[Day]:
         yield day
 
 
-def unfinished_before(day: Day, planner: int) -> tuple[str, list[str]]:
+def unfinished_before(day: Day, planner: int) -> tuple[str, list[Edit]]:
     """The name of the last day before this one at which the seat was used, and what it left
     unfinished."""
     for before in days_before(day):
@@ -37,7 +38,7 @@ def unfinished_before(day: Day, planner: int) -> tuple[str, list[str]]:
         past.settle(read_entries(before), planner)
         if past.unfinished():
             return before.name, past.unfinished()
-        if past.offer or past.story.accepted:
+        if past.offer or past.state.accepted:
             break
     return "", []
 
@@ -48,7 +49,8 @@ class Earlier:
     def __init__(self, planning: Planning) -> None:
         self.planning = planning
         seat = planning.seat
-        self.name, self.edits = "", []  # type: str, list[str]
+        self.name = ""
+        self.edits: list[Edit] = []
         if not seat.offer:
             self.name, self.edits = unfinished_before(seat.day, seat.planner)
 

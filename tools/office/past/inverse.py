@@ -8,16 +8,19 @@ from __future__ import annotations
 
 from typing import Callable, Iterable, NamedTuple, Optional, Sequence
 
+from office.day.edits import Edit
 from office.day.instance import Instance
+from office.day.lecture import Lecture
 from office.day.shifts import Shift
-from office.day.timetable import Lecture, Timetable
+from office.day.timetable import Timetable
 from office.past.drafts import exchanged
+from office.seat.answers import Answer, Fault, Said, fault_in
 from office.words.notice import Notice, say
 from office.words.reasons import reason
 
 Group = list[Shift]
 # what a desk with the timetable answers edits, one after another; it begins anew each time
-Answers = Callable[[Sequence[str]], list[str]]
+Answers = Callable[[Sequence[Edit]], list[Answer]]
 
 
 class Kept(NamedTuple):
@@ -30,29 +33,29 @@ class Kept(NamedTuple):
 class Inverse(NamedTuple):
     """The edits that can be made, in this order, and what stays as it is."""
 
-    edits: list[str]
+    edits: list[Edit]
     kept: list[Kept]
 
 
-def edit_of(shift: Shift) -> str:
+def edit_of(shift: Shift) -> Edit:
     """The edit that does this to a lecture."""
     was, now = shift
     if was is None:
         assert now is not None
-        return f"place {now.words()}"
+        return Edit.place(now.course, now.room, now.slot)
     if now is None:
-        return f"drop {was.course} {was.day} {was.period}"
+        return Edit.drop(was.course, was.slot)
     if was.slot == now.slot:
-        return f"reroom {now.words()}"
-    return f"move {was.course} {was.day} {was.period} {now.room} {now.day} {now.period}"
+        return Edit.reroom(now.course, now.room, now.slot)
+    return Edit.move(was.course, was.slot, now.room, now.slot)
 
 
-def edit_of_group(group: Group) -> str:
+def edit_of_group(group: Group) -> Edit:
     if len(group) == 1:
         return edit_of(group[0])
     one, other = group[0].was, group[1].was
     assert one is not None and other is not None
-    return f"swap {one.course} {one.day} {one.period} {other.course} {other.day} {other.period}"
+    return Edit.swap(one.course, one.slot, other.course, other.slot)
 
 
 def stands(timetable: Timetable, lecture: Lecture) -> bool:
@@ -86,10 +89,10 @@ class Way:
 
     def __init__(self, answers: Answers, shifts: Iterable[Shift]) -> None:
         self.answers = answers
-        self.edits: list[str] = []
+        self.edits: list[Edit] = []
         self.groups = exchanged(shifts)
         # why the edits of the groups that are left were refused
-        self.faults: list[str] = []
+        self.faults: list[Fault] = []
         while self.groups and (self.make_some() or self.part_some() or self.lift_one()):
             pass
 
@@ -97,11 +100,11 @@ class Way:
         """Tries what is left on what is made by now, and answers whether something was made."""
         tried = [edit_of_group(group) for group in self.groups]
         answers = self.answers([*self.edits, *tried])[len(self.edits) :]
-        self.edits += [edit for edit, answer in zip(tried, answers) if answer == "done"]
-        left = [pair for pair in zip(self.groups, answers) if pair[1] != "done"]
+        self.edits += [edit for edit, answer in zip(tried, answers) if answer is Said.DONE]
+        left = [pair for pair in zip(self.groups, answers) if pair[1] is not Said.DONE]
         is_made = len(left) < len(self.groups)
         self.groups = [group for group, _ in left]
-        self.faults = [answer.replace("refused ", "", 1) for _, answer in left]
+        self.faults = [fault_in(answer) for _, answer in left]
         return is_made
 
     def part_some(self) -> bool:

@@ -10,9 +10,9 @@ from office.day.closure import Closure
 from office.day.costs import COSTS, Costs
 from office.day.folder import Day
 from office.day.instance import Instance
+from office.day.lecture import Lecture
 from office.day.parts import FIRST, RuleChange, changes_of, instance_of
 from office.day.shifts import Shift
-from office.day.timetable import Lecture
 from office.past.drafts import Draft, exchanged, read_part_drafts
 from office.past.replay import play_costs
 from office.past.subjects import Subject, find_subject
@@ -82,7 +82,7 @@ def draft_object(
             }
             for shift in touched
         ],
-        "edits": draft.edits,
+        "edits": list(map(str, draft.edits)),
         "cost": {"before": cost_object(costs[0]), "after": cost_object(costs[1])},
     }
 
@@ -96,16 +96,16 @@ def change_lines(
     others = len(change.asides) - len(touched)
     if others:
         lines.append(f"    and {counted(others, 'other lecture')}")
-    told = wording.notice(rule_change_notice(change))
-    return [f"rules, {when}: {told}", *lines, f"    {difference_words(*costs)}"]
+    text = wording.notice(rule_change_notice(change))
+    return [f"rules, {when}: {text}", *lines, f"    {difference_words(*costs)}"]
 
 
 def closure_object(closure: Closure) -> dict[str, Any]:
     """A closure for other programs. A day or a period that is missing stands for all of them."""
     kind, name, day, period = closure.scope
-    told = {"name": closure.who, "seat": closure.seat, "time": closure.time}
+    who = {"name": closure.who, "seat": closure.seat, "time": closure.time}
     where = {"kind": kind, "code": name, "day": day, "period": period}
-    return {**where, "blocked": not closure.is_lifted, "reason": closure.why or None, **told}
+    return {**where, "blocked": not closure.is_lifted, "reason": closure.why or None, **who}
 
 
 def change_object(

@@ -4,23 +4,19 @@ from __future__ import annotations
 
 from typing import Iterable, NamedTuple, Sequence
 
-from office.day.costs import Costs, read_costs
-from office.day.desk_words import decoded, encoded, words_of
+from office.day.costs import Costs
+from office.day.desk_words import decoded, encoded
+from office.day.edits import Edit
 from office.day.instance import Instance
+from office.day.lecture import Lecture
 from office.day.parts import Part
 from office.day.program import Left
-from office.day.timetable import Lecture, read_lectures
 from office.refused import CONTENT, Refused
+from office.seat.answers import Answer, Committed, costs_in, lectures_in, missing_in, read_answer
 
 
 # the edits of a draft
-Edits = list[str]
-
-
-def read_missing(answer: str) -> dict[str, int]:
-    """The courses of which lectures are missing, and how many."""
-    words = words_of(answer)[2:]
-    return {course: int(count) for course, count in zip(words[0::2], words[1::2])}
+Edits = Sequence[Edit]
 
 
 class Played(NamedTuple):
@@ -36,18 +32,18 @@ def draft_lines(edits: Edits) -> list[str]:
     return ["0 open", *(f"0 {edit}" for edit in edits), "0 commit"]
 
 
-def answers(part: Part, lines: list[str]) -> list[str]:
+def answers(part: Part, lines: list[str]) -> list[Answer]:
     """What a desk that begins as the part did answers to the lines of a script."""
     text, left = encoded("".join(f"{line}\n" for line in lines)), Left(part, quiet=True)
     status, printed = left.run("run", left.instance, "-", *part.start_words(), text=text)
-    found = decoded(printed).split("\n")[:-1]
+    found = list(map(read_answer, decoded(printed).split("\n")[:-1]))
     if status != 0 or len(found) != len(lines):
         start = f" from {part.start}" if part.has_start() else ""
         raise Refused(f"the program does not play the drafts of {part.minutes}{start}", CONTENT)
     for line, answer in zip(lines, found):
-        if line == "0 commit" and not answer.startswith("committed "):
-            told = f"the minutes of {part.day.path} do not fit its start: {answer}"
-            raise Refused(told, CONTENT)
+        if line == "0 commit" and not isinstance(answer, Committed):
+            reason = f"the minutes of {part.day.path} do not fit its start: {answer}"
+            raise Refused(reason, CONTENT)
     return found
 
 
@@ -58,7 +54,7 @@ def play_costs(part: Part, drafts: Sequence[Edits], first: int = 0) -> list[Cost
     for edits in drafts[first:]:
         lines += [*draft_lines(edits), "show cost"]
     found = answers(part, lines)
-    return [read_costs(answer) for line, answer in zip(lines, found) if line == "show cost"]
+    return [costs_in(answer) for line, answer in zip(lines, found) if line == "show cost"]
 
 
 def play_all(part: Part, instance: Instance, drafts: Iterable[Edits]) -> Played:
@@ -67,5 +63,5 @@ def play_all(part: Part, instance: Instance, drafts: Iterable[Edits]) -> Played:
     shows = [f"show course {course}" for course in instance.courses]
     *_, costs, missing = found = answers(part, [*made, *shows, "show cost", "show missing"])
     shown = found[len(made) : len(made) + len(shows)]
-    lectures = [lecture for answer in shown for lecture in read_lectures(answer) or []]
-    return Played(lectures, read_costs(costs), read_missing(missing))
+    lectures = [lecture for answer in shown for lecture in lectures_in(answer)]
+    return Played(lectures, costs_in(costs), missing_in(missing))

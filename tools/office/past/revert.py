@@ -24,7 +24,7 @@ from office.work.planning import Planning
 def free_seat(day: Day) -> int:
     """The first seat at which nobody sits and nothing is left to be decided."""
     for planner, past in enumerate(read_pasts(day)):
-        if past is None or past.story.has_left or past.unfinished() or past.story.is_open:
+        if past is None or past.state.has_left or past.unfinished() or past.state.is_open:
             continue
         if not is_locked(day.sitter(planner)):
             return planner

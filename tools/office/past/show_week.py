@@ -46,10 +46,10 @@ def week_bytes(at: At, labels: Labels, view: View, form: Optional[str], has_cost
     if form == "csv":
         return write_table(CSV_HEADS.split(","), rows_of(week))
     if form == "html":
-        told = week_page(week, has_costs, foot=shown(at.title()))
+        text = week_page(week, has_costs, foot=shown(at.title()))
     else:
-        told = text_of(week, has_costs)
-    return told.encode("utf-8", "surrogateescape")
+        text = text_of(week, has_costs)
+    return text.encode("utf-8", "surrogateescape")
 
 
 def print_one_week(day: Day, words: argparse.Namespace, kind: str, typed: str) -> int:

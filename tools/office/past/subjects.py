@@ -67,9 +67,9 @@ def find_subject(
         for code in labels.called(kind, typed, list(names[kind]))
     ]
     if not found:
-        told = ", ".join(kinds[:-1]) + " or " if len(kinds) > 1 else ""
-        raise Refused(f"there is no {told}{kinds[-1]} {typed}", CONTENT)
+        choices = ", ".join(kinds[:-1]) + " or " if len(kinds) > 1 else ""
+        raise Refused(f"there is no {choices}{kinds[-1]} {typed}", CONTENT)
     if len(found) > 1:
-        told = " or ".join(" ".join(what) for what in found)
-        raise Refused(f"{typed} is the name of several: say {told}", CONTENT)
+        choices = " or ".join(" ".join(what) for what in found)
+        raise Refused(f"{typed} is the name of several: say {choices}", CONTENT)
     return found[0]

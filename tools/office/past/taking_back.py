@@ -3,9 +3,9 @@ from __future__ import annotations
 
 from typing import Iterable, NamedTuple, Optional
 
+from office.day.lecture import Lecture
 from office.day.scratch_desk import scratch_of
 from office.day.shifts import Shift, all_shifts
-from office.day.timetable import Lecture
 from office.past.drafts import Draft
 from office.past.inverse import Kept, invert
 from office.refused import Refused

@@ -10,9 +10,10 @@ from office.day.costs import Costs
 from office.day.desk_words import encoded
 from office.day.folder import Day
 from office.day.instance import Instance
+from office.day.lecture import Lecture
 from office.day.minutes import Entry
 from office.day.parts import FIRST, Part, read_parts
-from office.day.timetable import Lecture, Timetable
+from office.day.timetable import Timetable
 from office.past.replay import play_all, play_costs
 from office.refused import CONTENT, Refused
 from office.words.text import counted
@@ -75,7 +76,7 @@ def read_at(day: Day, number: Optional[int] = None) -> At:
         raise Refused(f"{day.name} has {has}, and no draft {number}", CONTENT)
     part, entries = part_at(parts, number)
     instance = part.instance()
-    played = play_all(part, instance, [entry.edits() for entry in entries])
+    played = play_all(part, instance, [entry.edits for entry in entries])
     return At(day, part, accepted if number is None else number, accepted, instance, *played)
 
 
@@ -90,6 +91,6 @@ def parse_at(words: str) -> tuple[Day, Optional[int]]:
 def costs_around(day: Day, number: int) -> tuple[Costs, Costs]:
     """What the timetable cost before and after a draft, by its number."""
     part, entries = part_at(read_parts(day), number)
-    edits = [entry.edits() for entry in entries]
+    edits = [entry.edits for entry in entries]
     before, after = play_costs(part, edits, len(edits) - 1)
     return before, after

@@ -5,12 +5,13 @@ from __future__ import annotations
 import json
 from typing import NamedTuple, Optional
 
-from office.day.costs import read_costs
+from office.day.edits import Edit
 from office.day.timetable import Timetable
 from office.past.drafts import exchanged, row_shifts
 from office.past.earlier_days import days_before
-from office.past.replay import answers, draft_lines, read_missing
+from office.past.replay import answers, draft_lines
 from office.refused import Refused
+from office.seat.answers import Said, costs_in, missing_in
 from office.seat.seat_log import read_past
 from office.words.notice import Notice, Question, say
 from office.work.planning import Planning
@@ -20,7 +21,7 @@ class Brings(NamedTuple):
     """What a variant would bring now, as the program answers: those of its edits that are made, the
     timetable after them, what they save, and how many lectures are missing then."""
 
-    made: list[str]
+    made: list[Edit]
     after: Timetable
     saves: int
     missing: int
@@ -30,14 +31,14 @@ class Variant(NamedTuple):
     """A draft that was put aside, and what it would bring; None if the program does not say so."""
 
     name: str
-    edits: list[str]
+    edits: list[Edit]
     brings: Optional[Brings]
 
-    def told(self) -> Notice:
+    def notice(self) -> Notice:
         if self.brings is None:
             return say("variant", name=self.name, count=len(self.edits))
         return say(
-            "variant told",
+            "variant now",
             name=self.name,
             count=len(self.edits),
             made=len(self.brings.made),
@@ -51,7 +52,7 @@ class Variants:
 
     def __init__(self, planning: Planning) -> None:
         self.planning = planning
-        self.kept: dict[str, list[str]] = {}
+        self.kept: dict[str, list[Edit]] = {}
 
     def begin(self) -> None:
         """Reads what was put aside at this seat, today or on the last day that has any."""
@@ -70,9 +71,10 @@ class Variants:
                     self._keep(name, edits)
                 return
 
-    def _keep(self, name: str, edits: list[str]) -> None:
+    def _keep(self, name: str, edits: list[Edit]) -> None:
         self.kept[name] = edits
-        self.planning.seat.log.noted(f"aside {json.dumps([name, edits])}", is_kept=True)
+        text = json.dumps([name, list(map(str, edits))])
+        self.planning.seat.log.noted(f"aside {text}", is_kept=True)
 
     def put_aside(self, name: str) -> None:
         """Puts the edits of the draft, or of a stale one, aside under a name, and begins anew."""
@@ -119,22 +121,22 @@ class Variants:
         """All variants, with what each would bring now, by the program."""
         planning = self.planning
         minutes, newest = planning.minutes, planning.known.newest
-        lines = [line for entry in minutes.of_part() for line in draft_lines(entry.edits())]
+        lines = [line for entry in minutes.of_part() for line in draft_lines(entry.edits)]
         begun = len(lines)
         lines.append("show cost")
         for edits in self.kept.values():
             tried = [f"0 {edit}" for edit in edits]
             lines += ["0 open", *tried, "0 peek cost", "0 peek missing", "0 abandon"]
         try:
-            now, *told = answers(minutes.part, lines)[begun:]
+            now, *rest = answers(minutes.part, lines)[begun:]
         except (Refused, OSError):
             return [Variant(name, edits, None) for name, edits in self.kept.items()]
         found = []
         for name, edits in self.kept.items():
-            answered, told = told[1 : len(edits) + 3], told[len(edits) + 4 :]
-            made = [edit for edit, answer in zip(edits, answered) if answer == "done"]
-            saves = sum(read_costs(now).values()) - sum(read_costs(answered[-2]).values())
-            missing = sum(read_missing(answered[-1]).values())
+            answered, rest = rest[1 : len(edits) + 3], rest[len(edits) + 4 :]
+            made = [edit for edit, answer in zip(edits, answered) if answer is Said.DONE]
+            saves = sum(costs_in(now).values()) - sum(costs_in(answered[-2]).values())
+            missing = sum(missing_in(answered[-1]).values())
             after = made_on(newest, made)
             found.append(Variant(name, edits, Brings(made, after, saves, missing)))
         return found
@@ -142,7 +144,7 @@ class Variants:
     def compare(self, one: Variant, other: Variant) -> Question:
         """In what two variants differ: lectures, and what they would save."""
         title = say("compared", name=one.name, second=other.name)
-        lines = [one.told(), other.told(), say("blank")]
+        lines = [one.notice(), other.notice(), say("blank")]
         if one.brings is None or other.brings is None:
             return Question(title, [*lines, say("not compared")])
         first, second = one.brings.after.by_course, other.brings.after.by_course
@@ -155,7 +157,7 @@ class Variants:
         return Question(title, lines)
 
 
-def made_on(timetable: Timetable, edits: list[str]) -> Timetable:
+def made_on(timetable: Timetable, edits: list[Edit]) -> Timetable:
     """A timetable after edits; itself it is left as it is."""
     found = timetable.copy()
     for edit in edits:

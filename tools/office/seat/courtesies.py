@@ -5,12 +5,12 @@ from __future__ import annotations
 from typing import Iterable, NamedTuple, Optional
 
 from office.day.folder import Day
+from office.day.lecture import Lecture
 from office.day.open_drafts import AtWork, OthersAtWork, end_work, keep_work, read_work
 from office.day.pins import Pin, Pinned, pin, pins_path, read_pins, unpin
 from office.day.processes import now
 from office.day.safe_files import file_size
 from office.day.shifts import Shift
-from office.day.timetable import Lecture
 from office.seat.seat import Seat, is_taken, read_sitter
 
 

@@ -8,16 +8,20 @@ import getpass
 import os
 import select
 import time
-from typing import Callable, Optional
+from typing import Callable, Optional, Union
 
 from office.day.desk_words import decoded, encoded, has_words
+from office.day.edits import Edit
 from office.day.folder import Day
 from office.day.open_drafts import end_work
 from office.day.parts import last_part, read_parts
 from office.day.processes import now
 from office.day.safe_files import is_locked, lock, open_pipe, read_text
 from office.refused import Refused
+from office.seat.answers import Answer, read_answer
+from office.seat.calls import Turn, read_call
 from office.seat.seat_log import SeatLog, read_past, settle
+from office.words.text import shown
 
 
 class DeskEnded(Exception):
@@ -105,8 +109,10 @@ class Seat:
         # what is closed when the planner goes away, or cannot sit down
         self._left = contextlib.ExitStack()
         self._left.callback(self._close_ends)
-        self._heard = b""
-        # the drafts that were accepted, and the lines that were sent, of which no answer was heard
+        self._received = b""
+        # whether the last answer was as it had to be, by what was known
+        self.fits = True
+        # the drafts that were accepted, and the lines that were sent, of which no answer came
         # before the last part ended
         self.settled: list[int] = []
         self.unanswered: list[str] = []
@@ -118,23 +124,23 @@ class Seat:
 
     def _sit_down(self) -> None:
         """Takes the seat, opens its pipes, and reads its log."""
-        self._lock = self._take_lock()
+        self._take_lock()
         # the part of the day of which the desk answers here
         self.part = last_part(self.day)
         self._lines, self.answers = self._open_pipes()
         log = self.day.log(self.planner)
         self.log = SeatLog(log)
         self._left.callback(self.log.close)
-        # what the log said when this client had heard what was under way
+        # what the log said when this client had received what was under way
         self.past = past = read_past(log)
-        self.story, self.waiting, self.offer = past.story, past.waiting, past.offer
+        self.state, self.waiting, self.offer = past.state, past.waiting, past.offer
         # whose draft is here, if it is somebody else's
         self.owner = past.owner() if past.owner() != self.name else ""
         if past.part != self.part.number:
             self._begin_part()
         self.log.noted(f"sits {self.name}")
 
-    def _take_lock(self) -> int:
+    def _take_lock(self) -> None:
         path = self.day.sitter(self.planner)
         try:
             found = lock(path)
@@ -142,14 +148,15 @@ class Seat:
             raise Refused(f"cannot sit in {self.day.path}: {fault.strerror}") from None
         if found is None:
             name, since = read_sitter(self.day, self.planner)
-            raise Refused(f"{name or 'somebody'} sits at seat {self.planner}, since {since[11:16]}")
+            who = shown(name) or "somebody"
+            raise Refused(f"{who} sits at seat {self.planner}, since {shown(since[11:16])}")
+        self._lock = found
         # on a disk that is full one sits without a name
         with contextlib.suppress(OSError):
             os.fchmod(found, 0o660)
         with contextlib.suppress(OSError):
             os.ftruncate(found, 0)
             os.pwrite(found, encoded(f"{self.name}\n{now()}\n{os.getpid()}\n"), 0)
-        return found
 
     def _open_pipes(self) -> tuple[int, int]:
         seat = self.day.seat(self.planner)
@@ -181,7 +188,7 @@ class Seat:
         """Goes away: the desk goes on, and an open draft stays as it is."""
         with contextlib.suppress(OSError):
             self.log.noted("went away")
-        if not self.story.is_open:
+        if not self.state.is_open:
             end_work(self.day, self.planner)
         self._left.close()
 
@@ -194,7 +201,7 @@ class Seat:
     def leave_desk(self) -> list[str]:
         """Leaves a desk that ends with its part of the day. What it has answered is heard, and
         answered here."""
-        heard: list[str] = []
+        found: list[str] = []
         if self._lines != CLOSED:
             os.close(self._lines)
             self._lines = CLOSED
@@ -203,12 +210,12 @@ class Seat:
                 answer = self.read(LAST)
                 if answer is None:
                     break
-                heard.append(answer)
+                found.append(answer)
                 self.take(answer)
         if self.answers != CLOSED:
             os.close(self.answers)
             self.answers = CLOSED
-        return heard
+        return found
 
     def enter(self) -> None:
         """Sits down at the desk of the next part, when it is there. What was open at the last one
@@ -217,7 +224,7 @@ class Seat:
             wait_for_desk(self.day, self.waits)
             if not self.day.is_ready():
                 raise DeskEnded
-            self.part, self._heard = last_part(self.day), b""
+            self.part, self._received = last_part(self.day), b""
             try:
                 self._lines, self.answers = self._open_pipes()
                 break
@@ -227,15 +234,15 @@ class Seat:
         self._begin_part()
 
     def _begin_part(self) -> None:
-        """Notes that another part of the day has begun. A commit of which the answer was not heard
-        was accepted if the minutes have it."""
+        """Notes that another part of the day has begun. A commit of which the answer did not
+        come was accepted if the minutes have it."""
         number, parts = self.part.number, read_parts(self.day)
         before = [entry for part, entries in parts if part.number < number for entry in entries]
-        self.settled = settle(self.story, self.waiting, before, self.planner)
+        self.settled = settle(self.state, self.waiting, before, self.planner)
         for accepted in self.settled:
             self.log.noted(f"accepted {accepted}")
         self.log.noted(f"part {number} {len(before)}", is_kept=True)
-        self.story.begin_part(len(before), self.waiting)
+        self.state.begin_part(len(before), self.waiting)
         self.unanswered = list(self.waiting)
         self.waiting.clear()
         self.past = read_past(self.day.log(self.planner))
@@ -243,7 +250,7 @@ class Seat:
     def made_again(self) -> None:
         """Notes that all edits that the last part has left were made again or refused."""
         self.log.noted("again", is_kept=True)
-        self.story.again = []
+        self.state.again = []
 
     def take_over(self) -> None:
         """Notes that who sits here now goes on with somebody else's draft."""
@@ -253,7 +260,7 @@ class Seat:
     def forget_ended(self) -> None:
         """Notes that the edits of the last draft are given up."""
         self.log.noted("forgets")
-        self.story.forget()
+        self.state.forget()
 
     def send(self, line: str) -> None:
         """Sends a line, which is in the log before."""
@@ -292,32 +299,32 @@ class Seat:
     def read(self, seconds: float) -> Optional[str]:
         """The next line of the desk, as it came; None if none has come in so many seconds."""
         until = time.monotonic() + seconds
-        while b"\n" not in self._heard:
+        while b"\n" not in self._received:
             if not self._wait(self.answers, select.POLLIN, until - time.monotonic()):
                 return None
             with contextlib.suppress(BlockingIOError):
                 more = os.read(self.answers, 65536)
                 if not more:
                     raise DeskEnded
-                self._heard += more
-        line, self._heard = self._heard.split(b"\n", 1)
+                self._received += more
+        line, self._received = self._received.split(b"\n", 1)
         return decoded(line)
 
-    def take(self, answer: str) -> str:
-        """Takes up an answer to the first line that waits for one, and answers this line."""
-        self.log.heard(answer)
+    def take(self, text: str) -> Answer:
+        """Takes up an answer to the first line that waits for one."""
+        answer = read_answer(text)
+        self.log.received(answer)
         asked = self.waiting.pop(0) if self.waiting else ""
-        self.story.hear(asked, answer)
-        return asked
-
-    def ask(self, line: str) -> str:
-        """Sends a line, and waits for its answer."""
-        self.send(line)
-        answer = self.read(PATIENCE)
-        if answer is None:
-            raise NoAnswer
-        self.take(answer)
+        self.fits = self.state.apply(read_call(asked), answer)
         return answer
+
+    def ask(self, call: Union[Edit, Turn, str]) -> Answer:
+        """Says something to the desk, and waits for its answer."""
+        self.send(str(call))
+        text = self.read(PATIENCE)
+        if text is None:
+            raise NoAnswer
+        return self.take(text)
 
     def catch_up(self) -> list[str]:
         """Hears the answers that were under way when somebody sat here last: a word that nothing
@@ -326,18 +333,18 @@ class Seat:
         probe = f"office-{os.getpid()}-{time.monotonic_ns()}"
         # a line that was cut ends here; the desk skips one without words
         self._write(b"\n" + probe.encode() + b"\n")
-        heard: list[str] = []
+        found: list[str] = []
         answer = self.read(PATIENCE)
         while answer is not None and not answer.endswith(probe):
-            heard.append(answer)
+            found.append(answer)
             answer = self.read(PATIENCE)
         if answer is None:
             raise NoAnswer
-        for line in heard:
+        for line in found:
             self.take(line)
-        if heard:
+        if found:
             self.past = read_past(self.day.log(self.planner))
         if self.waiting:
             self.log.noted(f"unsent {len(self.waiting)}")
             self.waiting.clear()
-        return heard
+        return found

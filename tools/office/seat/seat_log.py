@@ -1,4 +1,4 @@
-"""The log of a seat: a line for each line that was sent or heard, with the time.
+"""The log of a seat: a line for each line that was sent or received, with the time.
 
     2026-11-28T08:05:11.482+0100 > place geo A 0 1
     2026-11-28T08:05:11.483+0100 < done
@@ -16,23 +16,37 @@ from dataclasses import dataclass, field
 from typing import Optional
 
 from office.day.desk_words import encoded, has_words
-from office.day.edits import Story, is_edit
+from office.day.edits import Edit, edits_in
 from office.day.minutes import Entry
 from office.day.processes import now
 from office.day.safe_files import open_or_make, read_text
 from office.refused import Refused
+from office.seat.answers import (
+    Answer,
+    Committed,
+    LecturesAre,
+    MissingAre,
+    PricesAre,
+    Redone,
+    Said,
+    Stale,
+    Undone,
+    read_answer,
+)
+from office.seat.calls import Look, Turn, read_call
+from office.seat.state import SeatState
 
-SENT, HEARD, NOTED = ">", "<", "="
+SENT, RECEIVED, NOTED = ">", "<", "="
 # the end of a line of which the rest is lost
 CUT = "\x18"
 # no file
 CLOSED = -1
 # answers to looks can be long, and are not what a draft is made of: so much of them is in the log
 LONGEST_LOOK = 200
-LOOKS = ("lectures ", "prices ", "missing ")
+LONG = (LecturesAre, PricesAre, MissingAre)
 COMMITTED = re.compile(r"committed [0-9]{1,9}\Z")
-# answers behind which a planner has lost something if they are not on the disk
-TURNS = ("done", "committed", "redone", "stale", "left")
+# answers after which a planner has lost something if they are not on the disk
+KEPT = (Undone, Committed, Redone, Stale)
 
 
 class SeatLog:
@@ -70,10 +84,12 @@ class SeatLog:
         """Notes a line before it is sent."""
         self._write(SENT, line)
 
-    def heard(self, answer: str) -> None:
+    def received(self, answer: Answer) -> None:
         """Notes an answer before it is shown."""
-        self._write(HEARD, answer[:LONGEST_LOOK] if answer.startswith(LOOKS) else answer)
-        if answer.startswith(TURNS) and not self.fault:
+        text = str(answer)
+        self._write(RECEIVED, text[:LONGEST_LOOK] if isinstance(answer, LONG) else text)
+        is_kept = isinstance(answer, KEPT) or answer in (Said.DONE, Said.LEFT)
+        if is_kept and not self.fault:
             self._sync()
 
     def noted(self, text: str, is_kept: bool = False) -> None:
@@ -98,7 +114,7 @@ class SeatLog:
 class SeatPast:
     """What the log of a seat says."""
 
-    story: Story = field(default_factory=Story)
+    state: SeatState = field(default_factory=SeatState)
     # the lines that were sent and, as far as the log knows, not answered
     waiting: list[str] = field(default_factory=list)
     # the time, the sign and the text of the last line, and of each `committed` the time and who sat
@@ -112,7 +128,7 @@ class SeatPast:
     # who has worked on the last draft: who opened it, and who has taken it over
     drafters: list[str] = field(default_factory=list)
     # the drafts that were put aside, by their names, and whether any ever was
-    variants: dict[str, list[str]] = field(default_factory=dict)
+    variants: dict[str, list[Edit]] = field(default_factory=dict)
     has_variants: bool = False
     # the reason that was given for the commit that is under way, and those of accepted drafts
     why: str = ""
@@ -134,19 +150,23 @@ class SeatPast:
         if sign == SENT:
             if has_words(encoded(text)):
                 self.waiting.append(text)
-        elif sign == HEARD and self.waiting:
+        elif sign == RECEIVED and self.waiting:
             self._take_answer(time, self.waiting.pop(0), text)
         elif sign == NOTED:
             self._take_note(time, text)
 
-    def _take_answer(self, time: str, asked: str, answer: str) -> None:
-        was_open = self.story.is_open
-        self.story.hear(asked, answer)
-        if self.story.is_open and not was_open:
+    def _take_answer(self, time: str, asked: str, text: str) -> None:
+        state, call = self.state, read_call(asked)
+        if isinstance(call, Look):
+            # no draft is made of it
+            return
+        was_open, answer = state.is_open, read_answer(text)
+        state.apply(call, answer)
+        if state.is_open and not was_open:
             self.drafters = [self.name]
-        if asked.strip() == "commit" and answer.startswith("committed "):
-            self._note_commit(time, self.story.offset + int(answer.split(" ")[1]))
-        if asked.strip() == "commit":
+        if call is Turn.COMMIT and isinstance(answer, Committed):
+            self._note_commit(time, state.offset + answer.number)
+        if call is Turn.COMMIT:
             self.why = ""
 
     def _note_commit(self, time: str, number: int) -> None:
@@ -160,9 +180,9 @@ class SeatPast:
             self.begin_part(number, offset)
         elif word == "accepted":
             self._note_commit(time, int(rest))
-            accept(self.story, self.waiting, int(rest))
+            accept(self.state, self.waiting, int(rest))
         elif word == "again":
-            self.story.again = []
+            self.state.again = []
         elif word == "sits":
             self.name = rest
         elif word == "takes":
@@ -176,7 +196,7 @@ class SeatPast:
         elif word == "base":
             self.base = int(rest)
         elif word == "forgets":
-            self.story.forget()
+            self.state.forget()
         elif word == "unsent" and self.waiting:
             # the last lines were never sent: their client died before
             del self.waiting[-int(rest) :]
@@ -186,7 +206,7 @@ class SeatPast:
         with contextlib.suppress(ValueError, TypeError):
             found = json.loads(rest)
             if word == "aside":
-                self.variants[found[0]] = list(found[1])
+                self.variants[found[0]] = edits_in(found[1])
             else:
                 self.variants.pop(found, None)
 
@@ -194,48 +214,48 @@ class SeatPast:
         """Another part of the day has begun, after so many accepted drafts of the day: the desk of
         the one before answers no more."""
         self.part = number
-        self.story.begin_part(offset, self.waiting)
+        self.state.begin_part(offset, self.waiting)
         self.waiting.clear()
 
     def settle(self, entries: list[Entry], planner: int) -> list[int]:
-        """A commit that was sent, and of which the answer was not heard when the desk died, was
+        """A commit that was sent, and of which the answer was not received when the desk died, was
         accepted if the minutes have it."""
-        return settle(self.story, self.waiting, entries, planner)
+        return settle(self.state, self.waiting, entries, planner)
 
     def owner(self) -> str:
         """Whose draft it is that is open, or that has ended and was neither accepted nor given
         up."""
-        return self.drafters[-1] if self.drafters and self.story.unfinished() else ""
+        return self.drafters[-1] if self.drafters and self.state.unfinished() else ""
 
-    def unfinished(self) -> list[str]:
+    def unfinished(self) -> list[Edit]:
         """The edits of this seat that were neither accepted nor given up. An edit that was sent and
         not answered is among them."""
-        return self.story.unfinished() + [line for line in self.waiting if is_edit(line)]
+        return self.state.unfinished() + edits_in(self.waiting)
 
 
 def is_cut(sign: str, text: str) -> bool:
     """Whether the rest of a line is lost: the next one may tell what it was."""
-    is_short = sign == HEARD and text.startswith("committed") and not COMMITTED.match(text)
+    is_short = sign == RECEIVED and text.startswith("committed") and not COMMITTED.match(text)
     return is_short or text.endswith(CUT)
 
 
-def accept(story: Story, waiting: list[str], number: int) -> bool:
+def accept(state: SeatState, waiting: list[str], number: int) -> bool:
     """Takes up that the commit was accepted that waits for its answer, with the edits that were
     sent before it; answers whether one waits."""
-    lines = [line.strip() for line in waiting]
-    if "commit" not in lines:
+    calls = list(map(read_call, waiting))
+    if Turn.COMMIT not in calls:
         return False
-    story.accept(number)
-    del waiting[: lines.index("commit") + 1]
+    state.accept(number)
+    del waiting[: calls.index(Turn.COMMIT) + 1]
     return True
 
 
-def settle(story: Story, waiting: list[str], entries: list[Entry], planner: int) -> list[int]:
+def settle(state: SeatState, waiting: list[str], entries: list[Entry], planner: int) -> list[int]:
     """Takes up a commit that waits for its answer, if the minutes have the draft; answers the
     numbers of those that were accepted so."""
     numbers = [entry.number for entry in entries if entry.planner == planner]
-    fresh = [number for number in numbers if number not in story.accepted]
-    return [number for number in fresh if accept(story, waiting, number)]
+    fresh = [number for number in numbers if number not in state.accepted]
+    return [number for number in fresh if accept(state, waiting, number)]
 
 
 def read_past(path: str) -> SeatPast:

@@ -4,7 +4,10 @@ from __future__ import annotations
 from typing import Callable, Optional
 
 from office.data.label_files import Watched
-from office.day.timetable import Lecture, Slot
+from office.day.edits import Edit
+from office.day.lecture import Lecture, Slot
+from office.seat.answers import Offer
+from office.seat.calls import Turn, read_call
 from office.terminal.board_rules import BoardRules
 from office.terminal.drawn import Drawn
 from office.terminal.grid import Grid, Row
@@ -17,7 +20,6 @@ from office.words.notice import NOTHING, Question, say
 from office.words.text import fit, wrap
 from office.words.wording import Wording
 from office.work.carry import SWAP
-from office.work.offers import Offer
 from office.work.planning import Planning
 from office.work.week import Cell, View
 from office.work.week_printing import print_week
@@ -149,8 +151,8 @@ class Board:
         """Two rows: what the last step has to say, or what others say of the slot at the cursor,
         and what else is to be known."""
         notice = self.planning.notice
-        told = self.wording.lines([notice] if notice else self.work.knowing.told_of(cell))
-        lines = [line for each in told for line in wrap(each, width - 2)][:2]
+        texts = self.wording.lines([notice] if notice else self.work.knowing.notices_of(cell))
+        lines = [line for each in texts for line in wrap(each, width - 2)][:2]
         style = "bad" if notice.is_bad else "said"
         rows: list[Row] = [[(fit(f" {line}", width), style)] for line in lines]
         urgent = next(iter(self.work.urgent()), NOTHING)
@@ -216,9 +218,9 @@ class Board:
             self.turn_choice(1)
             return
         slots = sorted({one.slot for one in self.work.lectures()})
-        behind = [slot for slot in slots if slot > self.cursor] or slots
-        if behind:
-            self.set_cursor(behind[0])
+        later = [slot for slot in slots if slot > self.cursor] or slots
+        if later:
+            self.set_cursor(later[0])
 
     def last_choice(self) -> None:
         if self.work.carry:
@@ -293,13 +295,13 @@ class Board:
         self.overlay = Typed(":", self.send_line)
 
     def send_line(self, line: str) -> None:
-        words = line.split()
-        if words == ["leave"]:
+        call, line = read_call(line), " ".join(line.split())
+        if call is Turn.LEAVE:
             self.work.leave()
-        elif words == ["commit"]:
+        elif call is Turn.COMMIT:
             self.ask(self.free(self.show_box))
-        elif words:
-            self.ask(self.free(lambda: self.work.drafting.type_line(" ".join(words))))
+        elif line:
+            self.ask(self.free(lambda: self.work.drafting.type_line(line)))
 
     def show_box(self) -> None:
         """Shows what a commit would publish, if there is anything to commit."""
@@ -309,7 +311,7 @@ class Board:
         """What a commit would publish, with a reason that was begun; None if it is nothing."""
         drafting = self.work.drafting
 
-        def commit(edits: list[str], why: str) -> None:
+        def commit(edits: list[Edit], why: str) -> None:
             self.overlay = None
             self.ask(drafting.commit(edits, why))
 

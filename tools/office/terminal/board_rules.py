@@ -28,7 +28,7 @@ class BoardRules:
         if not found:
             board.planning.notice = say("nothing to block")
             return
-        choices = [(board.wording.notice(choice.told), choice) for choice in found]
+        choices = [(board.wording.notice(choice.notice), choice) for choice in found]
         title = board.wording.notice(say("what to block"))
         board.overlay = Chooser(title, choices, self.choose)
 

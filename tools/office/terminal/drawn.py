@@ -3,9 +3,9 @@ from __future__ import annotations
 
 from typing import Optional
 
-from office.day.timetable import Lecture, Slot
+from office.day.lecture import Lecture, Slot
+from office.seat.answers import Offer
 from office.terminal.grid import Grid
-from office.work.offers import Offer
 from office.work.week import View
 from office.work.work import Work
 

@@ -3,7 +3,7 @@ from __future__ import annotations
 
 from typing import NamedTuple, Optional
 
-from office.day.timetable import Slot
+from office.day.lecture import Slot
 from office.words.text import fit, shown, signed, width as columns_of
 from office.words.wording import Wording
 from office.work.carry import SWAP, Carry
@@ -48,7 +48,7 @@ def price_in_cell(wording: Wording, carry: Carry, slot: Slot) -> str:
     offers = carry.cheapest(slot)
     if not offers:
         return wording.notice(carry.short_reason(slot))
-    kind = "course" if carry.kind == SWAP else "room"
+    kind = "course" if carry.kind is SWAP else "room"
     return f"{signed(offers[0].price)} {wording.short(kind, offers[0].about)}"
 
 
@@ -133,9 +133,9 @@ class Grid:
         if carry is not None:
             offers = carry.cheapest(slot)
             style = "dim" if not offers else "good" if offers[0].price < 0 else "points"
-            told = [price_in_cell(self.wording, carry, slot), *marks_in_cell(cell)]
+            parts = [price_in_cell(self.wording, carry, slot), *marks_in_cell(cell)]
             # what is blocked is told so once
-            return " ".join(dict.fromkeys(told)), style
+            return " ".join(dict.fromkeys(parts)), style
         signs = signs_in_cell(cell)
         if signs:
             return signs, "points"

@@ -3,8 +3,10 @@ from __future__ import annotations
 
 from typing import Optional
 
-from office.day.costs import COSTS, read_costs
-from office.day.timetable import Lecture, Slot
+from office.day.costs import COSTS
+from office.day.lecture import Lecture, Slot
+from office.day.rules import students_without_seat
+from office.seat.answers import costs_in
 from office.terminal.grid import Row
 from office.words.actions import FREE, key_of, row_of
 from office.words.text import counted, cut, fit, shown, width as columns
@@ -23,7 +25,7 @@ def draft_text(planning: Planning) -> str:
     if planning.base_total is not None:
         saved = planning.base_total - sum(planning.costs().values())
         parts.append(f"saves {saved}" if saved >= 0 else f"costs {-saved} more")
-    parts.append(f"{planning.behind()} accepted since")
+    parts.append(f"{planning.accepted_count()} accepted since")
     return ", ".join(parts)
 
 
@@ -57,16 +59,16 @@ class Header:
         title = f" week of {self.wording.view(*work.view)}{self.missing_text()}"
         title += self.others_text()
         if work.carry is not None:
-            what = "picked up to swap" if work.carry.kind == SWAP else "picked up"
+            what = "picked up to swap" if work.carry.kind is SWAP else "picked up"
             title = f" {self.wording.course(work.carry.course)} is {what};{title}"
         last: Row = [(fit(title, width), "title")]
-        if planning.is_open and planning.foretold:
-            row = self.wording.row(planning.foretold)
+        if planning.is_open and planning.stale_preview:
+            row = self.wording.row(planning.stale_preview)
             what = f"stale by now: {row} has changed; {key_of('commit')} says who "
             if not planning.edits():
                 what = f"{row} has changed; no edits here: {key_of('commit')} goes on "
-            told = cut(what, width)
-            last = [(fit(title, width - columns(told)), "title"), (told, "bad")]
+            text = cut(what, width)
+            last = [(fit(title, width - columns(text)), "title"), (text, "bad")]
         cost = fit(f" {cost_text(planning)}", width)
         return [[(fit(who, width), "head")], [(cost, "head")], last]
 
@@ -89,21 +91,21 @@ class Header:
 
     def points_text(self, name: str) -> str:
         """What a course costs by itself, and which curricula have it."""
-        costs = read_costs(self.planning.look(f"coursecost {name}"))
-        told = ", ".join(f"{kind} {points}" for kind, points in costs.items() if points)
+        costs = costs_in(self.planning.look(f"coursecost {name}"))
+        points_text = ", ".join(f"{kind} {points}" for kind, points in costs.items() if points)
         curricula = " ".join(
             self.wording.short("curriculum", one)
             for one in self.planning.instance.curricula_of[name]
         )
         told_curricula = f"curricula {curricula}" if curricula else "in no curriculum"
-        told = told or ("nothing" if costs else "not known")
-        return f"costs {told}; {told_curricula}"
+        points_text = points_text or ("nothing" if costs else "not known")
+        return f"costs {points_text}; {told_curricula}"
 
     def room_text(self, lecture: Lecture) -> str:
         instance = self.planning.instance
         seats = instance.rooms[lecture.room]
-        short = instance.courses[lecture.course].students - seats
-        lacking = f", {counted(short, 'student')} without one" if short > 0 else ""
+        short = students_without_seat(instance, lecture)
+        lacking = f", {counted(short, 'student')} without one" if short else ""
         return f"room {self.wording.room(lecture.room)}, {counted(seats, 'seat')}{lacking}"
 
     def here_text(self, lecture: Lecture) -> str:
@@ -116,8 +118,8 @@ class Header:
         lecture = next(iter(cell.lectures), None)
         carry, wording, where = self.work.carry, self.wording, self.wording.slot(cursor)
         if carry is not None:
-            told = wording.notice(carry.told(cursor))
-            lines = [self.course_text(carry.course), f"{where}: {told}"]
+            text = wording.notice(carry.notice(cursor))
+            lines = [self.course_text(carry.course), f"{where}: {text}"]
             lines.append(self.here_text(lecture) if lecture else "")
         elif lecture is not None:
             lines = [self.course_text(lecture.course), self.points_text(lecture.course)]

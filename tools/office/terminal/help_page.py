@@ -1,6 +1,7 @@
 """The page of help: a line for each key, and paragraphs of signs."""
 from __future__ import annotations
 
+from office.day.costs import MEANINGS
 from office.words.actions import ACTIONS, key_of
 
 ARROWS = "arrows  move the cursor over the week; Tab goes to the next lecture."
@@ -14,6 +15,12 @@ Looking costs nothing: no look of the screen becomes part of your draft. A draft
 with the first edit. Each edit is in the log before you see it done."""
 
 
+def cost_line() -> str:
+    """What each part of the cost counts."""
+    return "Costs: " + "; ".join(f"{part} is {counts}" for part, counts in MEANINGS.items()) + "."
+
+
 def help_lines() -> list[str]:
     keys = [f"{key_of(one.name):>6}  {one.help}" for one in ACTIONS if one.help]
-    return [ARROWS, *keys, "", *(" ".join(part.split("\n")) for part in SIGNS.split("\n\n"))]
+    signs = [" ".join(part.split("\n")) for part in SIGNS.split("\n\n")]
+    return [ARROWS, *keys, "", cost_line(), *signs]

@@ -4,6 +4,7 @@ from __future__ import annotations
 
 from typing import Any, Callable, Container, Generic, Mapping, Optional, Sequence, TypeVar
 
+from office.day.edits import Edit
 from office.terminal.grid import Row
 from office.words.actions import BY_NAME, key_of
 from office.words.notice import Notice, Question
@@ -37,9 +38,9 @@ class Worded(Sequence[tuple[str, Choice]]):
     def __getitem__(self, at: Any) -> Any:
         if isinstance(at, slice):
             return [self[each] for each in range(*at.indices(len(self)))]
-        told, choice = self.choices[at]
+        notice, choice = self.choices[at]
         if at not in self._texts:
-            self._texts[at] = self.wording.notice(told)
+            self._texts[at] = self.wording.notice(notice)
         return self._texts[at], choice
 
 
@@ -222,7 +223,7 @@ class CommitBox(Overlay):
         box: Box,
         renewed: Callable[[Box], Box],
         wording: Wording,
-        commit: Callable[[list[str], str], None],
+        commit: Callable[[list[Edit], str], None],
         names: Container[str],
     ) -> None:
         self.box, self.renewed, self.wording, self.commit = box, renewed, wording, commit

@@ -5,8 +5,10 @@ from __future__ import annotations
 from typing import Callable
 
 from office.data.label_files import read_labels
-from office.day.edits import is_edit
+from office.day.edits import Edit
 from office.day.parts import changes_of
+from office.seat.answers import Said
+from office.seat.calls import Turn
 from office.seat.seat import Seat
 from office.words.actions import KeyNames
 from office.words.closure_notices import aside_lines, rule_change_notice
@@ -30,7 +32,7 @@ def step_over(seat: Seat, show: Say, say: Say) -> None:
     for number in seat.settled:
         say(f"your draft was accepted before: it is draft {number} of the day")
     for line in seat.unanswered:
-        if not is_edit(line):
+        if Edit.parse(line) is None:
             say(f"not answered: {line}")
     make_again(seat, say)
 
@@ -38,16 +40,16 @@ def step_over(seat: Seat, show: Say, say: Say) -> None:
 def make_again(seat: Seat, say: Say) -> None:
     """Makes the edits again of a draft that was open when a part ended, and says which of them were
     refused. Nothing is committed by it."""
-    kept = list(seat.story.again)
+    kept = list(seat.state.again)
     if not kept or seat.owner:
         return
     refused: list[str] = []
-    if not seat.story.is_open and seat.ask("open") != "opened":
+    if not seat.state.is_open and seat.ask(Turn.OPEN) is not Said.OPENED:
         return
     for edit in kept:
-        if edit not in seat.story.edits:
+        if edit not in seat.state.edits:
             answer = seat.ask(edit)
-            if answer != "done":
+            if answer is not Said.DONE:
                 refused.append(f"not made again: {edit}: {answer}")
     seat.made_again()
     say(f"your draft is made again: {len(kept) - len(refused)} of {len(kept)} edits")

@@ -152,8 +152,8 @@ class Screen:
     def paint_last(self, notice: Notice) -> None:
         """Says something in the last row."""
         height, columns = self.window.getmaxyx()
-        told = self.board.wording.notice(notice)
-        self.paint_row(height - 1, [(fit(f" {told}", columns - 1), "bad")], columns)
+        text = self.board.wording.notice(notice)
+        self.paint_row(height - 1, [(fit(f" {text}", columns - 1), "bad")], columns)
         self.window.refresh()
 
     def step_over(self) -> None:
@@ -250,7 +250,7 @@ def say_waiting(seconds: float) -> None:
 
 def say_goodbye(seat: Seat, lines: list[str], is_dead: bool, is_closed: bool) -> None:
     """Goes away from a seat, and says what becomes of the draft; the terminal may be gone."""
-    edits, fault = seat.story.unfinished(), seat.log.fault
+    edits, fault = seat.state.unfinished(), seat.log.fault
     if is_dead:
         lines = [DEAD_DESK if fault and edits else DEAD]
     if fault and edits:
@@ -260,7 +260,7 @@ def say_goodbye(seat: Seat, lines: list[str], is_dead: bool, is_closed: bool) ->
             f"{counted(len(edits), 'edit')} not committed: the next day offers them, at seat "
             f"{seat.planner} of office open NEXT --after {seat.day.path}"
         )
-    elif seat.story.is_open and not is_dead:
+    elif seat.state.is_open and not is_dead:
         lines.append(f"your draft stays as it is: office sit {seat.day.path} {seat.planner}")
     with contextlib.suppress(OSError):
         seat.go()

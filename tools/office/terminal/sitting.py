@@ -95,15 +95,15 @@ class PlainSitting:
     def tell_owner(self) -> None:
         """Tells whose draft is here, if somebody else has left it."""
         if self.seat.owner:
-            told = "has left a draft here; a commit is logged for who makes it"
-            announce(f"{self.seat.owner} {told}")
+            text = "has left a draft here; a commit is logged for who makes it"
+            announce(f"{self.seat.owner} {text}")
 
     def tell_earlier(self) -> None:
         """Tells which edits of an earlier day were neither accepted nor given up."""
         name, edits = unfinished_before(self.seat.day, self.seat.planner)
         if edits and not self.seat.offer:
-            told = "that were not accepted, to be typed or at the screen made again:"
-            announce(f"edits of {name} {told}")
+            text = "that were not accepted, to be typed or at the screen made again:"
+            announce(f"edits of {name} {text}")
             for edit in edits:
                 announce(f"    {edit}")
 
@@ -114,7 +114,7 @@ class PlainSitting:
             ends = [self.seat.answers] + ([sys.stdin.fileno()] if self.is_typing else [])
             ready = select.select(ends, [], [], 0.5)[0]
             if self.seat.answers in ready:
-                self.hear()
+                self.show_answers()
             if sys.stdin.fileno() in ready:
                 self.read_typed()
                 if not self.is_typing:
@@ -130,7 +130,7 @@ class PlainSitting:
         if self.seat.is_over() and self.seat.day.closes_at() is None:
             step_over(self.seat, self.show, announce)
 
-    def hear(self) -> None:
+    def show_answers(self) -> None:
         """Shows all answers that are there."""
         answer = self.seat.read(0)
         while answer is not None:
@@ -148,7 +148,7 @@ class PlainSitting:
         for line in lines:
             self.seat.send(decoded(line))
             # answers are read in between, or desk and planner would wait for each other
-            self.hear()
+            self.show_answers()
 
     def watch_log(self) -> None:
         """Tells once that the log cannot be written."""
@@ -179,7 +179,7 @@ def go_on(sitting: PlainSitting) -> int:
         try:
             return sitting.go_on()
         except DeskEnded:
-            if sitting.seat.story.has_left or not sitting.seat.is_over():
+            if sitting.seat.state.has_left or not sitting.seat.is_over():
                 raise
             sitting.watch_rules()
 
@@ -196,8 +196,8 @@ def sit_plain(day: Day, planner: int, name: Optional[str]) -> int:
         return 0
     except DeskEnded:
         with contextlib.suppress(DeskEnded):
-            sitting.hear()
-        if seat.story.has_left:
+            sitting.show_answers()
+        if seat.state.has_left:
             return 0
         announce(DEAD)
     except NoAnswer:

@@ -21,7 +21,7 @@ class VariantList(Listed):
         self.marked: list[int] = []
         super().__init__(
             wording.notice(say("variants")),
-            wording.lines([one.told() for one in self.found]),
+            wording.lines([one.notice() for one in self.found]),
             {"take up": self.take_up, "compare": self.compare, "throw away": self.throw_away},
         )
 

@@ -4,8 +4,8 @@ from __future__ import annotations
 from typing import Any, Iterable, Sequence
 
 from office.day.instance import Instance
+from office.day.lecture import Lecture
 from office.day.shifts import Shift
-from office.day.timetable import Lecture
 from office.words.text import counted, shown
 from office.words.wording import Wording
 from office.work.week import View, courses_of_view
@@ -54,7 +54,7 @@ class Frame:
         self.instance, self.wording = instance, wording
         self.hues = hues_of(instance)
 
-    def told(self) -> Data:
+    def data(self) -> Data:
         """Days, periods, slots and names, with which a window begins."""
         instance, wording = self.instance, self.wording
         days, periods = range(instance.days), range(instance.periods)

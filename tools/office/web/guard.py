@@ -100,7 +100,7 @@ class Guard:
         """A name that somebody else has led to this address is none of ours."""
         host = (head.get("Host") or "").lower()
         if not LOOPBACK.match(host) and host not in self.hosts:
-            raise Fault(421, "this is no name of this office")
+            raise Fault(421, "unknown host name")
 
     def check_origin(self, head: Head) -> None:
         """A browser says which page asks: it has to be ours. That the key has a header of its own,

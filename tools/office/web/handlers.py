@@ -138,16 +138,16 @@ class Verb(Keyed):
 
     async def post(self, verb: str) -> None:
         try:
-            told = self.told()
+            data = self.read_body()
             if verb == "hello":
-                told["login"] = self.office.guard.login(self.asked)
-            self.answer(await self.office.answer(self.who, self.window, verb, told))
+                data["login"] = self.office.guard.login(self.asked)
+            self.answer(await self.office.answer(self.who, self.window, verb, data))
         except Fault as fault:
             self.refuse(fault)
         except Exception as thrown:
             self.refuse(fault_of(thrown))
 
-    def told(self) -> Data:
+    def read_body(self) -> Data:
         """What the request says."""
         try:
             found = json.loads(self.said.decode("utf-8"))

@@ -35,7 +35,7 @@ def question_data(wording: Wording, shown: Shown) -> Optional[Data]:
             {"name": name, "said": button(name), "key": "" if line else letter(name)}
             for name in answers
         ],
-        "choices": wording.lines([told for told, _ in question.choices]),
+        "choices": wording.lines([one for one, _ in question.choices]),
         "canWait": question.can_wait,
     }
     if line is not None:
@@ -60,7 +60,7 @@ def cost_rows(box: Box) -> list[Data]:
 def news_data(planning: Planning, wording: Wording, accepted: Accepted) -> Data:
     """An accepted draft."""
     news, entry = planning.news, accepted.entry
-    told = news.told(accepted)
+    facts = news.facts(accepted)
     who = wording.notice(news.who(accepted))
     edits = [wording.shifts(shifts) for shifts in accepted.shifts]
     slots = {slot for shift in accepted.all() for slot in shift.slots()}
@@ -68,8 +68,8 @@ def news_data(planning: Planning, wording: Wording, accepted: Accepted) -> Data:
         "number": entry.number,
         "seat": entry.planner,
         "who": who,
-        "when": told.time[11:16],
-        "why": wording.safe(told.why),
+        "when": facts.time[11:16],
+        "why": wording.safe(facts.why),
         "edits": edits,
         "slots": sorted(slots),
         "text": f"{who} committed draft {entry.number}: {'; '.join(edits)}",

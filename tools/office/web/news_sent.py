@@ -17,7 +17,7 @@ def last_news(planning: Planning, wording: Wording) -> list[Data]:
     return [news_data(planning, wording, one) for one in planning.news.accepted[-DRAFTS:]]
 
 
-class Heard:
+class NewsSent:
     """How many drafts the windows of a planner have heard of, and what of the last ones."""
 
     def __init__(self, planning: Planning, wording: Wording) -> None:
@@ -25,7 +25,7 @@ class Heard:
         self.count = max(0, len(planning.news.accepted) - DRAFTS)
         # how long the notes of commits were then
         self.notes = 0
-        self.told: dict[int, Data] = {}
+        self.sent: dict[int, Data] = {}
         self.read_on()
 
     def read_on(self) -> list[Data]:
@@ -36,6 +36,6 @@ class Heard:
         first = self.count if notes == self.notes else max(0, self.count - DRAFTS)
         found = [news_data(self.planning, self.wording, one) for one in news.accepted[first:]]
         self.count = len(news.accepted)
-        new = [one for one in found if self.told.get(one["number"]) != one]
-        self.told.update({one["number"]: one for one in found})
+        new = [one for one in found if self.sent.get(one["number"]) != one]
+        self.sent.update({one["number"]: one for one in found})
         return new

@@ -5,14 +5,15 @@ from __future__ import annotations
 from typing import Any
 
 from office.day.closure import Closure
-from office.day.costs import read_costs
-from office.day.timetable import Lecture, Slot
+from office.day.edits import Edit
+from office.day.lecture import Lecture, Slot
+from office.day.rules import students_without_seat
+from office.seat.answers import Offer, costs_in
 from office.web.frame import Frame
 from office.words.closure_notices import blocked_here_notice, by_notice, closure_notice
 from office.words.notice import NOTHING, Notice, say
 from office.words.text import counted
 from office.work.carry import SWAP, Carry
-from office.work.offers import Offer
 from office.work.planning import Planning
 from office.work.week import Cell, View, by_slot, courses_of_view, of_view, weeks_of
 from office.work.work import Work
@@ -23,7 +24,7 @@ Data = dict[str, Any]
 class Picture:
     """What a window draws of a planner's work."""
 
-    def __init__(self, frame: Frame, work: Work, prices: dict[str, int]) -> None:
+    def __init__(self, frame: Frame, work: Work, prices: dict[Edit, int]) -> None:
         # what each edit has cost when it was made, as far as that is known
         self.frame, self.work, self.prices = frame, work, prices
         self.planning: Planning = work.planning
@@ -63,7 +64,8 @@ class Picture:
 
     def draft(self) -> Data:
         planning, wording = self.planning, self.wording
-        foretold = say("box stale", row=planning.foretold) if planning.foretold else NOTHING
+        row = planning.stale_preview
+        stale = say("box stale", row=row) if row is not None else NOTHING
         return {
             "edits": [
                 {"text": wording.shifts(shifts), "price": self.prices.get(edit)}
@@ -71,8 +73,8 @@ class Picture:
             ],
             "base": planning.base_costs or None,
             "base_total": planning.base_total,
-            "behind": planning.behind(),
-            "foretold": wording.notice(foretold),
+            "since": planning.accepted_count(),
+            "stale_preview": wording.notice(stale),
             "left_out": wording.lines(planning.left_out()),
         }
 
@@ -92,7 +94,7 @@ class Picture:
         view, instance = self.work.view, self.planning.instance
         cells, gone = self.work.cells(), self.gone()
         newest = by_slot(of_view(self.planning.known.newest, view))
-        told = [
+        drawn = [
             self.cell(slot, cell, gone.get(slot, []), newest.get(slot, []))
             for slot, cell in cells.items()
             if cell.lectures or cell.is_mine or cell.is_others or cell.is_closed or cell.blocked
@@ -105,11 +107,11 @@ class Picture:
             "about": self.frame.about(view),
             "missing": f"{counted(count, 'lecture')} missing" if count else "",
             "working": [self.wording.safe(name) for name in self.work.knowing.names_at_work(view)],
-            "cells": told,
+            "cells": drawn,
         }
 
     def cell(self, slot: Slot, cell: Cell, gone: list[Lecture], newest: list[Lecture]) -> Data:
-        rooms, courses = self.planning.instance.rooms, self.planning.instance.courses
+        rooms = self.planning.instance.rooms
         changed = self.work.changed_here(slot) if cell.is_others else None
         brief = self.frame.brief
         return {
@@ -118,7 +120,7 @@ class Picture:
                 {
                     **self.frame.lecture(one),
                     "seats": rooms[one.room],
-                    "short": max(0, courses[one.course].students - rooms[one.room]),
+                    "short": signs.short,
                     "alone": signs.alone,
                 }
                 for one, signs in zip(cell.lectures, cell.signs)
@@ -168,34 +170,34 @@ class Picture:
         course = planning.instance.courses[name]
         lectures = planning.lectures(f"course {name}")
         days = len({lecture.day for lecture in lectures})
-        costs = read_costs(planning.look(f"coursecost {name}"))
-        told = ", ".join(f"{kind} {points}" for kind, points in costs.items() if points)
+        costs = costs_in(planning.look(f"coursecost {name}"))
+        points = ", ".join(f"{kind} {points}" for kind, points in costs.items() if points)
         return [
             f"{counted(course.students, 'student')}, "
             f"teacher {wording.name('teacher', course.teacher)}",
             f"{len(lectures)} of {course.lectures} placed, on {counted(days, 'day')} "
             f"({course.minimum_days} wanted)",
-            f"costs {told or 'nothing'}",
+            f"costs {points or 'nothing'}",
         ]
 
     def about(self, lecture: Lecture) -> Data:
         """The lecture at the cursor, with the weeks in which it stands."""
         wording, instance = self.wording, self.planning.instance
         seats = instance.rooms[lecture.room]
-        short = instance.courses[lecture.course].students - seats
-        lacking = f", {counted(short, 'student')} without one" if short > 0 else ""
+        short = students_without_seat(instance, lecture)
+        lacking = f", {counted(short, 'student')} without one" if short else ""
         room = f"room {wording.room(lecture.room)}, {counted(seats, 'seat')}{lacking}"
         cell = self.work.cells()[lecture.slot]
         changed = self.work.changed_here(lecture.slot) if cell.is_others else None
-        told = [*([changed] if changed else []), *self.work.knowing.told_of(cell)]
-        told += [blocked_here_notice(one) for one in cell.blocked]
+        notices = [*([changed] if changed else []), *self.work.knowing.notices_of(cell)]
+        notices += [blocked_here_notice(one) for one in cell.blocked]
         return {
             "course": lecture.course,
             "said": wording.course(lecture.course),
             "where": wording.slot(lecture.slot),
             "lines": [room, *self.course_lines(lecture.course)],
             # what others have to do with it
-            "told": wording.lines(told),
+            "notices": wording.lines(notices),
             "weeks": [[view, wording.short(*view)] for view in weeks_of(instance, lecture)],
         }
 
@@ -206,10 +208,10 @@ class Picture:
         is none."""
         best = carry.best()
         return {
-            "kind": carry.kind,
+            "kind": carry.kind.value,
             **self.frame.course(carry.course),
             "about": self.frame.about(View("course", carry.course)),
-            "hint": self.wording.notice(carry.best_told()),
+            "hint": self.wording.notice(carry.best_notice()),
             "at": carry.slot,
             "room": carry.lecture.room if carry.lecture else None,
             "room_said": self.wording.short("room", carry.lecture.room) if carry.lecture else "",
@@ -224,8 +226,8 @@ class Picture:
         if offers:
             return {"at": slot, "offers": [self.offer(carry, offer) for offer in offers]}
         shortly, why = carry.short_reason(slot), carry.reason(slot)
-        told = self.wording.notice
-        return {"at": slot, "offers": [], "shortly": told(shortly), "why": told(why)}
+        words = self.wording.notice
+        return {"at": slot, "offers": [], "shortly": words(shortly), "why": words(why)}
 
     def offers(self, slot: Slot) -> list[list[Any]]:
         """All that a slot offers for what is held, cheapest first."""
@@ -233,5 +235,5 @@ class Picture:
         return [self.offer(carry, offer) for offer in carry.at(slot)] if carry else []
 
     def offer(self, carry: Carry, offer: Offer) -> list[Any]:
-        kind = "course" if carry.kind == SWAP else "room"
+        kind = "course" if carry.kind is SWAP else "room"
         return [offer.price, offer.about, self.wording.short(kind, offer.about)]

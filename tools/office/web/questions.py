@@ -4,8 +4,8 @@ from __future__ import annotations
 from functools import partial
 from typing import Any, Callable, NamedTuple, Optional
 
+from office.day.lecture import Lecture, Slot
 from office.day.shifts import shifts_of
-from office.day.timetable import Lecture, Slot
 from office.past.variants import Variant
 from office.web.guard import Fault
 from office.words.notice import Notice, Question, say
@@ -103,7 +103,7 @@ class Asking:
         if not found:
             self.work.notice = say("nothing to block")
             return None
-        choices: list[Choice] = [(one.told, partial(self.take_block, one)) for one in found]
+        choices: list[Choice] = [(one.notice, partial(self.take_block, one)) for one in found]
         return Question(say("what to block"), choices=choices)
 
     def take_block(self, one: Blocked) -> None:
@@ -117,7 +117,7 @@ class Asking:
             blocking.block(one.scope, why)
 
         line = Line("Why? (all who plan see it)", "block", take)
-        self.shown.ask(Question(one.told), line)
+        self.shown.ask(Question(one.notice), line)
 
     def put_aside(self) -> None:
         """Puts the edits of the draft aside under a name."""
@@ -141,7 +141,7 @@ class Asking:
             self.work.notice = say("no variants")
             return None
         found = variants.listed()
-        choices: list[Choice] = [(one.told(), partial(self.variant, one, found)) for one in found]
+        choices: list[Choice] = [(one.notice(), partial(self.variant, one, found)) for one in found]
         return Question(say("variants"), choices=choices)
 
     def variant(self, one: Variant, found: list[Variant]) -> Question:
@@ -153,13 +153,13 @@ class Asking:
             "throw away": partial(self.throw_away, one.name),
         }
         others: list[Choice] = [
-            (other.told(), partial(variants.compare, one, other))
+            (other.notice(), partial(variants.compare, one, other))
             for other in found
             if other is not one
         ]
         if others:
             answers["compare"] = lambda: Question(say("variants"), choices=others)
-        return Question(one.told(), lines, answers)
+        return Question(one.notice(), lines, answers)
 
     def throw_away(self, name: str) -> None:
         self.work.variants.throw_away(name)

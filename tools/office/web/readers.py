@@ -5,6 +5,7 @@ import contextlib
 import copy
 from typing import Any, Optional
 
+from office.day.edits import Edit
 from office.day.folder import Day
 from office.day.parts import DayMinutes
 from office.day.timetable import Timetable
@@ -48,14 +49,14 @@ class Readers:
             # what a part has is whole once the next one is there
             is_last = self.minutes.part.is_last()
             entries = self.minutes.read_on()
-            self._make([edit for entry in entries for edit in entry.edits()])
+            self._make([edit for entry in entries for edit in entry.edits])
             is_new = is_new or bool(entries) or not is_last
             if is_last:
                 return is_new
             self.minutes.step()
             self._begin()
 
-    def _make(self, edits: list[str]) -> None:
+    def _make(self, edits: list[Edit]) -> None:
         """Makes the edits of accepted drafts."""
         for edit in edits:
             try:
@@ -65,16 +66,16 @@ class Readers:
                 raise Refused(f"{path} is damaged: {edit} is no edit of this day") from None
 
     async def answer(self, window: Window, verb: str, data: Data) -> Data:
-        told = Request(self.instance, data)
+        request = Request(self.instance, data)
         if verb not in ("hello", "show"):
             raise Fault(403, "who reads changes nothing")
         if verb == "show":
-            window.shown = told.view()
+            window.shown = request.view()
             return {"picture": self.picture(window)}
         # a page that comes back may be one of another day
         with contextlib.suppress(Fault):
-            window.shown = told.view()
-        return {**self.frame.told(), "picture": self.picture(window)}
+            window.shown = request.view()
+        return {**self.frame.data(), "picture": self.picture(window)}
 
     def picture(self, window: Window) -> Data:
         """The week that a window shows, as it stands now."""
@@ -113,7 +114,7 @@ class Readers:
         """Tells who reads what things are called now."""
         for window in self.windows.all():
             if window.is_listening:
-                window.tell({"names": self.frame.told(), "picture": self.picture(window)})
+                window.tell({"names": self.frame.data(), "picture": self.picture(window)})
 
     def tell(self, event: Data) -> None:
         for window in self.windows.all():

@@ -152,6 +152,6 @@ def make_key(day: Day, name: str) -> int:
     if base is None:
         print(f"a new key is made: office web {day.path} prints its link")
         return 0
-    told = name if name == READER else f"seat {name}"
-    print(f"  {told:<7} {dict(links_of(day, base))[told]}")
+    who = name if name == READER else f"seat {name}"
+    print(f"  {who:<7} {dict(links_of(day, base))[who]}")
     return 0

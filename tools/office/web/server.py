@@ -60,13 +60,13 @@ class Office:
 
     # what is asked
 
-    async def answer(self, who: str, window: str, verb: str, told: Data) -> Data:
+    async def answer(self, who: str, window: str, verb: str, data: Data) -> Data:
         place = self.place(who)
         if verb == "hello":
-            known = place.windows.meet(window)
+            known = place.windows.begin(window)
         else:
             known = place.windows.known(window)
-        found: Data = await place.answer(known, verb, told)
+        found: Data = await place.answer(known, verb, data)
         if verb == "hello":
             found.update(day=self.day.name, closes=self.closes, now=time.time())
         if verb == "hello" and who != READER:

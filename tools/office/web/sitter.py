@@ -8,18 +8,19 @@ from concurrent.futures import ThreadPoolExecutor
 from functools import partial
 from typing import Any, Callable, Optional
 
-from office.day.costs import COSTS
+from office.day.costs import COSTS, MEANINGS
+from office.day.edits import Edit
 from office.day.folder import Day
 from office.seat.seat import DeskEnded, NoAnswer, Seat, is_taken, read_sitter
 from office.web.action_names import key_table
 from office.web.frame import Frame
 from office.web.guard import Fault
 from office.web.messages import notice_data, question_data
-from office.web.news_sent import Heard, last_news
+from office.web.news_sent import NewsSent, last_news
 from office.web.picture import Picture
 from office.web.questions import WHY, Shown
 from office.web.seat_faults import LOST, fault_of
-from office.web.verbs import CHANGES, VERBS, Request, Turn, hold_again
+from office.web.verbs import CHANGES, VERBS, Request, WindowTurn, hold_again
 from office.web.windows import Window, Windows
 from office.words.notice import NOTHING, Question, say
 from office.work.part_stepping import waiting_notice
@@ -50,7 +51,7 @@ class Sitter:
         # what is asked of who has sat down, until it is answered in one of his windows
         self.first: Optional[Question] = None
         # by how much each edit of the draft has changed the cost when it was made
-        self.prices: dict[str, int] = {}
+        self.prices: dict[Edit, int] = {}
         self._waiting = 0
         # whether the windows were told that the desk does not answer
         self._is_slow = False
@@ -115,10 +116,10 @@ class Sitter:
 
     def _hello(self, window: Window, data: Data) -> Data:
         """Sits down, if nobody does yet, and tells all with which a window begins."""
-        told = Request(self.frame.instance, data)
+        request = Request(self.frame.instance, data)
         if self.planning is None:
             last = self.name or read_sitter(self.day, self.planner)[0]
-            name = told.text("login", NAME) or told.text("name", NAME)
+            name = request.text("login", NAME) or request.text("name", NAME)
             if not name:
                 return {"wants": "name", "last": last, "seat": self.planner}
             self._sit(name)
@@ -126,7 +127,7 @@ class Sitter:
         planning = shown.planning
         # a page that comes back may be one of another day
         with contextlib.suppress(Fault):
-            shown.work.show(told.view())
+            shown.work.show(request.view())
         with contextlib.suppress(Fault):
             hold_again(shown, self.frame.instance, data.get("held"))
         if self.first is not None:
@@ -136,8 +137,9 @@ class Sitter:
             "name": self.frame.wording.safe(planning.seat.name),
             "keys": key_table(),
             "parts": COSTS,
+            "meanings": MEANINGS,
             "farewell": FAREWELL,
-            **self.frame.told(),
+            **self.frame.data(),
             "news": last_news(planning, self.frame.wording),
             "picture": self._picture(shown),
             "question": question_data(self.frame.wording, shown),
@@ -151,7 +153,7 @@ class Sitter:
             seat.waits = partial(self._tell_waiting, seat)
             self.begun = Work(planning)
             self.first = self.begun.begin()
-            self.heard = Heard(planning, self.frame.wording)
+            self.news_sent = NewsSent(planning, self.frame.wording)
         except BaseException:
             seat.go()
             raise
@@ -160,9 +162,9 @@ class Sitter:
 
     def _tell_waiting(self, seat: Seat, seconds: float) -> None:
         """The windows are told that the desk does not answer; this runs in the seat's thread."""
-        told = self.frame.wording.notice(waiting_notice(seat, seconds))
+        text = self.frame.wording.notice(waiting_notice(seat, seconds))
         self._is_slow = True
-        self.loop.call_soon_threadsafe(self.tell, {"waits": told})
+        self.loop.call_soon_threadsafe(self.tell, {"waits": text})
 
     def _go(self) -> None:
         if self.planning is not None:
@@ -183,18 +185,18 @@ class Sitter:
         if self.planning is None:
             raise Fault(410, "this window is not known here: it begins anew")
         shown, planning = self._shown(window), self.planning
-        told = Request(self.frame.instance, data)
+        request = Request(self.frame.instance, data)
         picture = Picture(self.frame, shown.work, self.prices)
         if verb == "about":
-            lecture = told.lecture()
+            lecture = request.lecture()
             return {"about": picture.about(lecture) if lecture else None}
         if verb == "offers":
-            return {"offers": picture.offers(told.slot("at"))}
+            return {"offers": picture.offers(request.slot("at"))}
         if verb == "print":
             return self._print(shown)
-        accepted, cost = len(planning.seat.story.accepted), sum(planning.costs().values())
+        accepted, cost = len(planning.seat.state.accepted), sum(planning.costs().values())
         planning.notice = planning.alarm = NOTHING
-        self._act(shown, verb, told)
+        self._act(shown, verb, request)
         if shown.work.is_done or self.begun.is_done:
             self._go()
             return {"left": True, "others": [(one, {"left": True}) for one in self._others(window)]}
@@ -205,7 +207,7 @@ class Sitter:
         }
         if verb in CHANGES:
             found["others"] = self._pictures(window)
-            found["committed"] = len(planning.seat.story.accepted) > accepted
+            found["committed"] = len(planning.seat.state.accepted) > accepted
         return found
 
     # from one part of the day to the next
@@ -227,33 +229,33 @@ class Sitter:
                 shown.ask(question)
             if not window.is_listening:
                 continue
-            told: Data = {"notice": self._notice(), "picture": self._picture(shown)}
+            event: Data = {"notice": self._notice(), "picture": self._picture(shown)}
             if shown.question in (None, question):
-                told["question"] = question_data(self.frame.wording, shown)
-            self.loop.call_soon_threadsafe(window.tell, told)
+                event["question"] = question_data(self.frame.wording, shown)
+            self.loop.call_soon_threadsafe(window.tell, event)
 
     def _print(self, shown: Shown) -> Data:
         """The week that is seen as a page that needs nothing else."""
         page = page_of(shown.planning, shown.work.view)
-        told = notice_data(self.frame.wording, say("page made", path=page.name))
-        return {"page": page._asdict(), "notice": told}
+        notice = notice_data(self.frame.wording, say("page made", path=page.name))
+        return {"page": page._asdict(), "notice": notice}
 
-    def _act(self, shown: Shown, verb: str, told: Request) -> None:
+    def _act(self, shown: Shown, verb: str, request: Request) -> None:
         """Does what is asked, and keeps what is to be asked then."""
         if self.first is not None and verb == "answer":
             self.first = None
         elif self.first is not None and not self.first.can_wait:
             raise Fault(409, "first answer what is asked")
         if verb == "answer":
-            answer, choice = told.data.get("answer"), told.data.get("choice")
-            typed = told.text("why", WHY)
-            question = shown.answer(told.number("question"), answer, choice, typed)
+            answer, choice = request.data.get("answer"), request.data.get("choice")
+            typed = request.text("why", WHY)
+            question = shown.answer(request.number("question"), answer, choice, typed)
             if question is not None:
                 shown.ask(question)
             return
         shown.ask(None)
         if verb != "close":
-            question = VERBS[verb](Turn(shown, told))
+            question = VERBS[verb](WindowTurn(shown, request))
             if question is not None:
                 shown.ask(question)
 
@@ -307,7 +309,7 @@ class Sitter:
             # nothing was asked: the desk has ended
             planning.seat.read(0)
         is_new = planning.tick()
-        news = self.heard.read_on()
+        news = self.news_sent.read_on()
         return {"news": news, "others": self._pictures() if news or is_new else []}
 
     async def rename(self) -> None:
@@ -322,8 +324,8 @@ class Sitter:
         if self.planning is None:
             return {"others": []}
         accepted = last_news(self.planning, self.frame.wording)
-        told = {"names": self.frame.told(), "accepted": accepted}
-        return {"others": [(window, {**event, **told}) for window, event in self._pictures()]}
+        names = {"names": self.frame.data(), "accepted": accepted}
+        return {"others": [(window, {**event, **names}) for window, event in self._pictures()]}
 
     def tell(self, event: Data) -> None:
         for window in self.windows.all():

@@ -5,15 +5,17 @@ from __future__ import annotations
 from typing import Any, Callable, Optional
 
 from office.day.instance import Instance
-from office.day.timetable import Lecture, Slot
+from office.day.lecture import Lecture, Slot
+from office.seat.calls import Turn, read_call
 from office.web.guard import Fault
 from office.web.questions import Asking, Shown
 from office.words.notice import Question, say
 from office.work.carry import MOVE, PLACE, SWAP
-from office.work.offers import Offer
 from office.work.week import VIEW_KINDS, View
 
 Data = dict[str, Any]
+# what is picked up to be moved or to be swapped, by the word of the page
+PICKED = {kind.value: kind for kind in (MOVE, SWAP)}
 # letters of a line that is typed by hand
 LINE = 500
 # actions beside which a lecture may be held
@@ -83,27 +85,27 @@ class Request:
         return Lecture(self.course(found.get("course")), room, *self._slot(found.get("at")))
 
 
-class Turn:
+class WindowTurn:
     """A request at the work of one window. Each act answers what is to be asked then, if anything
     is."""
 
-    def __init__(self, shown: Shown, told: Request) -> None:
-        self.shown, self.work, self.told = shown, shown.work, told
+    def __init__(self, shown: Shown, request: Request) -> None:
+        self.shown, self.work, self.request = shown, shown.work, request
 
     def show(self) -> None:
-        self.work.show(self.told.view())
+        self.work.show(self.request.view())
 
     def next_week(self) -> None:
-        self.work.show_next_week(self.told.lecture())
+        self.work.show_next_week(self.request.lecture())
 
     def pick_up(self) -> Optional[Question]:
-        kind = self.told.data.get("kind")
-        if kind not in (MOVE, SWAP):
+        kind = PICKED.get(str(self.request.data.get("kind")))
+        if kind is None:
             raise Fault(400, "to move or to swap?")
-        return self.work.pick_up(self.told.lecture(), kind)
+        return self.work.pick_up(self.request.lecture(), kind)
 
     def pick_up_missing(self) -> Optional[Question]:
-        return self.work.pick_up_missing(self.told.course(self.told.data.get("course")))
+        return self.work.pick_up_missing(self.request.course(self.request.data.get("course")))
 
     def swap_instead(self) -> None:
         self.work.swap_instead()
@@ -115,25 +117,25 @@ class Turn:
 
     def put_down(self) -> Optional[Question]:
         """Puts down what is held, at the price that was shown; without one it stays."""
-        carry, slot = self.work.carry, self.told.slot("to")
+        carry, slot = self.work.carry, self.request.slot("to")
         if carry is None:
             self.work.notice = say("pick up first")
             return None
-        if self.told.data.get("price") is None and slot == carry.slot:
+        if self.request.data.get("price") is None and slot == carry.slot:
             self.work.lay_down()
             return None
-        if self.told.data.get("price") is None:
+        if self.request.data.get("price") is None:
             return self.work.put_down(slot, None)
-        price, about = self.told.number("price"), self.told.data.get("about")
+        price, about = self.request.number("price"), self.request.data.get("about")
         seen = [one for one in carry.at(slot) if (one.price, one.about) == (price, about)]
         # one that was never offered is refused as one that is offered no more
-        return self.work.put_down(slot, seen[0] if seen else Offer(price, "", str(about)))
+        return self.work.put_down(slot, seen[0] if seen else None)
 
     def lay_down(self) -> None:
         self.work.lay_down()
 
     def take_out(self) -> Optional[Question]:
-        return self.work.take_out(self.told.lecture())
+        return self.work.take_out(self.request.lecture())
 
     def best(self) -> None:
         if self.work.carry is None:
@@ -144,13 +146,14 @@ class Turn:
 
     def line(self) -> Optional[Question]:
         """A line of the desk that was typed by hand."""
-        line = self.told.text("line", LINE)
+        line = self.request.text("line", LINE)
         if not line:
             return None
         self.work.carry = None
-        if line == "leave":
+        call = read_call(line)
+        if call is Turn.LEAVE:
             self.work.leave()
-        elif line == "commit":
+        elif call is Turn.COMMIT:
             Asking(self.shown).show_box()
         else:
             return self.work.drafting.type_line(line)
@@ -161,9 +164,9 @@ class Turn:
         drafting, asking = self.work.drafting, Asking(self.shown)
         return {
             "undo": drafting.undo,
-            "history": lambda: self.work.drafts_of(self.told.lecture()),
-            "pin": lambda: asking.pin(self.told.lecture()),
-            "block": lambda: asking.block(self.told.lecture(), self.told.slot("at")),
+            "history": lambda: self.work.drafts_of(self.request.lecture()),
+            "pin": lambda: asking.pin(self.request.lecture()),
+            "block": lambda: asking.block(self.request.lecture(), self.request.slot("at")),
             "who": self.work.knowing.who_is_where,
             "undo undo": drafting.undo_undo,
             "put aside": asking.put_aside,
@@ -179,7 +182,7 @@ class Turn:
 
     def act(self) -> Optional[Question]:
         """An action of the draft, by its name."""
-        acts, name = self.acts(), self.told.data.get("name")
+        acts, name = self.acts(), self.request.data.get("name")
         if not isinstance(name, str) or name not in acts:
             raise Fault(400, "nothing of this name is done here")
         if name not in LOOKS:
@@ -191,15 +194,16 @@ def hold_again(shown: Shown, instance: Instance, held: Any) -> None:
     """What was held when the server was another one is held again."""
     if not isinstance(held, dict) or shown.work.carry is not None:
         return
-    told = Request(instance, {"lecture": held})
-    if held.get("kind") == PLACE:
-        shown.work.pick_up_missing(told.course(held.get("course")))
-    elif held.get("kind") in (MOVE, SWAP):
-        shown.work.pick_up(told.lecture(), held["kind"])
+    request = Request(instance, {"lecture": held})
+    kind = PICKED.get(str(held.get("kind")))
+    if held.get("kind") == PLACE.value:
+        shown.work.pick_up_missing(request.course(held.get("course")))
+    elif kind is not None:
+        shown.work.pick_up(request.lecture(), kind)
 
 
-VERBS: dict[str, Callable[[Turn], Optional[Question]]] = {
-    name: getattr(Turn, name)
+VERBS: dict[str, Callable[[WindowTurn], Optional[Question]]] = {
+    name: getattr(WindowTurn, name)
     for name in (
         "show next_week pick_up pick_up_missing swap_instead move_instead put_down lay_down "
         "take_out best missing line act"

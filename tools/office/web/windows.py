@@ -22,7 +22,7 @@ class Window:
         # what the face of the model keeps for this window
         self.shown: Any = None
         self.is_listening = self.is_ending = False
-        self.met = time.monotonic()
+        self.asked_at = time.monotonic()
         self._events: Deque[Data] = deque()
         self._woken = asyncio.Event()
 
@@ -68,7 +68,7 @@ class Windows:
         self.by_name: dict[str, Window] = {}
         self.gone_since = time.monotonic()
 
-    def meet(self, name: str) -> Window:
+    def begin(self, name: str) -> Window:
         """A window that begins."""
         if name not in self.by_name:
             if len(self.by_name) >= self.most:
@@ -82,14 +82,14 @@ class Windows:
         silent = [window for window in self.all() if not window.is_listening]
         if not silent:
             raise Fault(429, f"{self.most} windows of this link are open: close one of them")
-        self.forget(min(silent, key=lambda window: window.met))
+        self.forget(min(silent, key=lambda window: window.asked_at))
 
     def known(self, name: str) -> Window:
         """A window that has begun here."""
         if name not in self.by_name:
             raise Fault(410, "this window is not known here: it begins anew")
         window = self.by_name[name]
-        window.met = time.monotonic()
+        window.asked_at = time.monotonic()
         return window
 
     def listen(self, name: str) -> Window:
@@ -97,7 +97,7 @@ class Windows:
         window = self.known(name)
         if window.is_listening:
             window.end()
-            new = self.meet(name)
+            new = self.begin(name)
             window, new.shown = new, window.shown
         window.is_listening = True
         return window
@@ -105,7 +105,7 @@ class Windows:
     def drop_silent(self) -> None:
         """Forgets those that neither listen nor ask."""
         for window in self.all():
-            if not window.is_listening and time.monotonic() > window.met + SILENT:
+            if not window.is_listening and time.monotonic() > window.asked_at + SILENT:
                 self.forget(window)
 
     def forget(self, window: Window) -> None:

@@ -18,26 +18,26 @@ def by_notice(closure: Closure) -> Notice:
 def closure_notice(closure: Closure) -> Notice:
     """What is blocked, or open again, why and by whom."""
     code = "is open again" if closure.is_lifted else "is blocked"
-    why = say("reason told", why=closure.why) if closure.why else NOTHING
+    why = say("because of", why=closure.why) if closure.why else NOTHING
     return say(code, scope=closure.scope, when=closure.scope, because=why, by=by_notice(closure))
 
 
 def blocked_here_notice(closure: Closure) -> Notice:
     """The same of a slot that is seen, with the time at which it was said."""
-    why = say("reason told", why=closure.why) if closure.why else NOTHING
+    why = say("because of", why=closure.why) if closure.why else NOTHING
     by, time = by_notice(closure), closure.time
     return say("blocked here", scope=closure.scope, because=why, by=by, time=time)
 
 
 def rule_change_notice(change: RuleChange) -> Notice:
     """How the rules have changed, in one line."""
-    told = [closure_notice(closure) for closure in change.closures]
+    notices = [closure_notice(closure) for closure in change.closures]
     count = len(change.asides)
     if count == 1:
-        told.append(say("one missing now"))
+        notices.append(say("one missing now"))
     elif count:
-        told.append(say("missing now", count=count))
-    return say("rules changed", reasons=told)
+        notices.append(say("missing now", count=count))
+    return say("rules changed", reasons=notices)
 
 
 def shifts_of_change(change: RuleChange) -> list[Shift]:

@@ -136,11 +136,11 @@ VARIANTS = {
     "no variants": "Nothing was put aside: {key[put aside]} puts a draft aside.",
     "variants": "What was put aside",
     "variant": "{name}: {count:edit}; the program does not say what it would bring now",
-    "variant told": "{name}: {count:edit}, {made} of them can be made now: cost {price}, missing "
+    "variant now": "{name}: {count:edit}, {made} of them can be made now: cost {price}, missing "
     "{missing}",
     "compared": "{name} -> {second}",
     "same variants": "Both lead to the same timetable now.",
-    "not compared": "In what they differ now is not known: the program does not say it.",
+    "not compared": "Cannot compare them: the program gave no answer.",
 }
 # what the program finds
 FINDINGS = {

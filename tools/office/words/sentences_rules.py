@@ -25,7 +25,7 @@ RULES: dict[str, str] = {
     "teacher or a course.",
     "not to be blocked": "Not blocked: it cannot be written ({fault}).",
     "to the office": "The office changes the rules: {closure}.",
-    "reason told": ": {why}",
+    "because of": ": {why}",
     "named at seat": "{name} at seat {planner}",
     "rules changed": "{reasons}",
     "one missing now": "1 lecture is missing now",

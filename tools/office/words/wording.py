@@ -6,10 +6,12 @@ from typing import Any, Callable, Mapping, Optional, Sequence
 
 from office.data.labels import Labels
 from office.day.closure import Scope
-from office.day.desk_words import words_of
+from office.day.edits import Edit
 from office.day.instance import Course
+from office.day.lecture import Lecture, Slot
 from office.day.shifts import Shift, shifts_of
-from office.day.timetable import Lecture, Slot, Timetable
+from office.day.timetable import Timetable
+from office.seat.answers import Row
 from office.words.notice import Notice
 from office.words.sentences import SENTENCES
 from office.words.text import counted, shown, signed
@@ -107,12 +109,11 @@ class Wording:
         label = self.period(scope.period)
         return f"each day at {label}" if ":" in label else f"each day in period {label}"
 
-    def row(self, row: str) -> str:
+    def row(self, row: Row) -> str:
         """A row on which a draft depends, and which has changed."""
-        kind, *rest = words_of(row)
-        if kind == "slot":
-            return self.slot((int(rest[0]), int(rest[1])))
-        return f"{kind} {self.name(kind, rest[0])}"
+        if row.slot is not None:
+            return self.slot(row.slot)
+        return f"{row.kind} {self.name(row.kind, row.name)}"
 
     def place(self, lecture: Lecture) -> str:
         """Where a lecture stands; its room is left out where it is not known."""
@@ -121,7 +122,7 @@ class Wording:
 
     # edits
 
-    def edit(self, edit: str, timetable: Optional[Timetable] = None) -> str:
+    def edit(self, edit: Edit, timetable: Optional[Timetable] = None) -> str:
         """An edit on a timetable; without one the old rooms are not said."""
         return self.shifts(shifts_of(edit, timetable))
 

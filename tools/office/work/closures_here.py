@@ -6,7 +6,7 @@ from typing import NamedTuple, Optional
 
 from office.day.closure import Closure, Scope
 from office.day.closures_file import add_closure, blocked_now, lifted_now, read_closures, standing
-from office.day.timetable import Lecture, Slot
+from office.day.lecture import Lecture, Slot
 from office.words.closure_notices import closure_notice
 from office.words.notice import Notice, say
 from office.work.planning import Planning
@@ -19,7 +19,7 @@ class ClosureChoice(NamedTuple):
     scope: Scope
     # what is lifted, if it is blocked
     lifts: Optional[Closure]
-    told: Notice
+    notice: Notice
 
 
 class Blocking:
@@ -53,10 +53,10 @@ class Blocking:
             scopes = Scope(kind, name, *slot), Scope(kind, name, slot[0]), Scope(kind, name)
             for scope in scopes:
                 if not any(one.covers(scope) for one in lifted):
-                    found.append(ClosureChoice(scope, None, self.told(scope)))
+                    found.append(ClosureChoice(scope, None, self.notice_of(scope)))
         return found
 
-    def told(self, scope: Scope) -> Notice:
+    def notice_of(self, scope: Scope) -> Notice:
         """What is to be blocked, with how many lectures stand there."""
         instance, newest = self.planning.instance, self.planning.known.newest
         count = sum(
@@ -66,8 +66,8 @@ class Blocking:
         return say("to block", scope=scope, when=scope, count=count)
 
     def is_blocked(self, scope: Scope) -> bool:
-        told = standing(read_closures(self.planning.seat.day))
-        return any(closure.scope.covers(scope) for closure in told)
+        closures = standing(read_closures(self.planning.seat.day))
+        return any(closure.scope.covers(scope) for closure in closures)
 
     def block(self, scope: Scope, why: str) -> None:
         """Has the office block it."""

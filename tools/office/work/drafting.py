@@ -1,13 +1,14 @@
 """What is done with the draft. Each act answers what is to be read or asked then, if anything."""
 from __future__ import annotations
 
-from typing import NamedTuple, Optional
+from typing import NamedTuple, Optional, Sequence
 
 from office.day.costs import Costs
-from office.day.desk_words import words_of
-from office.day.edits import is_edit
+from office.day.edits import Edit, edits_in
 from office.day.shifts import Shift, shifts_of
 from office.past.earlier_days import Earlier
+from office.seat.answers import Row
+from office.seat.calls import Turn, read_call
 from office.seat.seat_log import settle
 from office.words.notice import NOTHING, Notice, Question, say
 from office.work.planning import Planning
@@ -20,28 +21,28 @@ class Box(NamedTuple):
     the lectures that they leave missing, by courses, and the row for which the draft is stale by
     now, if it is."""
 
-    edits: list[str]
+    edits: list[Edit]
     shifts: list[list[Shift]]
     before: Costs
     after: Costs
     missing: dict[str, int]
-    stale: str
+    stale: Optional[Row]
     # who has changed that row
     who: list[Notice] = []
 
     def lines(self) -> list[Notice]:
-        told = [
+        lines = [
             say("numbered", number=number, shifts=shifts)
             for number, shifts in enumerate(self.shifts, 1)
         ]
-        told += [BLANK, self.price()]
+        lines += [BLANK, self.price()]
         if self.missing:
-            told.append(say("leaves missing", courses=self.missing))
-        if self.stale:
-            told += [say("box stale", row=self.stale), *self.who]
+            lines.append(say("leaves missing", courses=self.missing))
+        if self.stale is not None:
+            lines += [say("box stale", row=self.stale), *self.who]
         else:
-            told.append(say("box fresh"))
-        return told
+            lines.append(say("box fresh"))
+        return lines
 
     def price(self) -> Notice:
         """What the cost changes in each part."""
@@ -51,7 +52,7 @@ class Box(NamedTuple):
         return say("box change", price=sum(changes.values()), parts=changes)
 
 
-def edit_notices(edits: list[str]) -> list[Notice]:
+def edit_notices(edits: Sequence[Edit]) -> list[Notice]:
     """Edits of which the timetable is not known, a line each."""
     return [say("edit line", shifts=shifts_of(edit)) for edit in edits]
 
@@ -123,16 +124,16 @@ class Drafting:
                 planning.base_costs,
                 planning.costs(),
                 missing,
-                planning.foretold,
+                planning.stale_preview,
             )
         )
 
     def renewed(self, box: Box) -> Box:
         """A box with what others have changed by now."""
-        row = self.planning.foretold
-        return box._replace(stale=row, who=self.who_changed(row) if row else [])
+        row = self.planning.stale_preview
+        return box._replace(stale=row, who=self.who_changed(row) if row is not None else [])
 
-    def commit(self, edits: list[str], why: str) -> Optional[Question]:
+    def commit(self, edits: list[Edit], why: str) -> Optional[Question]:
         """Commits the edits that were confirmed, with the reason that was given, which may be
         empty. A draft that has other edits by then is not committed."""
         if edits != self.planning.edits():
@@ -148,28 +149,28 @@ class Drafting:
     def explain_stale(self) -> Optional[Question]:
         """Says who changed what, and offers to make the edits again."""
         planning = self.planning
-        row, planning.stale_row = planning.stale_row, ""
-        if not row:
+        row, planning.stale_row = planning.stale_row, None
+        if row is None:
             return None
         lines = [
             say("row changed", row=row),
             *self.who_changed(row),
             BLANK,
             say("your edits"),
-            *edit_notices(planning.seat.story.ended),
+            *edit_notices(planning.ended()),
             BLANK,
             say("redo commits nothing"),
         ]
         return Question(say("stale title"), lines, {"make again": self.redo})
 
-    def who_changed(self, row: str) -> list[Notice]:
+    def who_changed(self, row: Row) -> list[Notice]:
         """Who changed a row since the draft was opened, and how."""
         planning, lines = self.planning, []
         for accepted in planning.changes_of(row):
-            who, told = planning.news.who(accepted), planning.news.told(accepted)
-            because = say("because", why=told.why) if told.why else NOTHING
+            who, facts = planning.news.who(accepted), planning.news.facts(accepted)
+            because = say("because", why=facts.why) if facts.why else NOTHING
             number = accepted.entry.number
-            lines.append(say("by draft", number=number, who=who, time=told.time, because=because))
+            lines.append(say("by draft", number=number, who=who, time=facts.time, because=because))
             lines += [say("edit line", shifts=shifts) for shifts in accepted.shifts]
         return lines
 
@@ -191,7 +192,7 @@ class Drafting:
 
     def type_line(self, line: str) -> Optional[Question]:
         """Sends a line of the desk. A commit has its box in each face."""
-        if words_of(line) == ["commit"]:
+        if read_call(line) is Turn.COMMIT:
             self.planning.notice = say("commit by its key")
             return None
         self.planning.type_line(line)
@@ -200,13 +201,13 @@ class Drafting:
     def left(self) -> list[Notice]:
         """What has become of a planner's drafts when the desk has ended."""
         planning = self.planning
-        seat, story = planning.seat, planning.seat.story
+        seat, state = planning.seat, planning.state
         planning.minutes.read_on()
-        settle(story, seat.waiting, planning.minutes.entries, seat.planner)
-        lines = [say("on the disk", numbers=", ".join(map(str, story.accepted)) or "none")]
-        edits = story.unfinished() + [line for line in seat.waiting if is_edit(line)]
+        settle(state, seat.waiting, planning.minutes.entries, seat.planner)
+        lines = [say("on the disk", numbers=", ".join(map(str, state.accepted)) or "none")]
+        edits = state.unfinished() + edits_in(seat.waiting)
         if edits:
             fault = seat.log.fault
-            told = say("not accepted nor kept", fault=fault) if fault else say("not accepted")
-            lines += [told, *edit_notices(edits)]
+            title = say("not accepted nor kept", fault=fault) if fault else say("not accepted")
+            lines += [title, *edit_notices(edits)]
         return lines

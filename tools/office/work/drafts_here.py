@@ -11,6 +11,7 @@ from office.past.subjects import Subject
 from office.past.taking_back import take_back
 from office.past.timetable_at import costs_around
 from office.refused import Refused
+from office.seat.answers import Row
 from office.words.notice import NOTHING, Notice, Question, say
 from office.work.planning import Planning
 
@@ -37,15 +38,15 @@ class History:
         news = self.planning.news
         accepted = news.accepted[place]
         entry = accepted.entry
-        told, shifts = news.told(accepted), self.shifts()[place]
-        return Draft(entry.number, entry.planner, *told, entry.edits(), shifts)
+        facts, shifts = news.facts(accepted), self.shifts()[place]
+        return Draft(entry.number, entry.planner, *facts, entry.edits, shifts)
 
     def who(self, draft: Draft) -> Notice:
         return say("named", name=draft.name) if draft.name else say("seat", planner=draft.planner)
 
     def of(self, what: Subject) -> Optional[Question]:
         """The drafts that have changed something, newest first, to be chosen from."""
-        instance, row = self.planning.instance, f"{what.kind} {what.name}"
+        instance, row = self.planning.instance, Row(*what)
         choices: list[tuple[Notice, Act]] = []
         for place, shifts in reversed(list(enumerate(self.shifts()))):
             touched = [one for one in shifts if what.is_touched(instance, one)]
@@ -60,14 +61,14 @@ class History:
     def line(self, draft: Draft, touched: list[Shift]) -> Notice:
         """A draft in a list, with what it did that is asked about, and why."""
         groups = exchanged(touched)
-        told = [say("edit words", shifts=group) for group in groups[:FEW]]
+        notices = [say("edit words", shifts=group) for group in groups[:FEW]]
         more = len(groups) - FEW
         return say(
             "draft choice",
             number=draft.number,
             who=self.who(draft),
             time=draft.time,
-            reasons=told + ([say("and more", count=more)] if more > 0 else []),
+            reasons=notices + ([say("and more", count=more)] if more > 0 else []),
             why=say("because", why=draft.why) if draft.why else NOTHING,
         )
 

@@ -7,12 +7,14 @@ from functools import partial
 from typing import Any, Callable, NamedTuple, Optional
 
 from office.day.desk_words import encoded
+from office.day.lecture import Slot
 from office.day.program import Left
-from office.day.timetable import Slot, Timetable
+from office.day.rules import alone_points
+from office.day.timetable import Timetable
 from office.refused import Refused
 from office.words.notice import Notice, Question, say
 from office.work.planning import Planning
-from office.work.week import View, alone_points
+from office.work.week import View
 
 # the groups of the page, in its order
 GROUPS = (
@@ -63,7 +65,7 @@ def place_of(finding: dict[str, Any], timetable: Timetable) -> Place:
     return Place(View("course", course), slot)
 
 
-def told(finding: dict[str, Any]) -> Notice:
+def finding_notice(finding: dict[str, Any]) -> Notice:
     """A finding in its group."""
     data = {name: value for name, value in finding.items() if name not in ("kind", "day", "period")}
     if "period" in finding:
@@ -129,7 +131,9 @@ class Findings:
             return None
         found.sort(key=lambda one: (GROUPS.index(one["kind"]), -one.get("points", 0)))
         timetable = self.planning.known.present()
-        choices: list[Choice] = [(told(one), partial(self._see, one, timetable)) for one in found]
+        choices: list[Choice] = [
+            (finding_notice(one), partial(self._see, one, timetable)) for one in found
+        ]
         choices.append((say("see gaps"), self.gaps))
         points = sum(one.get("points", 0) for one in found)
         return Question(say("findings", count=len(found), points=points), choices=choices)

@@ -8,18 +8,17 @@ from office.day.folder import Day
 from office.day.timetable import Timetable
 from office.past.timetable_at import read_at
 from office.refused import Refused
+from office.seat.answers import Answer, CostsAre, LecturesAre, MissingAre, Other
+from office.seat.calls import Look
 
 
-def look_on_disk(day: Day, newest: Timetable, words: str) -> str:
+def look_on_disk(day: Day, newest: Timetable, look: Look) -> Answer:
     """The answer to a look, by the newest timetable on the disk. Prices are not known then."""
-    if words == "cost":
+    if look.words == ("cost",):
         with contextlib.suppress(Refused):
-            return " ".join(["costs", *map(str, read_at(day).costs.values())])
-    if words == "missing":
-        short = [(name, newest.missing(name)) for name in newest.by_course]
-        found = [f"{name} {count}" for name, count in short if count > 0]
-        return " ".join(["missing", str(len(found)), *found])
-    lectures = newest.look(words)
-    if lectures is None:
-        return "not known"
-    return " ".join(["lectures", str(len(lectures)), *(one.words() for one in lectures)])
+            return CostsAre("", read_at(day).costs)
+    if look.words == ("missing",):
+        short = {name: newest.missing(name) for name in newest.by_course}
+        return MissingAre("", {name: count for name, count in short.items() if count > 0})
+    lectures = newest.look(look.words)
+    return Other("not known") if lectures is None else LecturesAre("", lectures)

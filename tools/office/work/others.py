@@ -3,9 +3,9 @@ from __future__ import annotations
 
 from typing import Callable, Optional
 
+from office.day.lecture import Lecture
 from office.day.open_drafts import AtWork
 from office.day.pins import Pin
-from office.day.timetable import Lecture
 from office.seat.courtesies import SeatStatus, who_sits
 from office.words.closure_notices import blocked_here_notice
 from office.words.notice import NOTHING, Notice, Question, say
@@ -45,9 +45,9 @@ class Knowing:
         who = say("nobody")
         if sitter.is_there:
             who = say("sits", who=sitter.name or "somebody", time=sitter.since)
-        return say("at seat", planner=sitter.planner, sitter=who, work=self.draft_told(sitter))
+        return say("at seat", planner=sitter.planner, sitter=who, work=self.draft_notice(sitter))
 
-    def draft_told(self, sitter: SeatStatus) -> Notice:
+    def draft_notice(self, sitter: SeatStatus) -> Notice:
         """The draft of a seat, as far as its client tells of it."""
         work = sitter.work
         if work is None:
@@ -69,7 +69,7 @@ class Knowing:
             if any(is_of(self.planning.instance, view, one) for one in work.lectures)
         ]
 
-    def told_of(self, cell: Cell) -> list[Notice]:
+    def notices_of(self, cell: Cell) -> list[Notice]:
         """What is to be known of a cell."""
         blocked = map(blocked_here_notice, cell.blocked)
         return [*blocked, *map(pin_notice, cell.pins), *map(at_work_notice, cell.at_work)]

@@ -21,7 +21,7 @@ class Remade(NamedTuple):
     made: int = 0
     refused: list[Notice] = []
 
-    def told(self) -> list[Notice]:
+    def notices(self) -> list[Notice]:
         """What is said of it, if there was one."""
         if not self.of:
             return []
@@ -42,8 +42,8 @@ def step_over(planning: Planning) -> Stepped:
     enter(planning)
     remade = make_again(planning)
     # a change during which the desk has ended once more is told with the next one
-    stepped = Stepped(planning.changes[planning.told :], remade)
-    planning.told = len(planning.changes)
+    stepped = Stepped(planning.changes[planning.shown_changes :], remade)
+    planning.shown_changes = len(planning.changes)
     planning.notice = stepped_notice(stepped)
     return stepped
 
@@ -51,7 +51,7 @@ def step_over(planning: Planning) -> Stepped:
 def make_again(planning: Planning) -> Remade:
     """Makes the draft again that was open when the part before has ended, if there was one. Nothing
     is committed by it. A draft of somebody else waits for who sits here to take it over."""
-    seat, kept = planning.seat, planning.seat.story.again
+    seat, kept = planning.seat, planning.seat.state.again
     if not kept or seat.owner:
         return Remade()
     # who was broken off while he did it has some of them already
@@ -75,7 +75,7 @@ def stepped_notice(stepped: Stepped) -> Notice:
     """What has happened, in one line."""
     change = whole_change(stepped.changes)
     first = say("new desk") if change is None else rule_change_notice(change)
-    return say("rules now", reasons=[first, *stepped.remade.told()])
+    return say("rules now", reasons=[first, *stepped.remade.notices()])
 
 
 def question_of(stepped: Stepped) -> Optional[Question]:

@@ -1,31 +1,35 @@
 """A planner's work at a seat, without a face: the draft, what it costs, what others do."""
 from __future__ import annotations
 
+from typing import Sequence
+
 from office.day.commit_notes import CommitNote, keep_commit_note, read_commit_notes
-from office.day.costs import read_costs
-from office.day.desk_words import words_of
-from office.day.edits import Redone, is_edit
+from office.day.edits import Edit
 from office.day.processes import now
 from office.day.shared_lines import one_line
 from office.day.shifts import shifts_of
+from office.seat.answers import Answer, Committed, NotAllowed, Redone, Said, Stale, Undone, costs_in
+from office.seat.calls import Turn, read_call
 from office.words.notice import NOTHING, Notice, say
 from office.words.reasons import reason
 from office.work.seat_view import Reading
 
 # answers of the desk that are said in a sentence of their own
-TOLD = {
-    "nothing to undo": "no edit to undo",
-    "nothing to redo": "nothing to redo",
-    "already open": "already open",
-    "no draft": "no draft",
-    "no memory": "no memory",
-    "no place": "no place",
+SENTENCES: dict[Answer, str] = {
+    Said.NOTHING_TO_UNDO: "no edit to undo",
+    Said.NOTHING_TO_REDO: "nothing to redo",
+    Said.ALREADY_OPEN: "already open",
+    Said.NO_DRAFT: "no draft",
+    Said.NO_MEMORY: "no memory",
+    Said.NO_PLACE: "no place",
 }
 
 
-def answer_notice(answer: str) -> Notice:
+def answer_notice(answer: Answer) -> Notice:
     """An answer that is none of those that were hoped for."""
-    return say(TOLD[answer]) if answer in TOLD else say("desk says", answer=answer)
+    if isinstance(answer, Said) and answer in SENTENCES:
+        return say(SENTENCES[answer])
+    return say("desk says", answer=str(answer))
 
 
 class Planning(Reading):
@@ -47,8 +51,8 @@ class Planning(Reading):
         if self.is_failing:
             self.notice = self.refused = say("minutes fail")
             return False
-        answer = self.turn("open")
-        if answer == "opened":
+        answer = self.turn(Turn.OPEN)
+        if answer is Said.OPENED:
             self._stand_anew()
         else:
             self.notice = answer_notice(answer)
@@ -59,23 +63,23 @@ class Planning(Reading):
         is noted in the log, too."""
         self.take_up_draft()
         # before its first edit the draft costs what its base does
-        costs = self.ask("show cost" if self.known.made else "peek cost")
-        self.base_costs = read_costs(costs)
+        costs = self.ask("show cost" if self.state.made else "peek cost")
+        self.base_costs = costs_in(costs)
         self.base_total = sum(self.base_costs.values())
         self.seat.log.noted(f"base {self.base_total}")
 
-    def edit(self, edit: str) -> bool:
+    def edit(self, edit: Edit) -> bool:
         """Makes an edit, in a new draft if none is open; answers whether it was made."""
         if not self.open():
             return False
         shifts = shifts_of(edit, self.known.present())
         answer = self.turn(edit)
-        if answer == "done":
+        if answer is Said.DONE:
             self.notice = say("done", shifts=shifts)
             return True
         self.refused = answer_notice(answer)
-        if answer.startswith("refused "):
-            self.refused = reason(self.instance, edit, answer[8:])
+        if isinstance(answer, NotAllowed):
+            self.refused = reason(self.instance, edit, answer.fault)
         self.notice = say("refused", shifts=shifts, reason=self.refused)
         return False
 
@@ -84,15 +88,15 @@ class Planning(Reading):
             self.notice = say("nothing to undo")
             return
         last = self.shifts()[-1:]
-        answer = self.turn("undo")
-        if answer.startswith("done ") and last:
+        answer = self.turn(Turn.UNDO)
+        if isinstance(answer, Undone) and last:
             self.notice = say("taken back", shifts=last[0])
         else:
             self.notice = answer_notice(answer)
 
     def undo_undo(self) -> None:
         """Makes the edit again that was taken back last."""
-        undone = self.seat.story.undone
+        undone = self.state.undone
         if undone:
             self.edit(undone[-1])
         else:
@@ -111,14 +115,14 @@ class Planning(Reading):
         if why:
             # should the client die before it has written the reason, it is here
             self.seat.log.noted(f"why {why}")
-        answer = self.turn("commit")
-        if answer.startswith("committed "):
-            number = self.minutes.offset + int(words_of(answer)[1])
+        answer = self.turn(Turn.COMMIT)
+        if isinstance(answer, Committed):
+            number = self.minutes.offset + answer.number
             if self.has_entry(number):
                 kept = self._keep_note(number, now(), self.seat.name, why)
                 self.notice = say("committed", number=number, count=count, kept=kept)
             else:
-                self.notice = say("not in the minutes", answer=answer)
+                self.notice = say("not in the minutes", answer=str(answer))
         else:
             self._turned_down(answer)
 
@@ -145,11 +149,11 @@ class Planning(Reading):
     def _close_empty(self) -> None:
         """A draft without edits is not committed. If others have overtaken it, it is closed."""
         self.read_status()
-        row = self.foretold
-        if not row:
+        row = self.stale_preview
+        if row is None:
             self.notice = say("no edits")
             return
-        self.turn("abandon")
+        self.turn(Turn.ABANDON)
         self.notice = say("empty draft", row=row)
 
     def refresh(self) -> None:
@@ -157,21 +161,21 @@ class Planning(Reading):
         if not self.is_open:
             self.notice = say("newest")
             return
-        answer = self.turn("refresh")
-        if answer == "refreshed":
+        answer = self.turn(Turn.REFRESH)
+        if answer is Said.REFRESHED:
             self._stand_anew()
             self.notice = say("up to date")
         else:
             self._turned_down(answer)
 
-    def _turned_down(self, answer: str) -> None:
+    def _turned_down(self, answer: Answer) -> None:
         """A commit or a refresh that did not succeed."""
-        if answer.startswith("stale ") and not self.ended():
-            self.notice = say("empty draft", row=answer[6:])
-        elif answer.startswith("stale "):
-            self.stale_row = answer[6:]
-            self.notice = say("stale", row=self.stale_row)
-        elif answer == "not written":
+        if isinstance(answer, Stale) and not self.ended():
+            self.notice = say("empty draft", row=answer.row)
+        elif isinstance(answer, Stale):
+            self.stale_row = answer.row
+            self.notice = say("stale", row=answer.row)
+        elif answer is Said.NOT_WRITTEN:
             self.fail()
             self.read_again()
             # where the edits of the draft are: in the log, if that can be written
@@ -188,7 +192,7 @@ class Planning(Reading):
             self.forget()
             self.notice = say("last given up", count=count)
         else:
-            self.turn("abandon")
+            self.turn(Turn.ABANDON)
             self.notice = say("given up", count=count)
 
     def forget(self) -> None:
@@ -207,30 +211,29 @@ class Planning(Reading):
             # a draft that was given up, or had no edits left, is not made again
             self.notice = say("nothing to redo")
             return []
-        answer = self.turn("redo")
-        redone = Redone.read(answer)
-        if redone is None:
-            if answer == "nothing to redo":
+        answer = self.turn(Turn.REDO)
+        if not isinstance(answer, Redone):
+            if answer is Said.NOTHING_TO_REDO:
                 # the draft has ended otherwise, as when the disk is full; the log has its edits
                 return self.make_again(ended)
             self.notice = answer_notice(answer)
             return []
         self._stand_anew()
-        self.notice = say("made again", made=redone.made, count=redone.of)
+        self.notice = say("made again", made=answer.made, count=answer.of)
         return self.left_out()
 
     def left_out(self) -> list[Notice]:
         """The edits that could not be made again when the draft was opened, with the reason."""
         return [
             self._left_out(number, edit, reason(self.instance, edit, fault))
-            for number, edit, fault in self.seat.story.left_out
+            for number, edit, fault in self.state.left_out
         ]
 
     @staticmethod
-    def _left_out(number: int, edit: str, why: Notice) -> Notice:
+    def _left_out(number: int, edit: Edit, why: Notice) -> Notice:
         return say("left out", number=number, shifts=shifts_of(edit), reason=why)
 
-    def make_again(self, edits: list[str]) -> list[Notice]:
+    def make_again(self, edits: Sequence[Edit]) -> list[Notice]:
         """Makes edits again in a draft, and answers those that were refused, with the reason."""
         if not self.is_open:
             self._open_new()
@@ -242,15 +245,15 @@ class Planning(Reading):
         self.notice = say("made again", made=made, count=len(edits))
         return refused
 
-    def type_line(self, line: str) -> str:
-        """Sends a line that was typed by hand, and answers what the desk says. An edit opens a
+    def type_line(self, line: str) -> None:
+        """Sends a line that was typed by hand, and says what the desk answers. An edit opens a
         draft, as it does by a key."""
-        if is_edit(line) and not self.open():
-            return ""
-        answer = self.turn(line)
-        if self.is_open and words_of(line)[0] in ("open", "redo", "refresh"):
+        call = read_call(line)
+        if isinstance(call, Edit) and not self.open():
+            return
+        answer = self.turn(call if isinstance(call, (Edit, Turn)) else line)
+        if self.is_open and call in (Turn.OPEN, Turn.REDO, Turn.REFRESH):
             self._stand_anew()
-        if answer.startswith("stale ") and self.ended():
-            self.stale_row = answer[6:]
-        self.notice = say("typed", line=line, answer=answer)
-        return answer
+        if isinstance(answer, Stale) and self.ended():
+            self.stale_row = answer.row
+        self.notice = say("typed", line=line, answer=str(answer))

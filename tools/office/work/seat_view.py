@@ -5,21 +5,22 @@ import contextlib
 import copy
 import os
 import time
-from typing import Optional
+from typing import Optional, Union
 
-from office.day.costs import read_costs
-from office.day.desk_words import words_of
-from office.day.edits import WANTS
+from office.day.edits import Edit
 from office.day.instance import Instance
+from office.day.lecture import Lecture
 from office.day.minutes import Entry
 from office.day.parts import DayMinutes, RuleChange, instance_of
 from office.day.processes import now
 from office.day.safe_files import open_or_make
 from office.day.shifts import Shift, all_shifts, shifts_of
-from office.day.timetable import Lecture, Timetable, read_lectures
+from office.day.timetable import Timetable
+from office.seat.answers import WANTING, Answer, Row, Status, costs_in, lectures_in, missing_in
+from office.seat.calls import Look, Turn
 from office.seat.courtesies import Courtesies
-from office.seat.known import Known
 from office.seat.seat import Seat
+from office.seat.timetables import Timetables
 from office.words.notice import NOTHING, Notice, say
 from office.work.looks_on_disk import look_on_disk
 from office.work.news import Accepted, News
@@ -41,25 +42,27 @@ class Reading:
         # with the rules of the part of the day that is read
         self.instance = copy.copy(instance or instance_of(seat.day))
         self.minutes = DayMinutes(seat.day)
-        self.known = Known(self.instance, self.minutes.part.lectures())
+        self.known = Timetables(self.instance, self.minutes.part.lectures())
+        self.state = seat.state
+        self.state.timetables = self.known
         # how the parts of the day but the first one have come about, as far as they are read, and
         # of how many of these the planner was told
         self.changes: list[RuleChange] = []
-        self.told = 0
+        self.shown_changes = 0
         self.news = News(seat.day)
         self.courtesies = Courtesies(seat)
         self.notice: Notice = NOTHING
         # said beside the notice, where the desk has answered otherwise than expected
         self.alarm: Notice = NOTHING
         # answers to looks, until something changes
-        self._cache: dict[str, str] = {}
+        self._cache: dict[str, Answer] = {}
         # how many drafts were accepted before the draft was opened, and what the timetable cost
         # then
         self.opened_at = 0
         self.base_total: Optional[int] = None
         self.base_costs: dict[str, int] = {}
         # how many were accepted when the planner sat down, or when his last draft ended
-        self.met_at = 0
+        self.seen_at = 0
         self.has_begun = False
         # whether the minutes have led to the timetable that is known, and whether they can still be
         # written
@@ -67,47 +70,47 @@ class Reading:
         self.is_failing = False
         # the row for which a commit was or, by the last status, would be told that the draft is
         # stale
-        self.stale_row = ""
-        self.foretold = ""
+        self.stale_row: Optional[Row] = None
+        self.stale_preview: Optional[Row] = None
 
     @property
     def is_open(self) -> bool:
-        return self.known.draft is not None
+        return self.state.is_open and self.known.draft is not None
 
-    def edits(self) -> list[str]:
+    def edits(self) -> list[Edit]:
         """The edits of the draft, without those that were taken back."""
-        return [edit for edit, _ in self.known.standing]
+        return self.state.edits
 
     def shifts(self) -> list[list[Shift]]:
         """What each edit of the draft did."""
         return all_shifts(self.edits(), self.known.base) if self.known.base else []
 
-    def ended(self) -> list[str]:
+    def ended(self) -> list[Edit]:
         """The edits of the last draft, if it ended without being accepted and was not given up."""
-        return self.seat.story.ended
+        return self.state.ended
 
-    def behind(self) -> int:
+    def accepted_count(self) -> int:
         """How many drafts were accepted since the draft was opened."""
         return len(self.minutes.entries) - self.opened_at
 
     def accepted_since(self) -> list[Accepted]:
         """What others have had accepted since the draft was opened; without a draft, since the
         planner sat down or his last draft ended."""
-        since = self.opened_at if self.is_open else self.met_at
+        since = self.opened_at if self.is_open else self.seen_at
         mine = self.seat.planner
         return [one for one in self.news.accepted[since:] if one.entry.planner != mine]
 
-    def look(self, words: str) -> str:
+    def look(self, words: str) -> Answer:
         """What a look is told: of the draft if one is open, without becoming part of it; else of
         the newest timetable."""
         line = f"{'peek' if self.is_open else 'show'} {words}"
         if line not in self._cache:
-            answer = "" if self.is_failing and not self.is_open else self.ask(line)
-            # an answer may be by what it is known that the minutes fail
-            is_of_disk = self.is_failing and not self.is_open
-            if is_of_disk:
-                answer = look_on_disk(self.seat.day, self.known.newest, words)
-            if answer in WANTS:
+            answer = None if self.is_failing and not self.is_open else self.ask(line)
+            # the answer itself may reveal that the minutes have failed
+            if answer is None or (self.is_failing and not self.is_open):
+                look = Look(tuple(words.split(" ")))
+                answer = look_on_disk(self.seat.day, self.known.newest, look)
+            if answer in WANTING:
                 # it may be answered when it is asked again
                 return answer
             self._cache[line] = answer
@@ -115,73 +118,69 @@ class Reading:
 
     def lectures(self, words: str) -> list[Lecture]:
         """The lectures that a look is told."""
-        return read_lectures(self.look(words)) or []
+        return lectures_in(self.look(words))
 
     def costs(self) -> dict[str, int]:
-        return read_costs(self.look("cost"))
+        return costs_in(self.look("cost"))
 
     def missing(self) -> dict[str, int]:
         """The courses of which lectures are not placed, and how many."""
-        words = words_of(self.look("missing"))[2:]
-        return {course: int(count) for course, count in zip(words[0::2], words[1::2])}
+        return missing_in(self.look("missing"))
 
     def begin(self) -> None:
         """Hears what was under way, and takes up a draft that is open."""
         self.seat.catch_up()
-        answer = self.ask_again("status")
+        answer = self.ask_again(Turn.STATUS)
         self.is_failing = os.path.exists(self.seat.day.failing)
         read_parts(self)
         self.read_newest()
         self.has_begun = True
-        self.told = len(self.changes)
-        self._meet()
+        self.shown_changes = len(self.changes)
+        self._mark_seen()
         self.courtesies.begin()
-        if answer.startswith("draft "):
+        if isinstance(answer, Status):
             self._resume()
-        else:
-            self.known.ended = list(self.seat.story.ended_made)
         self.courtesies.keep_own(self.is_open, self.shifts())
 
     def begin_part(self) -> None:
         """Hears the desk of another part, at which no draft is open."""
         self._cache.clear()
         self.is_sound, self.is_failing = True, os.path.exists(self.seat.day.failing)
-        self.stale_row = self.foretold = ""
+        self.stale_row = self.stale_preview = None
         self.base_total, self.base_costs = None, {}
         self.seat.catch_up()
 
-    def _meet(self) -> None:
+    def _mark_seen(self) -> None:
         """What others have done until now is not new any more."""
-        self.known.meet()
-        self.met_at = len(self.minutes.entries)
+        self.known.mark_seen()
+        self.seen_at = len(self.minutes.entries)
 
     def take_up_draft(self) -> None:
         """Takes up the open draft: its base is what the drafts before it have left, and on that
         stand the edits of the log."""
-        made, known = self.seat.story.made, self.known
+        made, known = self.state.made, self.known
         for wait in WAITS:
             time.sleep(wait)
             self.read_status()
             draft = self.read_all("peek")
-            if made and self._find_base(made, draft):
+            if made and self._find_base(draft):
                 return
             if not made:
-                known.base = draft.copy()
-                known.make_all(made)
+                self.state.stand_on(draft.copy())
                 # if it is the newest timetable, the minutes may have that a moment later
-                if self.behind() or draft.same_as(known.newest) or not self.minutes.is_readable():
+                is_newest = draft.same_as(known.newest)
+                if self.accepted_count() or is_newest or not self.minutes.is_readable():
                     return
         known.draft = draft
         self.alarm = say("differs") if made else self.alarm
 
-    def _find_base(self, made: list[str], draft: Timetable) -> bool:
+    def _find_base(self, draft: Timetable) -> bool:
         """Finds the base on which the edits lead to the draft. Drafts that were accepted just now
         may not have been in the minutes when the desk counted them."""
         self.read_minutes()
         last = min(len(self.minutes.entries), self.opened_at + FEW)
         for count in range(max(self.minutes.offset, self.opened_at), last + 1):
-            self.known.base = self.news.after(count, self.known.newest)
-            is_made = self.known.make_all(made)
+            is_made = self.state.stand_on(self.news.after(count, self.known.newest))
             if is_made and self.known.draft is not None and self.known.draft.same_as(draft):
                 self.opened_at = count
                 return True
@@ -193,20 +192,18 @@ class Reading:
         self.base_total = self.seat.past.base
         self.notice = say("as you left it", count=len(self.edits()))
 
-    def ask(self, line: str) -> str:
-        """Sends a line and takes up its answer. If it is not as expected, everything is read
-        anew."""
-        answer = self.seat.ask(line)
-        expected = self.known.hear(line, answer)
-        is_show = line.startswith("show ")
+    def ask(self, call: Union[Edit, Turn, str]) -> Answer:
+        """Says something to the desk, and takes up its answer. If it is not as expected, everything
+        is read again."""
+        answer, expected = self.seat.ask(call), self.seat.fits
+        is_show = isinstance(call, str) and call.startswith("show ")
         until = time.monotonic() + LATE
         while is_show and not expected and self.wait_for_minutes(until):
             # in time, however many are accepted meanwhile
             is_show = time.monotonic() < until
             # somebody was accepted in between
-            answer = self.seat.ask(line)
-            expected = self.known.hear(line, answer)
-        if line in ("redo", "refresh") and not expected and self.wait_for_minutes(until):
+            answer, expected = self.seat.ask(call), self.seat.fits
+        if call in (Turn.REDO, Turn.REFRESH) and not expected and self.wait_for_minutes(until):
             self.take_up_draft()
             expected = True
         if not expected and not (is_show and self.is_failing):
@@ -222,31 +219,31 @@ class Reading:
             time.sleep(0.01)
         return True
 
-    def turn(self, line: str) -> str:
-        """A line that changes something: what was told before does not hold any more."""
+    def turn(self, call: Union[Edit, Turn, str]) -> Answer:
+        """Says something that changes something: earlier answers do not hold any more."""
         was_open = self.is_open
-        answer = self.ask(line)
+        answer = self.ask(call)
         self._cache.clear()
         self.read_minutes()
         if was_open and not self.is_open:
-            self._meet()
+            self._mark_seen()
         self.courtesies.keep_own(self.is_open, self.shifts())
         return answer
 
-    def ask_again(self, line: str) -> str:
-        """Sends a line that changes nothing, again if the desk has no memory for it now."""
-        answer = self.seat.ask(line)
+    def ask_again(self, call: Union[Turn, str]) -> Answer:
+        """Says something that changes nothing, again if the desk has no memory for it now."""
+        answer = self.seat.ask(call)
         for _ in range(3):
-            if answer not in WANTS:
+            if answer not in WANTING:
                 break
-            answer = self.seat.ask(line)
+            answer = self.seat.ask(call)
         return answer
 
     def read_all(self, look: str) -> Timetable:
         """Reads a whole timetable, slot by slot, by `peek` or by `show`."""
         found: list[Lecture] = []
         for day, period in self.instance.slots():
-            found += read_lectures(self.ask_again(f"{look} slot {day} {period}")) or []
+            found += lectures_in(self.ask_again(f"{look} slot {day} {period}"))
         return Timetable(self.instance, found)
 
     def read_newest(self) -> None:
@@ -256,11 +253,11 @@ class Reading:
         until = time.monotonic() + LATE
         while not self.is_failing:
             self.read_minutes()
-            told = self.read_all("show")
-            if told.same_as(self.known.newest):
+            newest = self.read_all("show")
+            if newest.same_as(self.known.newest):
                 return
             if not self.is_sound or not self.minutes.is_readable():
-                self.known.newest = told
+                self.known.newest = newest
                 return
             if time.monotonic() > until:
                 self.is_failing = True
@@ -285,11 +282,11 @@ class Reading:
     def read_again(self) -> None:
         self._cache.clear()
         self.read_newest()
-        if self.ask_again("status").startswith("draft "):
+        if isinstance(self.ask_again(Turn.STATUS), Status):
             self.take_up_draft()
         else:
-            self.known.draft = self.known.base = None
-            self.known.made, self.known.standing = [], []
+            self.known.end()
+        self.courtesies.keep_own(self.is_open, self.shifts())
 
     def tick(self) -> bool:
         """Looks whether others were accepted, and what a commit would be told by now; answers
@@ -324,21 +321,21 @@ class Reading:
     def read_status(self) -> None:
         """Reads how many drafts were accepted since the draft was opened."""
         self.read_minutes()
-        words = words_of(self.ask_again("status"))
-        if words[:1] == ["draft"]:
-            self.opened_at = len(self.minutes.entries) - int(words[2])
-            self.foretold = " ".join(words[4:])
+        answer = self.ask_again(Turn.STATUS)
+        if isinstance(answer, Status):
+            self.opened_at = len(self.minutes.entries) - answer.since
+            self.stale_preview = answer.stale
 
     def _accept(self, entry: Entry) -> bool:
         """Takes up an accepted draft, and answers whether it fits what is known."""
         shifts: list[list[Shift]] = []
         fits = True
-        for edit in entry.edits():
+        for edit in entry.edits:
             shifts.append(shifts_of(edit, self.known.newest))
             fits = self.known.accept([edit]) and fits
-        self.news.hear(entry, shifts, now() if self.has_begun else "")
+        self.news.add(entry, shifts, now() if self.has_begun else "")
         return fits
 
-    def changes_of(self, row: str) -> list[Accepted]:
+    def changes_of(self, row: Row) -> list[Accepted]:
         """The accepted drafts that changed a row since the draft was opened."""
         return [one for one in self.news.accepted[self.opened_at :] if one.changes(row)]

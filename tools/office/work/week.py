@@ -6,9 +6,11 @@ from typing import Iterable, NamedTuple
 
 from office.day.closure import Closure
 from office.day.instance import Instance
+from office.day.lecture import Lecture, Slot
 from office.day.open_drafts import AtWork
 from office.day.pins import Pin
-from office.day.timetable import Lecture, Slot, Timetable
+from office.day.rules import alone_points, students_without_seat
+from office.day.timetable import Timetable
 from office.work.planning import Planning
 
 VIEW_KINDS = ("curriculum", "teacher", "room", "course")
@@ -91,7 +93,7 @@ def of_view(timetable: Timetable, view: View) -> list[Lecture]:
     """The lectures of a view in a timetable that is known."""
     if view.kind == "room":
         return timetable.of_room(view.name)
-    return timetable.look(view.words()) or []
+    return timetable.look(view) or []
 
 
 def lectures_of_view(planning: Planning, view: View) -> list[Lecture]:
@@ -108,23 +110,11 @@ def by_slot(lectures: list[Lecture]) -> dict[Slot, list[Lecture]]:
     return found
 
 
-def alone_points(timetable: Timetable, curricula: list[str], slot: Slot) -> int:
-    """Two points for each of these curricula of which nothing stands beside a slot on its day."""
-    instance, (day, period) = timetable.instance, slot
-    beside = [(day, period - 1), (day, period + 1)]
-    count = 0
-    for curriculum in curricula:
-        rows = [timetable.by_course[member] for member in instance.curricula[curriculum]]
-        count += not any(near in row for row in rows for near in beside)
-    return 2 * count
-
-
 def signs_of(planning: Planning, view: View, lecture: Lecture) -> Signs:
     instance = planning.instance
-    short = instance.courses[lecture.course].students - instance.rooms[lecture.room]
     curricula = [view.name] if view.kind == "curriculum" else instance.curricula_of[lecture.course]
     alone = alone_points(planning.known.present(), curricula, lecture.slot)
-    return Signs(max(0, short), alone)
+    return Signs(students_without_seat(instance, lecture), alone)
 
 
 def blocked_at(instance: Instance, view: View, slot: Slot) -> list[Closure]:

@@ -42,12 +42,12 @@ class PrintedWeek(NamedTuple):
 def page_of(planning: Planning, view: View) -> PrintedWeek:
     """A week as a planner sees it, as a page that needs nothing else."""
     at = seen(planning)
-    told = shown(at.title())
+    foot = shown(at.title())
     if planning.edits():
-        told += f", with {counted(len(planning.edits()), 'edit')} of a draft"
+        foot += f", with {counted(len(planning.edits()), 'edit')} of a draft"
     week = OneWeek(at, read_labels(at.day.path), view)
     name = f"{at.day.name}-{view.kind}-{file_name(view.name)}.html"
-    return PrintedWeek(name, week_page(week, False, foot=told))
+    return PrintedWeek(name, week_page(week, False, foot=foot))
 
 
 def print_week(planning: Planning, view: View) -> Notice:

@@ -9,9 +9,11 @@ from __future__ import annotations
 import time
 from typing import Optional
 
-from office.day.timetable import Lecture, Slot
+from office.day.edits import Edit, Kind
+from office.day.lecture import Lecture, Slot
 from office.past.subjects import Subject
 from office.past.variants import Variants
+from office.seat.answers import Offer
 from office.words.closure_notices import closure_notice
 from office.words.notice import NOTHING, Notice, Question, say
 from office.work.carry import MOVE, PLACE, SWAP, Carry
@@ -19,7 +21,6 @@ from office.work.closures_here import Blocking
 from office.work.drafting import BLANK, Drafting, edit_notices
 from office.work.drafts_here import History
 from office.work.findings import Findings
-from office.work.offers import Offer
 from office.work.others import Knowing
 from office.work.part_stepping import Stepped, make_again, question_of, step_over, stepped_notice
 from office.work.planning import Planning
@@ -147,13 +148,13 @@ class Work:
                 code = "moved here" if is_here else "moved away"
                 if is_here and shift.was is not None and shift.was.slot == slot:
                     code = "new room here"
-                told = news.told(accepted)
-                because = say("because", why=told.why) if told.why else NOTHING
+                facts = news.facts(accepted)
+                because = say("because", why=facts.why) if facts.why else NOTHING
                 return say(
                     code,
                     who=news.who(accepted),
                     course=shift.course,
-                    time=told.time,
+                    time=facts.time,
                     because=because,
                 )
         return self._set_aside_here(slot)
@@ -188,7 +189,7 @@ class Work:
 
     # a lecture that is picked up
 
-    def pick_up(self, lecture: Optional[Lecture], kind: str = MOVE) -> Optional[Question]:
+    def pick_up(self, lecture: Optional[Lecture], kind: Kind = MOVE) -> Optional[Question]:
         """Picks up a lecture that was seen, to be moved or swapped."""
         if lecture is None:
             self.notice = say("no lecture")
@@ -208,14 +209,14 @@ class Work:
         if self.carry and self.carry.lecture:
             self._carry(SWAP, self.carry.course, self.carry.lecture)
 
-    def _carry(self, kind: str, course: str, lecture: Optional[Lecture]) -> None:
+    def _carry(self, kind: Kind, course: str, lecture: Optional[Lecture]) -> None:
         if self.planning.is_failing and not self.planning.is_open:
             self.notice = say("minutes fail")
             return
         self.carry = Carry(self.planning, kind, course, lecture)
         if lecture is not None:
             self.carry.begin_at(lecture.slot)
-        self.notice = self.carry.best_told()
+        self.notice = self.carry.best_notice()
 
     def renew(self) -> bool:
         """Asks anew what is offered, if others have changed the timetable that is shown; answers
@@ -249,9 +250,9 @@ class Work:
             if fresh is None:
                 self.notice = say("cannot stand", reason=carry.reason(slot))
             else:
-                self.notice = say("other price", now=carry.offer_told(fresh))
+                self.notice = say("other price", now=carry.offer_notice(fresh))
             return None
-        if carry.kind == SWAP and not is_asked:
+        if carry.kind is SWAP and not is_asked:
             partner = Lecture(offer.about, "", *slot)
             return self.knowing.ask_pinned(partner, lambda: self.put_down(slot, offer, True))
         self.carry = None
@@ -276,7 +277,7 @@ class Work:
         return None
 
     def _drop(self, lecture: Lecture) -> None:
-        self.planning.edit(f"drop {lecture.course} {lecture.day} {lecture.period}")
+        self.planning.edit(Edit.drop(lecture.course, lecture.slot))
 
     def stood(self, course: str) -> list[Lecture]:
         """Where lectures of a course stood that were set aside and are missing still: at most as

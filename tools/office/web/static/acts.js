@@ -168,7 +168,7 @@ class Acts {
       weeks: () => this.nextWeek(lecture),
       print: () => this.print(),
       line: () => this.typeLine(),
-      help: () => help(this.app.day.keys, this.queued),
+      help: () => help(this.app.day, this.queued),
       next: () => this.rooms(slot, lecture),
       "lay down": () => this.layDown(),
     }[name];

@@ -217,7 +217,7 @@ export function ask(question, acts) {
     title,
     [
       costs ? el("div", { cls: "two" }, shown, costTable(costs)) : shown,
-      el("p", { id: "foretold", cls: "warn", hidden: true }),
+      el("p", { id: "stale-preview", cls: "warn", hidden: true }),
       choices.length ? choiceList(choices, choose) : null,
       ...(why ? field("why", why.label, { maxlength: "200", autofocus: true }, first) : []),
       buttons(canWait ? backButton : null, made.reverse()),
@@ -231,8 +231,8 @@ export function ask(question, acts) {
 }
 
 // what has become of the draft while its box is in front
-export function foretell(text) {
-  const line = document.getElementById("foretold");
+export function previewStale(text) {
+  const line = document.getElementById("stale-preview");
   if (!line) return;
   line.hidden = !text;
   line.replaceChildren(name(text));

@@ -2,8 +2,8 @@
 import { backTo, buttons, close, open } from "./boxes.js";
 import { button, el, key } from "./dom.js";
 
-// each key in a sentence, which does the same if it is pressed here; and the signs
-export function help(keys, act) {
+// each key in a sentence, which does the same if it is pressed here; the signs, and the costs
+export function help({ keys, parts, meanings }, act) {
   const keyList = keys.filter((one) => one.help);
   const term = (one, text) => [el("dt", {}, one), el("dd", {}, text)];
   const sign = (cls, text) => el("span", { cls: `${cls} static` }, text);
@@ -32,6 +32,12 @@ export function help(keys, act) {
         term(sign("pencil", "✎"), "changed in your draft"),
         term(sign("who", "name"), "changed by somebody else since"),
         term(sign("delta good", "−22"), "saves 22 points")
+      ),
+      el("h3", {}, "Costs, in points"),
+      el(
+        "dl",
+        { cls: "keys" },
+        parts.map((part) => term(part, meanings[part]))
       ),
       buttons(button("back", "Back", close, { cls: "primary", autofocus: true })),
     ],

@@ -49,7 +49,7 @@ function chosenParts({ about, picture }, week, acts) {
     ),
     el("div", { cls: "weeks" }, el("span", { cls: "label" }, "Week of"), weeks),
     // at the end, so that no button moves when others do something
-    about.told.map(line),
+    about.notices.map(line),
   ];
 }
 

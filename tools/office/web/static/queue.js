@@ -6,7 +6,7 @@ import { toast } from "./toasts.js";
 
 function failed(fault) {
   console.error(fault);
-  toast("bad", "This page has failed at what was asked last; load it anew if it goes on so.");
+  toast("bad", "Something went wrong with your last action. Reload the page if it happens again.");
 }
 
 export function makeQueue(app) {

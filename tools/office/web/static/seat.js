@@ -101,7 +101,7 @@ function take(found) {
     drawWeek();
     drawState();
     look.choose();
-    boxes.foretell(app.picture.state.draft?.foretold || "");
+    boxes.previewStale(app.picture.state.draft?.stale_preview || "");
   }
   if (found.question !== undefined) {
     app.question = found.question;

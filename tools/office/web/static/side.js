@@ -20,7 +20,7 @@ export function drawCosts({ picture, day }) {
   const parts = day.parts.map((part) =>
     el(
       "div",
-      { cls: "part" },
+      { cls: "part", title: day.meanings[part] },
       el("span", { cls: "label" }, part),
       el("span", { cls: "value" }, number(costs[part] ?? 0)),
       base ? delta((costs[part] ?? 0) - base[part]) : null
@@ -48,9 +48,9 @@ function draftSaid(draft, ended) {
   if (ended.length) return pill("draft not accepted", "bad");
   if (!draft) return pill("no draft open");
   return [
-    draft.foretold ? pill("stale by now", "bad") : null,
+    draft.stale_preview ? pill("stale by now", "bad") : null,
     pill(`your draft: ${counted(draft.edits.length, "edit")}`, "open"),
-    draft.behind ? pill(`${draft.behind} accepted since`) : null,
+    draft.since ? pill(`${draft.since} accepted since`) : null,
   ];
 }
 
@@ -113,7 +113,7 @@ export function drawDraft({ picture }, acts) {
     const hint = "The first edit opens a draft. Others see it when you commit it.";
     return refill(box, title("Your draft"), el("p", { cls: "hint" }, hint));
   }
-  const { edits, left_out: left, foretold } = draft;
+  const { edits, left_out: left, stale_preview: stale } = draft;
   const undo = act("undo", "Undo", { cls: "link", title: "U" });
   const last = edits.length - 1;
   refill(
@@ -129,7 +129,7 @@ export function drawDraft({ picture }, acts) {
       act("abandon", ["Give up… ", key("A")])
     ),
     // always there, so that what is below stays where it is when others commit
-    el("p", { cls: foretold ? "stands warn" : "stands" }, name(foretold || STANDS))
+    el("p", { cls: stale ? "stands warn" : "stands" }, name(stale || STANDS))
   );
 }
 
