@@ -184,7 +184,7 @@ class Signals(OfficeTest):
                 self.assertEqual(office.stdout.read(), "journal 0\ncosts 0 20 0 0\n")
                 self.assertFalse(is_alive(desk))
                 self.assertEqual(
-                    self.left_in(day), ["day.json", "instance.ctt", "minutes", "names", "office"]
+                    self.left_in(day), ["day.json", "instance.ctt", "minutes", "names", "office", "spare"]
                 )
 
     def test_twice_while_somebody_sits(self):

@@ -17,6 +17,7 @@ from office.day.parts import Part, half_made, parts_of
 from office.day.pipes import remove_pipes
 from office.day.program import Left
 from office.day.safe_files import read_whole, write_whole
+from office.day.spare import free_room
 from office.refused import CONTENT, Refused
 from office.words.text import counted
 
@@ -38,13 +39,16 @@ def close_day(day: Day, seconds: float) -> int:
     for folder in half_made(day):
         # a change of rules was broken off: those before hold to the end
         shutil.rmtree(folder, ignore_errors=True)
+    free_room(day)
     return write_end(day)
 
 
 def end_office(day: Day, seconds: float) -> None:
     """Lets the office end, or the desk that a killed office left, and waits for it."""
     until = time.time() + max(0.0, seconds)
-    write_whole(day.closing, f"{until}\n".encode())
+    with contextlib.suppress(Refused):
+        # on a disk that is full they go without a warning
+        write_whole(day.closing, f"{until}\n".encode())
     numbers = day.numbers()
     for number in numbers[:1]:
         send(number, signal.SIGTERM)

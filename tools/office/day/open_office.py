@@ -109,7 +109,8 @@ class Running:
         until = self.day.closes_at()
         if until is None:
             until = time.time() + GRACE
-            write_whole(self.day.closing, f"{until}\n".encode())
+            with contextlib.suppress(Refused):
+                write_whole(self.day.closing, f"{until}\n".encode())
         self.let_end(desk, until - time.time() + 1)
 
     def let_end(self, desk: subprocess.Popen[bytes], seconds: float) -> None:

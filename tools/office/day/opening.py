@@ -28,6 +28,7 @@ from office.day.pins import pins_path
 from office.day.processes import Signals, Stopped
 from office.day.program import build_words, program_words, run_on_files
 from office.day.safe_files import lock, must_be_own, open_or_make, sync, write_whole
+from office.day.spare import keep_room, spare_path
 from office.refused import Refused, Silent, sentence
 from office.seat.seat import user_name
 from office.words.announce import announce
@@ -173,6 +174,7 @@ class Opening:
         write_whole(day.names, encoded(names + "\n"))
         os.close(open_or_make(self.part.minutes, os.O_WRONLY, 0o640))
         self.write_facts()
+        keep_room(day)
 
     def write_facts(self) -> None:
         plan = self.plan
@@ -263,6 +265,7 @@ class Opening:
             part.file("known.sol"),
             closures_path(day),
             pins_path(day),
+            spare_path(day),
             *map(day.file, FILES),
         ]
         for path in [*made, day.office]:
