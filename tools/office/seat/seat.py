@@ -21,6 +21,7 @@ from office.refused import Refused
 from office.seat.answers import Answer, read_answer
 from office.seat.calls import Turn, read_call
 from office.seat.seat_log import SeatLog, read_past, settle
+from office.seat.waits import LAST, PATIENCE, SAID_AFTER, is_ready, wait_for_desk
 from office.words.text import shown
 
 
@@ -38,13 +39,6 @@ class NoAnswer(Exception):
 
 DEAD_DESK = "the desk has ended; committed drafts are on the disk"
 DEAD = f"{DEAD_DESK}, and open edits are offered again after the next opening"
-# a desk that says nothing for so many seconds is not waited for; after the first ones it is said
-# how long it has been
-PATIENCE = 30.0
-SAID_AFTER = 1.0
-# how many seconds the last answers of a desk that ends are waited for, and how long it takes to
-# look again whether the next one is there
-LAST, AGAIN = 10.0, 0.05
 # no pipe
 CLOSED = -1
 
@@ -72,24 +66,6 @@ def user_name() -> str:
         return "somebody"
 
 
-def wait_for_desk(day: Day, waits: Callable[[float], None]) -> None:
-    """Waits as long as the office changes the rules, and tells `waits` how long it has been."""
-    begun = time.monotonic()
-    while day.is_changing():
-        time.sleep(AGAIN)
-        waited = time.monotonic() - begun
-        if waited >= SAID_AFTER:
-            waits(waited)
-
-
-def is_ready(end: int, sign: int, seconds: float) -> bool:
-    """Whether a pipe can be read or written within so many seconds. Unlike `select` it takes any
-    number of a descriptor, so that one process may sit at many seats."""
-    poll = select.poll()
-    poll.register(end, sign)
-    return bool(poll.poll(max(0.0, seconds) * 1000))
-
-
 class Seat:
     """A seat at which somebody sits."""
 
@@ -109,7 +85,7 @@ class Seat:
         # what is closed when the planner goes away, or cannot sit down
         self._left = contextlib.ExitStack()
         self._left.callback(self._close_ends)
-        self._received = b""
+        self._received = bytearray()
         # whether the last answer was as it had to be, by what was known
         self.fits = True
         # the drafts that were accepted, and the lines that were sent, of which no answer came
@@ -224,7 +200,7 @@ class Seat:
             wait_for_desk(self.day, self.waits)
             if not self.day.is_ready():
                 raise DeskEnded
-            self.part, self._received = last_part(self.day), b""
+            self.part, self._received = last_part(self.day), bytearray()
             try:
                 self._lines, self.answers = self._open_pipes()
                 break
@@ -270,21 +246,26 @@ class Seat:
         self._write(encoded(line) + b"\n")
 
     def _write(self, rest: bytes) -> None:
+        """Sends bytes. A desk whose answers nobody has read takes no line: they are taken in."""
+        ends = (self._lines, select.POLLOUT), (self.answers, select.POLLIN)
         try:
             while rest:
-                if not self._wait(self._lines, select.POLLOUT, PATIENCE):
+                if not self._wait(PATIENCE, *ends):
                     raise NoAnswer
-                with contextlib.suppress(BlockingIOError):
-                    rest = rest[os.write(self._lines, rest) :]
+                if is_ready(0, ends[0]):
+                    with contextlib.suppress(BlockingIOError):
+                        rest = rest[os.write(self._lines, rest) :]
+                else:
+                    self._take_in()
         except BrokenPipeError:
             raise DeskEnded from None
 
-    def _wait(self, end: int, sign: int, seconds: float) -> bool:
-        """Waits for a pipe, and tells `waits` how long it has been."""
+    def _wait(self, seconds: float, *ends: tuple[int, int]) -> bool:
+        """Waits for one of some pipes, and tells `waits` how long it has been."""
         begun = time.monotonic()
         while True:
             waited = time.monotonic() - begun
-            if is_ready(end, sign, min(SAID_AFTER / 4, seconds - waited)):
+            if is_ready(min(SAID_AFTER / 4, seconds - waited), *ends):
                 return True
             waited = time.monotonic() - begun
             if waited >= seconds:
@@ -294,20 +275,26 @@ class Seat:
 
     def has_more(self) -> bool:
         """Whether the desk has said something that was not read; its end counts, too."""
-        return is_ready(self.answers, select.POLLIN, 0)
+        return is_ready(0, (self.answers, select.POLLIN))
+
+    def _take_in(self) -> None:
+        """Takes in what the desk has said by now."""
+        with contextlib.suppress(BlockingIOError):
+            more = os.read(self.answers, 65536)
+            if not more:
+                raise DeskEnded
+            self._received += more
 
     def read(self, seconds: float) -> Optional[str]:
         """The next line of the desk, as it came; None if none has come in so many seconds."""
         until = time.monotonic() + seconds
         while b"\n" not in self._received:
-            if not self._wait(self.answers, select.POLLIN, until - time.monotonic()):
+            if not self._wait(until - time.monotonic(), (self.answers, select.POLLIN)):
                 return None
-            with contextlib.suppress(BlockingIOError):
-                more = os.read(self.answers, 65536)
-                if not more:
-                    raise DeskEnded
-                self._received += more
-        line, self._received = self._received.split(b"\n", 1)
+            self._take_in()
+        at = self._received.index(b"\n")
+        line = bytes(self._received[:at])
+        del self._received[: at + 1]
         return decoded(line)
 
     def take(self, text: str) -> Answer:

@@ -29,6 +29,7 @@ from office.seat.answers import (
     PricesAre,
     Redone,
     Said,
+    SlotsAre,
     Stale,
     Undone,
     read_answer,
@@ -43,7 +44,7 @@ CUT = "\x18"
 CLOSED = -1
 # answers to looks can be long, and are not what a draft is made of: so much of them is in the log
 LONGEST_LOOK = 200
-LONG = (LecturesAre, PricesAre, MissingAre)
+LONG = (LecturesAre, PricesAre, MissingAre, SlotsAre)
 COMMITTED = re.compile(r"committed [0-9]{1,9}\Z")
 # answers after which a planner has lost something if they are not on the disk
 KEPT = (Undone, Committed, Redone, Stale)
