@@ -16,6 +16,7 @@ from office.day.parts import Part
 from office.day.processes import Signals
 from office.day.safe_files import write_whole
 from office.refused import MACHINE, Refused, Silent
+from office.words.text import shown_lines
 
 # the folder that has `timedesk` and `office`
 HERE = os.path.abspath(os.path.join(os.path.dirname(__file__), "../../.."))
@@ -43,7 +44,7 @@ def build_words(program: list[str]) -> list[str]:
 def tell(said: bytes, names: Mapping[str, str] = NO_NAMES) -> None:
     """Says what the program has said: why a file is refused, by its place in it."""
     with contextlib.suppress(OSError):
-        sys.stderr.write(explained(decoded(said), names))
+        sys.stderr.write(shown_lines(explained(decoded(said), names)))
         sys.stderr.flush()
 
 

@@ -49,19 +49,19 @@ def draft_of(past: SeatPast, is_open: bool) -> str:
 def of_whom(past: SeatPast) -> str:
     """Whose draft it is, if it is not that of who sat there last alone."""
     drafters = list(dict.fromkeys(past.drafters))
-    return "" if drafters in ([], [past.name]) else f" of {' and '.join(drafters)}"
+    return "" if drafters in ([], [past.name]) else f" of {' and '.join(map(shown, drafters))}"
 
 
 def seat_line(day: Day, planner: int, past: Optional[SeatPast], accepted: int) -> list[str]:
     """What is known of a seat, column by column."""
     name, since = read_sitter(day, planner)
     sits = is_taken(day, planner)
-    who, when = (name or "somebody", since[11:16]) if sits else ("nobody", "")
+    who, when = (shown(name) or "somebody", shown(since[11:16])) if sits else ("nobody", "")
     if past is not None and past.state.has_left:
         who = "left for the day"
     if past is None:
         return [str(planner), who, when, "its log is closed to you", "", str(accepted)]
-    last = past.last[0][11:19]
+    last = shown(past.last[0][11:19])
     return [str(planner), who, when, draft_of(past, day.is_open()), last, str(accepted)]
 
 
