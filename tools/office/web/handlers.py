@@ -3,6 +3,7 @@ from __future__ import annotations
 
 import asyncio
 import json
+import re
 import sys
 import traceback
 from asyncio import Future
@@ -23,6 +24,8 @@ if TYPE_CHECKING:
 # seconds between two signs of life
 ALIVE = 15.0
 WINDOW = "X-Window"
+# half a letter; those that stand for the bytes of a name are none
+HALF = re.compile("[\ud800-\udc7f\udd00-\udfff]")
 Data = dict[str, Any]
 
 
@@ -31,6 +34,17 @@ def head_of(request: httputil.HTTPServerRequest) -> Head:
     for name, value in request.headers.get_all():
         fields.setdefault(name.lower(), []).append(value)
     return Head(request.method or "", request.path, request.query, fields)
+
+
+def whole(found: Any) -> Any:
+    """Data without halves of letters, which nothing can be written with."""
+    if isinstance(found, str):
+        return HALF.sub("\N{REPLACEMENT CHARACTER}", found)
+    if isinstance(found, list):
+        return [whole(one) for one in found]
+    if isinstance(found, dict):
+        return {whole(name): whole(one) for name, one in found.items()}
+    return found
 
 
 def json_of(data: Any) -> bytes:
@@ -150,7 +164,7 @@ class Verb(Keyed):
     def read_body(self) -> Data:
         """What the request says."""
         try:
-            found = json.loads(self.said.decode("utf-8"))
+            found = whole(json.loads(self.said.decode("utf-8")))
         except (ValueError, RecursionError):
             raise Fault(400, "no JSON") from None
         if not isinstance(found, dict):
