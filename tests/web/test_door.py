@@ -166,6 +166,50 @@ class Files(WebTest):
 
 
 @skip_without_tornado
+class Halves(WebTest):
+    """Halves of letters in what is typed: no answer is a fault of the server."""
+
+    def test_texts(self):
+        self.open("day", SMALL, "2")
+        self.serve("day")
+        half = "x\ud800y\udfff"
+        self.assertEqual(self.ask("hello", {"name": half})[0], 200)
+        for verb, told in (
+            ("line", {"line": f"place {half} A 0 1"}),
+            ("act", {"name": half}),
+            ("show", {"view": ["course", half]}),
+            ("put_aside", {"name": half}),
+            ("pick_up", {"lecture": {"course": half, "room": half, "at": [0, 0]}, "kind": half}),
+            ("answer", {"question": 1, "answer": "commit", "why": half}),
+            (f"{half[:1]}_y", {half: half}),
+        ):
+            status, found = self.ask(verb, told)
+            self.assertLess(status, 500, (verb, found))
+        self.assertEqual(self.ask("hello", {"name": "ben"})[0], 200)
+        self.assertEqual(self.ask("line", {"line": f"place {half} A 0 1"})[0], 200)
+
+
+@skip_without_tornado
+class Many(WebTest):
+    """More readers than there may be at once."""
+
+    def test_newest(self):
+        """The one that has been there longest makes room, and nobody is kept out."""
+        from office.web.windows import Windows
+
+        windows = Windows(3, makes_room=True)
+        for number in range(5):
+            windows.begin(f"w{number}")
+            windows.listen(f"w{number}")
+        self.assertEqual(list(windows.by_name), ["w2", "w3", "w4"])
+
+    def test_thousand(self):
+        from office.web import readers
+
+        self.assertGreaterEqual(readers.MOST, 1000)
+
+
+@skip_without_tornado
 class Again(WebTest):
     """A server beside an office that dies is started again."""
 

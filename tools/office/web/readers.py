@@ -16,8 +16,8 @@ from office.web.verbs import Request
 from office.web.windows import Window, Windows
 from office.work.week import View, all_views, blocked_at, by_slot, of_view
 
-# so many may read at once
-MOST = 200
+# so many may read at once; one more lets go the one that has been there longest
+MOST = 1000
 Data = dict[str, Any]
 
 
@@ -28,7 +28,7 @@ class Readers:
 
     def __init__(self, day: Day, frame: Frame) -> None:
         self.frame = frame
-        self.windows = Windows(MOST)
+        self.windows = Windows(MOST, makes_room=True)
         self.minutes = DayMinutes(day)
         self.pictures = 0
         self._begin()
