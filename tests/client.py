@@ -12,7 +12,7 @@ sys.dont_write_bytecode = True
 HERE = os.path.dirname(os.path.abspath(__file__))
 sys.path.insert(0, HERE)
 
-from twice import run_twice  # noqa: E402
+from runner import run_tests  # noqa: E402
 
 
 def main(folder):
@@ -22,7 +22,7 @@ def main(folder):
     loader = unittest.TestLoader()
     names = sys.argv[1:]
     suite = loader.loadTestsFromNames(names) if names else loader.discover(folder)
-    passed, failed = run_twice(suite)
+    passed, failed = run_tests(suite)
     print(f"{passed} passed, {failed} failed")
     sys.exit(failed > 0)
 

@@ -1,89 +1,92 @@
 #!/usr/bin/env python3
-"""Compares docs/PROVED.md with the tree: its calls and clauses are in the sources, each must-fail
-edit stands in a table there, and each row has an edit, or is said to have none.
+"""Compares docs/PROVED.md with the tree: what a row names is in the crates of its heading, and each
+public function with a contract stands in a row.
 
 The last line is 'N passed, M failed'.
 """
-import collections
+from __future__ import annotations
+
 import pathlib
 import re
 import sys
+from dataclasses import dataclass
+from typing import FrozenSet, List, Set, Tuple
+
+sys.dont_write_bytecode = True
+from contracts import CRATES, Contracts, Function, read_contracts  # noqa: E402
 
 HERE = pathlib.Path(__file__).resolve().parent.parent
-# a call with its star, if it is private, or a clause of the calls before it
-NAME = re.compile(r"`([A-Za-z_0-9:]+)`(\*?)")
-HEAD = re.compile(r"^ *(pub )?(?:pub\([a-z]+\) )?(?:const )?fn ([a-z_0-9]+)")
-CLAUSE = re.compile(r"^ *ensures ([a-z_0-9]+) \{")
-Row = collections.namedtuple("Row", "title calls clauses private")
-passed = failed = 0
+WIDTH = 100
+# what stands in brackets, or a name with its star, if it is private
+PART = re.compile(r"\(([^)]*)\)|`((?:\w+::)?\w+)`(\*?)")
+NAME = re.compile(r"`(\w+)`")
+# what is a name wherever it stands: that of a module's or a type's, of a type, of several words
+ANYWHERE = re.compile(r"`((?:\w+::)?(?:[A-Z]\w*[a-z]\w*|\w+_\w+)|\w+::\w+)`")
+FILE = re.compile(r"`((?:tests|docs|crates)/[\w./]+)`")
+# what the kit and the crates that it has ported call so
+OF_THE_KIT = frozenset({"BrokenPipe", "Ok", "Vec", "Wait", "serde_json", "left_right",
+                        "crossbeam_utils", "atomic_table", "unicode_width"})
 
 
-def check(what, is_so):
-    """Counts a comparison."""
-    global passed, failed
-    if is_so:
-        passed += 1
-    else:
-        failed += 1
-        print(f"FAILED: {what}")
+@dataclass(frozen=True)
+class Ref:
+    """A call, a law or a type that a row names: what it is of, if that is said, and its name."""
+
+    owner: str
+    name: str
+    has_star: bool
+
+    def __str__(self) -> str:
+        return f"{self.owner}::{self.name}" if self.owner else self.name
 
 
-def read_functions(crates):
-    """The functions of crates by name: whether one is public, and the clauses of all of them.
+@dataclass(frozen=True)
+class Group:
+    """Calls of a row, and the clauses that stand in brackets behind them."""
 
-    Laws are left out: they compute nothing, so no edit turns them.
-    """
-    functions = {}
-    for crate in crates:
-        for path in sorted((HERE / "crates" / crate / "src").glob("**/*.rt")):
-            if path.name.endswith("laws.rt"):
-                continue
-            found = None
-            for line in path.read_text(encoding="utf-8").splitlines():
-                head, clause = HEAD.match(line), CLAUSE.match(line)
-                if head:
-                    found = functions.setdefault(head.group(2), [False, set()])
-                    # a method of a trait is as public as the trait
-                    found[0] |= bool(head.group(1)) or line.startswith("    fn ")
-                elif clause and found:
-                    found[1].add(clause.group(1))
-    return functions
+    refs: Tuple[Ref, ...]
+    clauses: Tuple[str, ...]
 
 
-def read_words(crates):
-    """The words of the definitions of crates."""
-    files = (path for one in crates for path in (HERE / "crates" / one / "specs").glob("*.antt"))
-    return {word for path in files for word in re.findall(r"\w+", path.read_text(encoding="utf-8"))}
+@dataclass(frozen=True)
+class Section:
+    """A heading, the crates that it names, and the text below it."""
+
+    title: str
+    crates: Tuple[str, ...]
+    text: str
 
 
-def edits_of(crate):
-    """The files of a crate's must-fail edits."""
-    return (HERE / "crates" / crate / "must-fail").glob("*.edit")
+class Count:
+    """How many comparisons have passed, and how many have failed."""
+
+    def __init__(self) -> None:
+        self.passed = self.failed = 0
+
+    def check(self, what: str, is_so: bool) -> None:
+        """Counts a comparison."""
+        self.passed += is_so
+        self.failed += not is_so
+        if not is_so:
+            print(f"FAILED: {what}")
 
 
-def last(name):
-    return name.rsplit("::", 1)[-1]
+def read_page(name: str) -> str:
+    """The text of a page."""
+    return (HERE / name).read_text(encoding="utf-8")
 
 
-def read_row(text):
-    """The row of an item: what stands before its first colon that is in no name."""
-    depth, end = 0, len(text)
-    for at, letter in enumerate(text):
-        depth += (letter == "(") - (letter == ")")
-        if letter == ":" and not depth and text[at + 1:at + 2] in (" ", ""):
-            end = at
-            break
-    title = text[:end]
-    outside = re.sub(r"\([^)]*\)", "", title)
-    inside = " ".join(re.findall(r"\(([^)]*)\)", title))
-    calls = {name: star for name, star in NAME.findall(outside)}
-    return Row(title, {last(name) for name in calls}, {name for name, _ in NAME.findall(inside)},
-               any(calls.values()))
+def read_sections(page: str) -> List[Section]:
+    """The sections of a page."""
+    parts = [part.partition("\n") for part in re.split(r"(?m)^## ", page)[1:]]
+    return [Section(title, tuple(re.findall(r"`(ctt_[a-z_]+)`", title)), text)
+            for title, _, text in parts]
 
 
-def read_items(text):
-    """The items of a section's lists, each in one line."""
-    items, is_item = [], False
+def read_items(text: str) -> List[str]:
+    """The items of a section's lists, each in one line, without the items below them."""
+    items: List[str] = []
+    is_item = False
     for line in text.splitlines():
         if line.startswith("- "):
             items.append(line[2:])
@@ -95,72 +98,131 @@ def read_items(text):
     return items
 
 
-def read_table(text):
-    """The lines of a section's table of edits: call, clause or nothing, edit."""
-    found = re.findall(r"(?m)^\| `([^`|]+)` \|(?: `([^`|]+)`)? +\| `([^`|]+)` \|$", text)
-    lines = [line for line in text.splitlines() if line.startswith("| `")]
-    check(f"of {len(lines)} lines of a table {len(found)} can be read", len(lines) == len(found))
+def title_of(item: str) -> str:
+    """What stands before the first colon of an item that is in no name and in no brackets."""
+    depth = 0
+    for at, letter in enumerate(item):
+        depth += (letter == "(") - (letter == ")")
+        if letter == ":" and not depth and item[at + 1:at + 2] in (" ", ""):
+            return item[:at]
+    return item
+
+
+def read_groups(title: str) -> List[Group]:
+    """The calls of a row's title, each with the clauses that stand next behind it."""
+    groups: List[Group] = []
+    refs: List[Ref] = []
+    for inside, name, star in PART.findall(title):
+        if name:
+            owner, _, last = name.rpartition("::")
+            refs.append(Ref(owner, last, bool(star)))
+        else:
+            groups.append(Group(tuple(refs), tuple(NAME.findall(inside))))
+            refs = []
+    return groups + [Group(tuple(refs), ())] * bool(refs)
+
+
+def find(contracts: Contracts, ref: Ref, near: FrozenSet[str]) -> List[Function]:
+    """The functions that a name stands for: of a type or a module of laws those that it has, of a
+    call without what it is of that of what is named before it in its row, or else each so named.
+    """
+    inside = [one for one in contracts.functions if ref.name in one.owners]
+    if ref.owner:
+        near = frozenset({ref.owner})
+    elif inside or ref.name in contracts.types:
+        return inside
+    named = [one for one in contracts.functions if one.name == ref.name]
+    nearer = [one for one in named if near & one.owners]
+    return nearer if nearer or ref.owner else named
+
+
+def compare_row(count: Count, where: str, contracts: Contracts, title: str) -> Set[Function]:
+    """A row; answers the functions that it names."""
+    found: Set[Function] = set()
+    near: FrozenSet[str] = frozenset()
+    count.check(f"{where}: names no call: {title}", any(one.refs for one in read_groups(title)))
+    for group in read_groups(title):
+        of_group: Set[Function] = set()
+        for ref in group.refs:
+            functions = find(contracts, ref, near)
+            is_type = ref.name in contracts.types
+            count.check(f"{where}: there is no {ref}", bool(functions) or is_type)
+            is_private = not any(one.is_public for one in functions)
+            count.check(f"{where}: {ref} is {'private' if is_private else 'public'}, and has "
+                        f"{'a' if ref.has_star else 'no'} star", ref.has_star == is_private)
+            near |= {ref.owner} if ref.owner else {ref.name} if is_type else frozenset()
+            of_group |= set(functions)
+        clauses = {name for one in of_group for name in one.clauses}
+        for name in group.clauses:
+            is_clause = name in (contracts.words if name[0].isupper() else clauses)
+            count.check(f"{where}: {title}: no clause or definition {name}", is_clause)
+        found |= of_group
     return found
 
 
-def covers(row, call, clause):
-    """Whether an edit that turns a clause of a call turns a row."""
-    return last(call) in row.calls and (not clause or not row.clauses or clause in row.clauses)
+def compare_rows(count: Count, sections: List[Section]) -> None:
+    """The rows of all crates, and that each public function with a contract stands in one."""
+    named: Set[Function] = set()
+    for section in sections:
+        contracts = read_contracts(section.crates)
+        for item in read_items(section.text):
+            named |= compare_row(count, section.title, contracts, title_of(item))
+    for crate in sorted({crate for section in sections for crate in section.crates}):
+        for one in read_contracts([crate]).functions:
+            if one.is_public and one.has_contract:
+                count.check(f"{crate}: {one} stands in no row", one in named)
 
 
-def compare_section(title, text, bare):
-    """A section with its crates; answers the edits that it names."""
-    crates = re.findall(r"`(ctt_[a-z_]+)`", title)
-    functions = read_functions(crates)
-    words = set().union(*(clauses for _, clauses in functions.values()), read_words(crates))
-    table = read_table(text)
-    edits = {path.stem for one in crates for path in edits_of(one)}
-    for call, clause, edit in table:
-        known = functions.get(last(call))
-        check(f"{title}: {edit}: no function {call}", known is not None)
-        check(f"{title}: {edit}: {call} has no clause {clause}",
-              not clause or known is None or clause in known[1])
-        check(f"{title}: no edit {edit}", edit in edits)
-    for item in read_items(text):
-        row = read_row(item)
-        rows = [name for name in row.calls if name in functions]
-        if not rows:
-            continue
-        for name in rows:
-            check(f"{title}: {name} is private and has no star", row.private or functions[name][0])
-        for name in row.clauses:
-            check(f"{title}: {row.title}: no clause or definition {name}", name in words)
-        has_edit = any(covers(row, call, clause) for call, clause, _ in table)
-        check(f"{title}: no edit turns: {row.title}", has_edit or row.title in bare)
-        check(f"{title}: has an edit and is said to have none: {row.title}",
-              not (has_edit and row.title in bare))
-    return {edit for _, _, edit in table}
+def compare_guarantees(count: Count, text: str, contracts: Contracts) -> None:
+    """The list of the README's guarantees: the calls and clauses that carry each."""
+    readme = read_page("README.md").split("## What is guaranteed", 1)[1].split("\n## ", 1)[0]
+    wanted = re.findall(r"(?m)^(\d+)\. ", readme)
+    found = [item.split(":", 1) for item in read_items(text)]
+    numbers = [number for number, _ in found]
+    count.check(f"the README has the guarantees {wanted}, the page {numbers}", numbers == wanted)
+    for number, calls in found:
+        compare_row(count, f"guarantee {number}", contracts, title_of(calls.strip()))
 
 
-page = (HERE / "docs" / "PROVED.md").read_text(encoding="utf-8")
-sections = [part.split("\n", 1) for part in re.split(r"(?m)^## ", page)[1:]]
-without = next((text for title, text in sections if title == "Without an edit"), "")
-bare_rows = {item.rstrip(".") for item in read_items(without)}
-named = set()
-crates = [path.name for path in (HERE / "crates").iterdir()]
-public = {name for name, (is_public, _) in read_functions(crates).items() if is_public}
-guarantees = next((text for title, text in sections if title.startswith("The guarantees")), "")
-readme = (HERE / "README.md").read_text(encoding="utf-8").split("## What is guaranteed", 1)[1]
-wanted = re.findall(r"(?m)^(\d+)\. ", readme.split("\n## ", 1)[0])
-found = [item.split(":", 1) for item in read_items(guarantees)]
-numbers = [number for number, _ in found]
-check(f"the README has the guarantees {wanted}, the page {numbers}", numbers == wanted)
-for number, text in found:
-    row = read_row(text.strip())
-    for name in row.calls:
-        check(f"guarantee {number}: no public call {name}", name in public or row.private)
-for title, text in sections:
-    if "`ctt_" in title:
-        named |= compare_section(title, text, bare_rows)
-edits = [path.stem for crate in crates for path in edits_of(crate)]
-check("two edits have one name", len(edits) == len(set(edits)))
-for edit in sorted(edits):
-    check(f"{edit} stands in no table", edit in named)
+def compare_names(count: Count, page: str, contracts: Contracts) -> None:
+    """The names of functions, types, definitions and files, wherever they stand on the page."""
+    modules = {path.stem for path in CRATES.glob("*/src/**/*.rt")}
+    crates = {path.name for path in CRATES.iterdir()}
+    known = contracts.types | contracts.words | modules | crates | OF_THE_KIT
+    known |= {one.name for one in contracts.functions}
+    known |= {name for one in contracts.functions for name in one.clauses}
+    for name in sorted(set(ANYWHERE.findall(page))):
+        owner, _, last = name.rpartition("::")
+        is_known = bool(find(contracts, Ref(owner, last, False), frozenset()))
+        count.check(f"there is no {name}", is_known if owner else last in known)
+    for name in sorted(set(FILE.findall(page))):
+        count.check(f"there is no file {name}", (HERE / name).exists())
 
-print(f"{passed} passed, {failed} failed")
-sys.exit(failed != 0)
+
+def main() -> int:
+    """Compares the page."""
+    count = Count()
+    page = read_page("docs/PROVED.md")
+    sections = read_sections(page)
+    of_crates = [section for section in sections if section.crates]
+    everything = read_contracts(sorted(path.name for path in CRATES.iterdir()))
+    titles = [one.title for one in read_sections(read_page("docs/DEFINITIONS.md")) if one.crates]
+    count.check("the headings are not those of DEFINITIONS.md",
+                titles == [section.title for section in of_crates])
+    count.check("a crate with a contract has no heading", {
+        one.crate for one in everything.functions if one.is_public and one.has_contract
+    } <= {crate for section in of_crates for crate in section.crates})
+    compare_rows(count, of_crates)
+    guarantees = [one.text for one in sections if one.title.startswith("The guarantees")]
+    compare_guarantees(count, "".join(guarantees), everything)
+    compare_names(count, page, everything)
+    for number, line in enumerate(page.splitlines(), 1):
+        count.check(f"line {number} is longer than {WIDTH} columns", len(line) <= WIDTH)
+    edits = [path.stem for path in CRATES.glob("*/must-fail/*.edit")]
+    count.check("two edits have one name", len(edits) == len(set(edits)))
+    print(f"{count.passed} passed, {count.failed} failed")
+    return int(count.failed != 0)
+
+
+if __name__ == "__main__":
+    sys.exit(main())

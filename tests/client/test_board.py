@@ -118,7 +118,7 @@ class Drawn(OfficeTest):
         ask = board.planning.seat.ask
 
         def watched(line):
-            if line.strip() == "commit":
+            if str(line).strip() == "commit":
                 self.assertIsNotNone(self.box)
                 self.assertEqual(self.box.box.edits, board.planning.edits())
             return ask(line)

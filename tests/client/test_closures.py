@@ -4,7 +4,7 @@ import random
 
 from fake_week import FakeWeek
 from plain_instance import instance_of
-from support import PROGRAM, SMALL, OfficeTest
+from support import PROGRAM, SMALL, OfficeTest, lines_of
 
 from office.data.label_files import read_labels
 from office.day.blocking import find_scope
@@ -21,6 +21,7 @@ from office.day.closures_file import (
     standing,
     standing_of,
 )
+from office.day.edits import Edit
 from office.day.folder import Day
 from office.day.instance import read_instance
 from office.day.scratch_desk import Scratch
@@ -180,7 +181,8 @@ class SideFile(OfficeTest):
             week = FakeWeek(instance_of(SMALL, *sides[1:]))
             for edit, answer in zip(edits, wanted):
                 scratch = Scratch([PROGRAM, "run", SMALL, "-", *sides])
-                self.assertEqual(scratch.answers([edit]), [answer])
+                found = scratch.answers([Edit.parse(edit)])
+                self.assertEqual(lines_of(found), [answer])
                 fault = week.fault(edit)
                 self.assertEqual(f"refused {fault}" if fault else "done", answer)
 

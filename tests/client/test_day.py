@@ -183,9 +183,8 @@ class Signals(OfficeTest):
                 self.assertEqual(office.wait(PATIENCE), 0)
                 self.assertEqual(office.stdout.read(), "journal 0\ncosts 0 20 0 0\n")
                 self.assertFalse(is_alive(desk))
-                self.assertEqual(
-                    self.left_in(day), ["day.json", "instance.ctt", "minutes", "names", "office", "spare"]
-                )
+                left = ["day.json", "instance.ctt", "minutes", "names", "office", "spare"]
+                self.assertEqual(self.left_in(day), left)
 
     def test_twice_while_somebody_sits(self):
         office = self.open("day", SMALL, "1")

@@ -5,6 +5,7 @@ from support import FAKE, PROGRAM, SMALL, SMALL_SOL, OfficeTest, make_edit, said
 from test_day import LIMITED
 from two_screens import text_of
 
+from office.seat.answers import Said
 from office.terminal.board import Board
 from office.work.week import View
 
@@ -91,7 +92,7 @@ class Failing(OfficeTest):
         os.dup2(full, anna.planning.seat.log.end)
         os.close(full)
         anna.planning.seat.log.noted("x")
-        anna.planning._turned_down("not written")
+        anna.planning._turned_down(Said.NOT_WRITTEN)
         self.assertIn("on no disk", said(anna.planning))
         self.assertNotIn("in the log", said(anna.planning))
         anna.planning.seat.waiting.append("drop geo 1 2")

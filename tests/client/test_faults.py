@@ -122,7 +122,7 @@ class Faults(OfficeTest):
 
         def commit(edit):
             answers = [ben.ask(line) for line in ("open", edit, "commit")]
-            self.assertEqual(answers[1], "done")
+            self.assertEqual(str(answers[1]), "done")
             anna._cache.clear()
 
         commit(EDIT)
@@ -161,7 +161,7 @@ class Faults(OfficeTest):
         self.assertIn("Your accepted drafts are on the disk: none.", shown)
         self.assertIn(TOLD, shown)
         self.assertRegex(status, r"0 +nobody +1 edit, not accepted +\d\d:\d\d:\d\d +0\n")
-        self.assertEqual(offered, [EDIT])
+        self.assertEqual(lines_of(offered), [EDIT])
 
     def test_dies_after_it_writes(self):
         shown, status, offered = self.dies("dies after")

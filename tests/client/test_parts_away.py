@@ -62,7 +62,7 @@ class Away(Parts):
         self.leave_and_block()
         planning = self.planning("day", 0, "anna")
         planning.abandon()
-        self.assertEqual(read_past(self.day.log(0)).story.unfinished(), [])
+        self.assertEqual(read_past(self.day.log(0)).state.unfinished(), [])
 
     def test_a_second_change(self):
         """What was not yet made again is kept over the next change."""

@@ -81,7 +81,8 @@ class Planners(OfficeTest):
         self.assertIn("Your draft is stale: nothing is lost", text)
         self.assertIn("draft 1, ben, ", text)
         self.assertIn("  c0109: day 5, period 2, r01 -> day 5, period 3, r09", text)
-        self.assertEqual(lines_of(anna.seat.state.ended), [BEST, "reroom c0049 r04 0 0", "drop c0001 1 2"])
+        ended = [BEST, "reroom c0049 r04 0 0", "drop c0001 1 2"]
+        self.assertEqual(lines_of(anna.seat.state.ended), ended)
         board.press("r")
         text = "\n".join(row[0][0] for row in board.rows(24, 80))
         self.assertIn("2 of 3 edits made again, none committed yet.", text)

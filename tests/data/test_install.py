@@ -44,7 +44,7 @@ class Install(OfficeTest):
         """Puts a program there, as a build does, with its notes."""
         take = "take_unproved; " if way == "unproved" else ""
         script = f'here="{self.top}"; . "$here/tools/build.sh"; {take}mkdir -p "$built"; '
-        script += f'cp "{PROGRAM}" "$program"; note_build "$(sums)"'
+        script += f'cp "{PROGRAM}" "$program"; touch "$built/built.fast"; note_build "$(sums)"'
         self.run_in("bash", "-c", script)
         # what is built is no source
         self.write("a tree/.git/info/exclude", "out/\n")
@@ -73,7 +73,8 @@ class Install(OfficeTest):
     def about(self, way):
         told = {
             "proved": "proved: each function was proved before it was compiled\n",
-            "unproved": "unproved: it was built without proof, and nothing is guaranteed of it\n",
+            "unproved": "unproved: it was built without proof, and nothing is guaranteed of it\n"
+            "speed: full\n",
         }[way]
         return f"timedesk 0.1.0\ncommit: {self.commit}\nkit: kit of the test\n{told}"
 
@@ -185,6 +186,21 @@ class Archive(Install):
         self.assertEqual(self.files(f"another machine/{name}"), [])
 
 
+class FirstCommand(Install):
+    def test_it_says_what_is_built(self):
+        """What an office does first in a tree without a program, with a kit that builds none."""
+        for words in (
+            ("import", "examples/college", "-o", self.path("plan")),
+            ("open", self.path("day"), SMALL, "2"),
+        ):
+            told = self.run_in("./office", *words, status=3)
+            self.assertRegex(told, "^timedesk: building, which proves each crate first; .* minutes")
+            self.assertRegex(told, "without proof it takes .* seconds: .* --unproved --build\n")
+            self.assertIn("office: there is no program to ", told)
+            told = self.run_in("./office", "--unproved", *words, status=3)
+            self.assertRegex(told, "^timedesk: building without proof, which takes .* seconds")
+
+
 class Version(Install):
     def test_of_the_tree(self):
         told = self.run_in("./timedesk", "--version")
@@ -194,6 +210,9 @@ class Version(Install):
         self.build("unproved")
         told = self.run_in("./timedesk", "--unproved", "-V")
         self.assertEqual(told, "timedesk: unproved build\n" + self.about("unproved"))
+        os.remove(f"{self.top}/out/unproved/built.fast")
+        told = self.run_in("./timedesk", "--unproved", "-V")
+        self.assertIn("speed: 80 to 500 times slower, as each access is checked\n", told)
 
 
 if __name__ == "__main__":

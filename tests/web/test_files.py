@@ -4,6 +4,7 @@ import os
 import re
 import shutil
 import subprocess
+import sys
 import unittest
 
 from served import HERE
@@ -53,6 +54,16 @@ class Files(unittest.TestCase):
         ]
         self.assertEqual(len(names), len(set(names)))
 
+    def test_as_a_module(self):
+        """`python3 -m office` is `office`."""
+        module = [sys.executable, "-B", "-m", "office", "--help"]
+        script = [os.path.join(HERE, "office"), "--help"]
+        done = [
+            subprocess.run(words, capture_output=True, text=True, cwd=TOOLS, check=True)
+            for words in (module, script)
+        ]
+        self.assertEqual(done[0].stdout, done[1].stdout)
+
     def test_nothing_from_elsewhere(self):
         """No address of another host, no text set as markup, no script or style inside a page."""
         for path in self.files(STATIC, ".js") + self.files(STATIC, ".html"):
@@ -95,9 +106,11 @@ class Files(unittest.TestCase):
 
     @unittest.skipUnless(shutil.which("mypy"), "mypy is not installed, so no type was checked")
     def test_typed(self):
-        """Each function of the office and of `flags.py` has types, and they hold, in the oldest
+        """Each function of the office and of these tools has types, and they hold, in the oldest
         Python that runs it."""
         words = ["mypy", "--strict", "--python-version", "3.9", "--cache-dir", os.devnull]
-        words += ["-p", "office", "-m", "flags"]
+        words += ["-p", "office", "-p", "edits"]
+        for name in ("flags", "strip_checks", "gate"):
+            words += ["-m", name]
         done = subprocess.run(words, capture_output=True, text=True, cwd=TOOLS)
         self.assertEqual(done.returncode, 0, done.stdout + done.stderr)

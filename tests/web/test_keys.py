@@ -51,7 +51,7 @@ class Keys(BrowserTest):
         anna = self.chosen()
         anna.run(ANSWERED, *MISTAKEN)
         anna.press("i")
-        anna.sees("This page has failed", "#toasts")
+        anna.sees("Something went wrong with your last action", "#toasts")
         anna.press("Enter")
         anna.sees("is held", "#inspector")
         self.assertEqual(len(anna.complaints()), 1)

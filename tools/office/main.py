@@ -96,7 +96,7 @@ def parser() -> argparse.ArgumentParser:
         formatter_class=argparse.RawDescriptionHelpFormatter,
         allow_abbrev=False,
     )
-    unproved = "open with a desk that is built without proof, in about 90 seconds"
+    unproved = "open with a desk that is built without proof, in about three minutes"
     top.add_argument("--unproved", action="store_true", help=unproved)
     commands = top.add_subparsers(dest="command", metavar="COMMAND", required=True)
     add_open(commands)

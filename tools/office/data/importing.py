@@ -4,6 +4,7 @@ from __future__ import annotations
 
 import os
 import shlex
+
 from office.data.codes import NO_NAME
 from office.data.imported import BARRED, CLOSURES, INSTANCE, START
 from office.data.instance_files import BLOCKED, barred_text, instance_text
@@ -15,11 +16,10 @@ from office.data.tables import read_bytes, write_table
 from office.day.closures_file import blocked_text, closures_text
 from office.day.desk_words import encoded
 from office.day.instance import Instance
-from office.day.program import output, program_words
+from office.day.program import build, output, program_words
 from office.day.safe_files import write_whole
 from office.refused import MACHINE, Refused, Silent
 from office.words.text import counted
-
 
 
 def label_rows(tables: Tables, instance: Instance) -> list[tuple[str, str, str, str]]:
@@ -89,6 +89,7 @@ def import_folder(source: str, folder: str, unproved: bool) -> int:
     if not os.path.isdir(source):
         raise Refused(f"there is no folder {source}")
     program = program_words(unproved)
+    build(program)
     tables = Tables(source, program)
     instance = tables.read()
     files = import_files(tables, instance)

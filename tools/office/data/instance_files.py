@@ -52,7 +52,7 @@ def barred_text(instance: Instance) -> bytes:
 @contextlib.contextmanager
 def written(instance: Instance) -> Iterator[list[str]]:
     """The words for an instance and its side files, in a folder that is there as long as they are
-    needed. The script of a `run` stands behind the first one."""
+    needed. The script of a `run` stands after the first one."""
     with tempfile.TemporaryDirectory() as folder:
         files = {
             INSTANCE: instance_text(instance),

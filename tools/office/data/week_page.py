@@ -4,6 +4,7 @@ from __future__ import annotations
 import os
 from functools import lru_cache
 from html import escape
+
 from office.data.one_week import OneWeek, cost_line
 from office.day.lecture import Slot
 from office.words.text import shown, width as columns_of

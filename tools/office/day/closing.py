@@ -21,7 +21,7 @@ from office.day.spare import free_room
 from office.refused import CONTENT, Refused
 from office.words.text import counted
 
-# how many seconds the office has to end behind those who sat; those who sit at a desk that a killed
+# how many seconds the office has to end after those who sat; those who sit at a desk that a killed
 # office has left go by themselves, and have so many
 SLACK, GOING = 10.0, 3.0
 

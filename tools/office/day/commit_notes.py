@@ -7,6 +7,7 @@ The desk does not know this file; what was committed is in the minutes alone.
 from __future__ import annotations
 
 from dataclasses import dataclass
+
 from office.day.folder import Day
 from office.day.shared_lines import add_line, is_number, read_lines
 

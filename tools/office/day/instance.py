@@ -119,7 +119,7 @@ class Reader:
         return found
 
     def headed(self) -> str:
-        """The word behind a fixed one."""
+        """The word after a fixed one."""
         self.word()
         return self.word()
 

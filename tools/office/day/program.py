@@ -41,6 +41,20 @@ def build_words(program: list[str]) -> list[str]:
     return [*program, "--build" if is_ours else "--help"]
 
 
+def build(program: list[str]) -> None:
+    """Builds the program if need be; another one is there as it is. What that says of its time goes
+    where the office's goes."""
+    words = build_words(program)
+    if "--build" not in words:
+        return
+    try:
+        done = subprocess.run(words, stdout=subprocess.DEVNULL, check=False)
+    except OSError as fault:
+        raise Refused(f"cannot run {words[0]}: {fault.strerror}") from None
+    if done.returncode != 0:
+        raise Refused("there is no program to read the plan with")
+
+
 def tell(said: bytes, names: Mapping[str, str] = NO_NAMES) -> None:
     """Says what the program has said: why a file is refused, by its place in it."""
     with contextlib.suppress(OSError):

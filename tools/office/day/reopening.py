@@ -7,6 +7,7 @@ import os
 import shutil
 import signal
 import time
+
 from office.day import processes
 from office.day.closing import send
 from office.day.closures_file import closures_end

@@ -10,6 +10,7 @@ from office.day.edits import Edit, Kind
 from office.day.instance import Instance
 from office.day.lecture import Lecture, Place, Slot
 
+
 class Timetable:
     """Lectures by courses and by slots."""
 

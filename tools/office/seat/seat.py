@@ -175,7 +175,7 @@ class Seat:
         return self.day.is_changing() or not self.part.is_last()
 
     def leave_desk(self) -> list[str]:
-        """Leaves a desk that ends with its part of the day. What it has answered is heard, and
+        """Leaves a desk that ends with its part of the day. What it has answered is taken up, and
         answered here."""
         found: list[str] = []
         if self._lines != CLOSED:
@@ -314,9 +314,9 @@ class Seat:
         return self.take(text)
 
     def catch_up(self) -> list[str]:
-        """Hears the answers that were under way when somebody sat here last: a word that nothing
-        begins with is sent behind, and its answer is waited for. Lines that were never sent are
-        known by it, too."""
+        """Takes up the answers that were under way when somebody sat here last: a word that nothing
+        begins with is sent after them, and its answer is waited for. Lines that were never sent
+        are known by it, too."""
         probe = f"office-{os.getpid()}-{time.monotonic_ns()}"
         # a line that was cut ends here; the desk skips one without words
         self._write(b"\n" + probe.encode() + b"\n")

@@ -43,7 +43,7 @@ class BoardRules:
 
     def step_over(self) -> None:
         """Goes on in the next part of the day, says what has happened, and shows what is to be read
-        of it. What is being read or typed, as a reason, is there again behind it."""
+        of it. What is being read or typed, as a reason, is there again after it."""
         board, front = self.board, self.board.overlay
         board.overlay = None
         question = board.work.step_over()

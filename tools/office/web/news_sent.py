@@ -1,4 +1,4 @@
-"""What the windows of a seat have heard of accepted drafts."""
+"""Which accepted drafts the windows of a seat were sent."""
 from __future__ import annotations
 
 from typing import Any
@@ -18,7 +18,7 @@ def last_news(planning: Planning, wording: Wording) -> list[Data]:
 
 
 class NewsSent:
-    """How many drafts the windows of a planner have heard of, and what of the last ones."""
+    """How many drafts the windows of a planner were sent, and what of the last ones."""
 
     def __init__(self, planning: Planning, wording: Wording) -> None:
         self.planning, self.wording = planning, wording
@@ -30,7 +30,7 @@ class NewsSent:
 
     def read_on(self) -> list[Data]:
         """Drafts that were accepted since, and those of which more is known by now: a reason is
-        written behind its commit."""
+        written after its commit."""
         news = self.planning.news
         notes, self.notes = self.notes, news.read_notes()
         first = self.count if notes == self.notes else max(0, self.count - DRAFTS)

@@ -1,4 +1,4 @@
-"""The windows that listen: what each is to hear, until it has gone."""
+"""The windows that listen: what each is to be sent, until it has gone."""
 from __future__ import annotations
 
 import asyncio
@@ -47,7 +47,7 @@ class Window:
         return None if self.is_ending or not self.is_listening else {}
 
     def end_soon(self) -> None:
-        """The window is let go when it has heard what there is to be heard."""
+        """The window is let go when it was sent what there is to be sent."""
         self.is_ending = True
         self._woken.set()
         self.windows.forget(self)

@@ -3,6 +3,7 @@ from __future__ import annotations
 
 from collections import Counter
 from dataclasses import dataclass
+
 from office.day.commit_notes import notes_path, read_commit_notes
 from office.day.folder import Day
 from office.day.lecture import Lecture
@@ -53,7 +54,7 @@ class News:
         self.accepted.append(Accepted(entry, shifts, learnt))
 
     def after(self, count: int, newest: Timetable) -> Timetable:
-        """The timetable after so many accepted drafts: the newest one, without those behind."""
+        """The timetable after so many accepted drafts: the newest one, without the later ones."""
         found = newest.copy()
         for accepted in reversed(self.accepted[count:]):
             for shifts in reversed(accepted.shifts):
@@ -72,8 +73,8 @@ class News:
 
     def facts(self, accepted: Accepted) -> CommitFacts:
         """By whom, when and why a draft was committed: by the notes of commits, else by the logs,
-        as far as they are open to this planner, else who sits there now, and when it was heard
-        of."""
+        as far as they are open to this planner, else who sits there now, and when the client
+        learnt of it."""
         self.read_notes()
         if accepted.entry.number not in self._facts:
             self._read_logs()

@@ -266,7 +266,7 @@ class Reading:
 
     def fail(self) -> None:
         """Notes that the minutes fail, as the desk has said: nothing that is committed from now on
-        is on the disk. The other seats hear of it by a file of the day, if that can be made."""
+        is on the disk. The other seats learn of it by a file of the day, if that can be made."""
         self.is_failing = True
         self._cache.clear()
         with contextlib.suppress(OSError):

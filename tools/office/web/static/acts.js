@@ -177,7 +177,7 @@ class Acts {
 }
 
 const QUEUED = ["show", "pickUp", "place", "drop", "putDown", "layDown", "rooms", "answer"];
-// these wait for nothing: what is typed behind them is text
+// these wait for nothing: what is typed after them is text
 const AT_ONCE = ["view", "line", "help"];
 
 // the acts, each after those that were asked for before it

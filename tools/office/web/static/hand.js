@@ -95,7 +95,7 @@ class Hand {
     if (slot) this.week.cell(slot).classList.add("over");
   }
 
-  // a drop has its turn behind the picking up, which may not be answered yet
+  // a drop has its turn after the picking up, which may not be answered yet
   end(event) {
     const { pressed } = this;
     if (!pressed || event.pointerId !== pressed.id) return;

@@ -91,7 +91,7 @@ function settle(fault) {
 }
 
 // What a planner does is asked of an office that knows this window. So it waits for a beginning,
-// and is asked again behind one if it was not done, since the window was not known.
+// and is asked again after one if it was not done, since the window was not known.
 export async function act(verb, told = {}) {
   if (!isKnown && !isEnded) await beginning();
   const asked = times;

@@ -1,5 +1,5 @@
 // Acts one after another: what was pressed before has its effect first, and a key that was meant
-// for the week does nothing behind a box or a list that has come up meanwhile.
+// for the week does nothing after a box or a list that has come up meanwhile.
 import { hasLater } from "./boxes.js";
 import { menuInFront } from "./menu.js";
 import { toast } from "./toasts.js";
@@ -24,7 +24,7 @@ export function makeQueue(app) {
     const isFree = () => app.question === question && (!menuInFront() || menuInFront() === menu);
     tell(1);
     const done = last.then(() => (isFree() ? act() : null));
-    // those behind one that fails have their turn all the same
+    // those after one that fails have their turn all the same
     last = done.catch(failed).then(() => tell(-1));
     return done;
   };

@@ -1,6 +1,7 @@
 """Runs tests, and each that has failed once more: by itself, at the end, and never a third time.
 
-The text of its first fault is printed before. One that hangs is broken off, and has failed.
+It has failed whatever comes of that: both runs are printed, so that it is seen which kind of fault
+it is. One that hangs is broken off, and has failed.
 """
 import contextlib
 import itertools
@@ -173,29 +174,32 @@ def anew(test):
         return test
 
 
-def run_twice(suite):
+def run_again(test, texts):
+    """Prints the faults of a test, and those of another run of it by itself, which counts for
+    nothing. Whether that one has passed."""
+    name = test.id()
+    print("\n".join([LINE, f"has failed, and is run again: {name}", *texts]))
+    print(LINE, flush=True)
+    second = run([anew(test)])
+    end = second.ends.get(name, FAILED)
+    print("\n".join([f"the second run of {name}: {end}", *second.texts.get(name, [])]))
+    return end == PASSED
+
+
+def run_tests(suite):
     """Runs a suite, prints what has become of it, and answers how many have passed and failed."""
     signal.signal(signal.SIGALRM, too_late)
     tests = list(each(suite))
     begun = time.monotonic()
     found = run(tests)
     print(f"{len(found.ends)} tests took {time.monotonic() - begun:.0f} s", flush=True)
-    ends, texts, again = found.ends, found.texts, []
-    for test in tests:
-        if ends[test.id()] != FAILED:
-            continue
-        print("\n".join([LINE, f"has failed, and is run again: {test.id()}", *texts[test.id()]]))
-        print(LINE, flush=True)
-        second = run([anew(test)])
-        ends.update(second.ends)
-        texts.update(second.texts)
-        found.reasons += second.reasons
-        again += [test.id()] if second.ends[test.id()] == PASSED else []
+    ends, texts = found.ends, found.texts
+    bad = [test for test in tests if ends[test.id()] == FAILED]
+    alone = [test.id() for test in bad if run_again(test, texts[test.id()])]
     for why in sorted(set(found.reasons)):
         print(f"{found.reasons.count(why)} skipped: {why}")
-    for name in [name for name, end in ends.items() if end == FAILED]:
-        print("\n".join(texts[name]))
+    for name in (test.id() for test in bad):
         print(f"FAILED: {name}: {why_of(texts[name][0])[:300]}")
-    if again:
-        print(f"{len(again)} needed a second run: {', '.join(again)}")
+    if alone:
+        print(f"{len(alone)} failed, then passed by themselves: {', '.join(alone)}")
     return [list(ends.values()).count(end) for end in (PASSED, FAILED)]

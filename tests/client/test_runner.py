@@ -1,4 +1,5 @@
-"""The runner of the tests: what has failed is run once more, and nothing breaks off the others."""
+"""The runner of the tests: what has failed is run once more and has failed, and nothing breaks off
+the others."""
 import os
 import subprocess
 import sys
@@ -21,14 +22,14 @@ def count(name):
 RUN = """
 import sys
 sys.path[:0] = [{tests!r}, {room!r}]
-import unittest, twice
-twice.PATIENCE, twice.AGAIN = {patience}, 1
+import unittest, runner
+runner.PATIENCE, runner.AGAIN = {patience}, 1
 suite = unittest.TestLoader().discover({room!r})
-print(*twice.run_twice(suite))
+print(*runner.run_tests(suite))
 """
 
 
-class Twice(unittest.TestCase):
+class Runner(unittest.TestCase):
     def run_these(self, text, patience=60):
         """Runs tests that are written here; what is printed, and how often each was run."""
         with tempfile.TemporaryDirectory() as room:
@@ -50,7 +51,7 @@ class Twice(unittest.TestCase):
             return done.stdout, counts
 
     def test_each_end(self):
-        """Passed, passed at the second run, failed twice, skipped; the first fault is printed."""
+        """Passed, failed once, failed twice, skipped; the faults of both runs are printed."""
         printed, counts = self.run_these(
             """
             class One(unittest.TestCase):
@@ -72,12 +73,14 @@ class Twice(unittest.TestCase):
         self.assertEqual(counts, {"good": 1, "once": 2, "bad": 2, "parts": 6})
         lines = printed.split("\n")
         name = "test_drawn.One.test_"
-        self.assertIn("the first fault", printed)
-        self.assertIn("fault 1", printed)
+        for fault in ("the first fault", "fault 1", "fault 2"):
+            self.assertIn(fault, printed)
         self.assertIn("1 skipped: lacking", lines)
-        self.assertIn(f"FAILED: {name}bad: AssertionError: fault 2", lines)
+        self.assertIn(f"FAILED: {name}bad: AssertionError: fault 1", lines)
+        self.assertIn(f"the second run of {name}bad: failed", lines)
+        self.assertIn(f"the second run of {name}once: passed", lines)
         self.assertEqual(
-            lines[-3:], [f"2 needed a second run: {name}once, {name}parts", "3 1", ""]
+            lines[-3:], [f"2 failed, then passed by themselves: {name}once, {name}parts", "1 3", ""]
         )
 
     def test_class(self):
@@ -101,7 +104,7 @@ class Twice(unittest.TestCase):
         )
         self.assertEqual(counts, {"begun": 3, "one": 1, "other": 1, "last": 1})
         self.assertIn("OSError: not yet", printed)
-        self.assertTrue(printed.endswith("\n3 0\n"), printed)
+        self.assertTrue(printed.endswith("\n1 2\n"), printed)
 
     def test_hang(self):
         """A test that hangs is broken off, also where it ends what it has begun."""
@@ -121,8 +124,9 @@ class Twice(unittest.TestCase):
             patience=2,
         )
         self.assertEqual(counts, {"hang": 2, "other": 2, "last": 1})
-        self.assertEqual(printed.count("TooLate: the test did not end within"), 2)
-        self.assertTrue(printed.endswith("\n2 0\n"), printed)
+        # in the test, in what it ends, and in the line that names it
+        self.assertEqual(printed.count("TooLate: the test did not end within"), 3)
+        self.assertTrue(printed.endswith("\n1 1\n"), printed)
 
     def test_thrown_past_all(self):
         """What is thrown where nobody catches it fails its test, and those behind it are run."""
@@ -147,4 +151,4 @@ class Twice(unittest.TestCase):
         )
         self.assertEqual({name: counts[name] for name in "abc"}, {"a": 1, "b": 2, "c": 1})
         self.assertGreaterEqual(counts["ended"], 2)
-        self.assertIn("1 needed a second run: test_drawn.One.test_b\n3 0\n", printed)
+        self.assertIn("1 failed, then passed by themselves: test_drawn.One.test_b\n2 1\n", printed)

@@ -1,0 +1,1 @@
+"""Must-fail edits, tried many in one check, and what refused each."""
