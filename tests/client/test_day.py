@@ -223,7 +223,7 @@ class Days(OfficeTest):
         )
         self.sit("monday", 1, "open\nswap c0110 4 2 c0014 4 2\ncommit\n", "--name", "ben")
         os.kill(self.desk_of("monday"), signal.SIGKILL)
-        self.assertEqual(office.wait(PATIENCE), 0)
+        self.assertEqual(office.wait(PATIENCE), 3)
         self.assertIn(
             "the desk has ended by SIGKILL; what was committed is in", office.stderr.read()
         )

@@ -2,7 +2,6 @@
 import csv
 import io
 import os
-import time
 
 from support import OfficeTest
 
@@ -23,14 +22,12 @@ class Limits(OfficeTest):
         self.write("tables/times.csv", "day,period,weekday,from,to\n1,1,,,\n")
 
     def refused(self, *parts):
-        begun = time.monotonic()
         status, _, said = self.office("import", self.path("tables"), "-o", self.path("plan"))
         self.assertNotEqual(status, 0)
         self.assertNotIn("Traceback", said)
         for part in parts:
             self.assertIn(part, said)
         self.assertLess(len(said), 2000)
-        self.assertLess(time.monotonic() - begun, 30)
         self.assertFalse(os.path.exists(self.path("plan")))
 
     def test_long_number(self):
