@@ -183,9 +183,8 @@ class Signals(OfficeTest):
                 self.assertEqual(office.wait(PATIENCE), 0)
                 self.assertEqual(office.stdout.read(), "journal 0\ncosts 0 20 0 0\n")
                 self.assertFalse(is_alive(desk))
-                self.assertEqual(
-                    self.left_in(day), ["day.json", "instance.ctt", "minutes", "names", "office"]
-                )
+                left = ["day.json", "instance.ctt", "minutes", "names", "office", "spare"]
+                self.assertEqual(self.left_in(day), left)
 
     def test_twice_while_somebody_sits(self):
         office = self.open("day", SMALL, "1")
@@ -224,7 +223,7 @@ class Days(OfficeTest):
         )
         self.sit("monday", 1, "open\nswap c0110 4 2 c0014 4 2\ncommit\n", "--name", "ben")
         os.kill(self.desk_of("monday"), signal.SIGKILL)
-        self.assertEqual(office.wait(PATIENCE), 0)
+        self.assertEqual(office.wait(PATIENCE), 3)
         self.assertIn(
             "the desk has ended by SIGKILL; what was committed is in", office.stderr.read()
         )

@@ -11,8 +11,9 @@ from office.commands_blocking import add_blocks
 from office.commands_data import add_data
 from office.commands_past import add_past
 from office.day.folder import Day
-from office.refused import MACHINE, Refused
+from office.refused import MACHINE, Refused, sentence
 from office.web.launch import add_places, serve, web_of
+from office.words.text import shown_lines
 
 EXAMPLES = """a day, and the next one:
   office open monday spring.ctt 8 --start spring.sol
@@ -178,14 +179,14 @@ def main(typed: Optional[list[str]] = None) -> int:
         return do(words, top)
     except Refused as refused:
         if refused.reason:
-            print("office:", refused.reason, file=sys.stderr)
+            print("office:", shown_lines(refused.reason), file=sys.stderr)
         return refused.status
     except BrokenPipeError:
         # who reads has enough
         os.dup2(os.open(os.devnull, os.O_WRONLY), sys.stdout.fileno())
         return MACHINE
     except OSError as fault:
-        print("office:", fault, file=sys.stderr)
+        print("office:", shown_lines(sentence(fault)), file=sys.stderr)
         return MACHINE
     except KeyboardInterrupt:
         return 130

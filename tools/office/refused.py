@@ -1,4 +1,7 @@
 """Why a command of the office ends without doing what it was asked."""
+from __future__ import annotations
+
+import os
 
 CONTENT, WORDS, MACHINE = 1, 2, 3
 
@@ -17,3 +20,14 @@ class Silent(Refused):
 
     def __init__(self, status: int) -> None:
         super().__init__("", status)
+
+
+def reason_of(fault: Exception) -> str:
+    """Why something was not done, in one line."""
+    return sentence(fault) if isinstance(fault, OSError) else str(fault)
+
+
+def sentence(fault: OSError) -> str:
+    """What the system refuses, with the name of the file."""
+    why = fault.strerror or str(fault)
+    return f"{os.fsdecode(fault.filename)}: {why}" if fault.filename else why

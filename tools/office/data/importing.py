@@ -15,9 +15,9 @@ from office.data.plan_tables import Tables
 from office.data.tables import read_bytes, write_table
 from office.day.closures_file import blocked_text, closures_text
 from office.day.desk_words import encoded
-from office.day.folder import write_whole
 from office.day.instance import Instance
 from office.day.program import build, output, program_words
+from office.day.safe_files import write_whole
 from office.refused import MACHINE, Refused, Silent
 from office.words.text import counted
 

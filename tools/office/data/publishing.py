@@ -14,9 +14,10 @@ from typing import NamedTuple, Optional
 from office.data.changed_weeks import by_view, changes_between
 from office.data.label_files import read_labels
 from office.data.site import Published, Site
-from office.day.folder import Day, lock
+from office.day.folder import Day
 from office.day.lecture import Lecture
 from office.day.parts import DayMinutes
+from office.day.safe_files import lock
 from office.day.shifts import Shift
 from office.past.timetable_at import read_at
 from office.refused import Refused

@@ -5,10 +5,12 @@ from __future__ import annotations
 import csv
 import io
 import os
+import re
+import stat
 from typing import NamedTuple, Optional, Sequence
 
 from office.refused import CONTENT, Refused
-from office.words.text import counted, shown
+from office.words.text import counted, cut, shown
 
 # what spreadsheets part cells with
 SEPARATORS = ";,\t"
@@ -17,6 +19,12 @@ BLANKS = "\t\n\v\f\r "
 NUL = "\ud800"
 # the greatest number that a file of the desk has
 MOST = 999_999_999
+
+
+# bytes and rows of a table at most, and how much of a wrong cell is told
+LONGEST, ROWS, TOLD = 16 << 20, 100_000, 60
+# with what a cell begins that a spreadsheet would take for a formula
+FORMULA, GUARDED = re.compile(r"'*[=+\-@\t\r]"), re.compile(r"'+[=+\-@]")
 
 
 class Column(NamedTuple):
@@ -78,9 +86,9 @@ class Row:
         if not text:
             return None
         if not (text.isascii() and text.isdigit()):
-            self.fault(f"{column}: {text} is no whole number")
-        elif not least <= int(text) <= most:
-            self.fault(f"{column}: {text} is not {least} to {most}")
+            self.fault(f"{column}: {cut(text, TOLD)} is no whole number")
+        elif len(text) > TOLD or not least <= int(text) <= most:
+            self.fault(f"{column}: {cut(text, TOLD)} is not {least} to {most}")
         else:
             return int(text)
         return None
@@ -99,14 +107,19 @@ def tidied(cell: str) -> str:
 
 
 def read_bytes(path: str) -> Optional[bytes]:
-    """What a file has; None if it is not there."""
+    """What a file has; None if it is not there. It may be a link, but to a file that ends."""
     try:
-        with open(path, "rb") as file:
-            return file.read()
+        with open(os.open(path, os.O_RDONLY | os.O_NONBLOCK | os.O_CLOEXEC), "rb") as file:
+            if not stat.S_ISREG(os.fstat(file.fileno()).st_mode):
+                raise Refused(f"cannot read {path}: it is no plain file")
+            found = file.read(LONGEST + 1)
     except FileNotFoundError:
         return None
     except OSError as fault:
         raise Refused(f"cannot read {path}: {fault.strerror}") from None
+    if len(found) > LONGEST:
+        raise Refused(f"cannot read {path}: it has more than {LONGEST >> 20} MiB")
+    return found
 
 
 def separator_of(text: str) -> str:
@@ -135,7 +148,10 @@ def read_cells(file: str, data: bytes, faults: Faults) -> list[list[str]]:
     lines = io.StringIO(text.replace("\0", NUL), newline="")
     try:
         for cells in csv.reader(lines, delimiter=separator, strict=True):
-            rows.append([tidied(cell).replace(NUL, "\0") for cell in cells])
+            rows.append([taken(tidied(cell).replace(NUL, "\0")) for cell in cells])
+            if len(rows) > ROWS:
+                faults.add(file, 0, f"it has more than {ROWS:,} rows")
+                return []
     except csv.Error:
         faults.add(file, len(rows) + 1, "a quote is not closed, or something stands behind one")
     return rows
@@ -186,10 +202,21 @@ def read_table(
     return found
 
 
+def taken(cell: str) -> str:
+    """A cell without the sign in front by which it is no formula."""
+    return cell[1:] if GUARDED.match(cell) else cell
+
+
+def guarded(cell: object) -> object:
+    """A cell that no spreadsheet takes for a formula: a text that looks as one has a sign in
+    front, which an import takes off again."""
+    return f"'{cell}" if isinstance(cell, str) and FORMULA.match(cell) else cell
+
+
 def write_table(heads: Sequence[str], rows: Sequence[Sequence[object]]) -> bytes:
     """A table as spreadsheets read it: with commas, in UTF-8 with a byte order mark."""
     text = io.StringIO(newline="")
     writer = csv.writer(text, lineterminator="\r\n")
     writer.writerow(heads)
-    writer.writerows(rows)
+    writer.writerows([*map(guarded, row)] for row in rows)
     return b"\xef\xbb\xbf" + text.getvalue().encode("utf-8")

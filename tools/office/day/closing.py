@@ -10,12 +10,14 @@ import time
 
 from office.day import processes
 from office.day.costs import costs_in_words
-from office.day.folder import Day, write_whole
+from office.day.folder import Day
 from office.day.next_part import rules_after
 from office.day.open_drafts import end_work
 from office.day.parts import Part, half_made, parts_of
 from office.day.pipes import remove_pipes
 from office.day.program import Left
+from office.day.safe_files import read_whole, write_whole
+from office.day.spare import free_room
 from office.refused import CONTENT, Refused
 from office.words.text import counted
 
@@ -37,13 +39,16 @@ def close_day(day: Day, seconds: float) -> int:
     for folder in half_made(day):
         # a change of rules was broken off: those before hold to the end
         shutil.rmtree(folder, ignore_errors=True)
+    free_room(day)
     return write_end(day)
 
 
 def end_office(day: Day, seconds: float) -> None:
     """Lets the office end, or the desk that a killed office left, and waits for it."""
     until = time.time() + max(0.0, seconds)
-    write_whole(day.closing, f"{until}\n".encode())
+    with contextlib.suppress(Refused):
+        # on a disk that is full they go without a warning
+        write_whole(day.closing, f"{until}\n".encode())
     numbers = day.numbers()
     for number in numbers[:1]:
         send(number, signal.SIGTERM)
@@ -95,9 +100,7 @@ class Disagrees(Refused):
 def check_start(part: Part, end: bytes) -> None:
     """Checks that a part begins with what the one before has left, as far as it can stand under the
     rules of the part."""
-    with open(part.start, "rb") as file:
-        start = file.read()
-    if Left(part, quiet=True).mended(end) != start:
+    if Left(part, quiet=True).mended(end) != read_whole(part.start):
         reason = f"part {part.number} does not begin where part {part.number - 1} ended"
         raise Disagrees(part, f"{part.day.path}: {reason}", reason)
 
@@ -116,8 +119,7 @@ def audit_parts(day: Day) -> bytes:
 
 def count_of(part: Part) -> int:
     """How many drafts the journal of a part has."""
-    with open(part.journal, "rb") as file:
-        return int(file.readline().split()[1])
+    return int(read_whole(part.journal).split(None, 2)[1])
 
 
 def write_audit(day: Day) -> bytes:

@@ -13,9 +13,10 @@ from typing import Iterable, Optional
 
 from office.day.closure import BLOCKABLE, Closure, Scope, starred, unstarred
 from office.day.desk_words import decoded, encoded
-from office.day.folder import Day, file_size, read_text
-from office.day.instance import Instance, Reader
+from office.day.folder import Day
+from office.day.instance import Instance, Reader, readable
 from office.day.processes import now
+from office.day.safe_files import file_size, read_text
 from office.day.shared_lines import add_line, fields_of, one_line
 
 BLOCK, UNBLOCK = "block", "unblock"
@@ -113,9 +114,10 @@ def blocked_text(closures: Iterable[Closure]) -> bytes:
 
 def read_blocked(path: str) -> list[Scope]:
     """What a side file blocks that the program has taken, each once."""
-    reader = Reader(path)
-    found = [
-        Scope(reader.word(), reader.word(), unstarred(reader.word()), unstarred(reader.word()))
-        for _ in range(int(reader.headed()))
-    ]
+    with readable(path):
+        reader = Reader(path)
+        found = [
+            Scope(reader.word(), reader.word(), unstarred(reader.word()), unstarred(reader.word()))
+            for _ in range(reader.count())
+        ]
     return list(dict.fromkeys(found))

@@ -9,7 +9,7 @@ from __future__ import annotations
 from dataclasses import dataclass
 
 from office.day.folder import Day
-from office.day.shared_lines import add_line, read_lines
+from office.day.shared_lines import add_line, is_number, read_lines
 
 
 @dataclass(frozen=True)
@@ -32,7 +32,7 @@ def read_commit_notes(day: Day) -> dict[int, CommitNote]:
     """The notes of a day by the numbers of the drafts."""
     found: dict[int, CommitNote] = {}
     for number, time, planner, name, why in read_lines(notes_path(day), 5):
-        if number.isdecimal() and planner.isdecimal():
+        if is_number(number) and is_number(planner):
             found[int(number)] = CommitNote(int(number), time, int(planner), name, why)
     return found
 

@@ -1,79 +1,35 @@
-"""The folder of a day: the names of its files, what is known of the day, and who holds its
-locks."""
+"""The folder of a day: the names of its files, what is known of the day, and how far its office
+is."""
 from __future__ import annotations
 
-import contextlib
-import fcntl
 import json
+import math
 import os
-import time
 from typing import Any, Optional
 
+from office.day.safe_files import is_locked, must_be_own, read_text, read_whole, write_whole
 from office.refused import Refused
 
+# planners of a day at most
+SEATS = 64
 # how far an office is
 CHECKING, STARTING, OPEN, CHANGING, REOPENING, CLOSED = (
     "checking starting open changing reopening closed".split()
 )
 
 
-def lock(path: str, mode: int = 0o660, shared: bool = False) -> Optional[int]:
-    """Takes the lock of a file, which is made if it is not there; None if somebody has it."""
-    flags = os.O_RDONLY if shared else os.O_RDWR | os.O_CREAT
-    end = os.open(path, flags, mode)
-    # a status that looks whether somebody has the lock has it for a moment
-    for _ in range(1 if shared else 5):
-        with contextlib.suppress(OSError):
-            fcntl.flock(end, (fcntl.LOCK_SH if shared else fcntl.LOCK_EX) | fcntl.LOCK_NB)
-            return end
-        time.sleep(0.0 if shared else 0.02)
-    os.close(end)
-    return None
-
-
-def is_locked(path: str) -> bool:
-    """Whether somebody has the lock of a file; not if the file is not there."""
-    try:
-        end = lock(path, shared=True)
-    except FileNotFoundError:
+def is_day(found: Any) -> bool:
+    """Whether a file has said how many planners a day has, by which program, and since when."""
+    if not isinstance(found, dict) or not isinstance(found.get("opened"), str):
         return False
-    if end is None:
-        return True
-    os.close(end)
-    return False
+    words, after = found.get("program"), found.get("after")
+    has_words = isinstance(words, list) and words and all(isinstance(one, str) for one in words)
+    is_counted = is_count(found.get("planners"), 1, SEATS) and is_count(found.get("closures", 0))
+    return bool(has_words and is_counted and (after is None or isinstance(after, str)))
 
 
-def write_whole(path: str, text: bytes, mode: int = 0o660) -> None:
-    """Writes a file so that it is there whole or not at all."""
-    new = path + ".new"
-    try:
-        end = os.open(new, os.O_WRONLY | os.O_CREAT | os.O_TRUNC, mode)
-        with open(end, "wb") as file:
-            file.write(text)
-            file.flush()
-            os.fsync(file.fileno())
-        os.replace(new, path)
-    except OSError as fault:
-        with contextlib.suppress(OSError):
-            os.remove(new)
-        raise Refused(f"cannot write {path}: {fault.strerror}") from None
-
-
-def read_text(path: str) -> str:
-    """The text of a file, empty if it is not there."""
-    try:
-        with open(path, encoding="utf-8", errors="surrogateescape", newline="") as file:
-            return file.read()
-    except FileNotFoundError:
-        return ""
-
-
-def file_size(path: str) -> int:
-    """How long a file is, 0 if it cannot be seen."""
-    try:
-        return os.stat(path).st_size
-    except OSError:
-        return 0
+def is_count(found: Any, least: int = 0, most: float = math.inf) -> bool:
+    return isinstance(found, int) and not isinstance(found, bool) and least <= found <= most
 
 
 class Day:
@@ -122,17 +78,18 @@ class Day:
 
     def facts(self) -> dict[str, Any]:
         try:
-            with open(self.facts_file, encoding="utf-8") as file:
-                found = json.load(file)
+            found = json.loads(read_whole(self.facts_file, must_be_own))
         except FileNotFoundError:
             raise Refused(f"{self.path} is not the folder of a day") from None
         except PermissionError:
             raise Refused(f"the folder {self.path} is closed to you") from None
-        except (OSError, ValueError) as fault:
+        except OSError as fault:
+            raise Refused(f"cannot read {self.facts_file}: {fault.strerror}") from None
+        except (ValueError, RecursionError) as fault:
             raise Refused(f"cannot read {self.facts_file}: {fault}") from None
-        if not isinstance(found, dict):
+        if not is_day(found):
             raise Refused(f"cannot read {self.facts_file}: it has no facts of a day")
-        return found
+        return dict(found)
 
     def write_facts(self, facts: dict[str, Any]) -> None:
         text = json.dumps(facts, indent=1, ensure_ascii=True) + "\n"
@@ -161,9 +118,10 @@ class Day:
     def closes_at(self) -> Optional[float]:
         """When the seats are closed, in seconds of the epoch, if the office is closing."""
         try:
-            return float(read_text(self.closing))
-        except ValueError:
+            found = float(read_text(self.closing, must_be_own))
+        except (OSError, ValueError):
             return None
+        return found if math.isfinite(found) else None
 
     def barred_words(self) -> list[str]:
         """The option for barred rooms, if the day has any."""

@@ -1,11 +1,17 @@
 """Readers of instances, solutions and barred rooms, in files that the program has taken."""
 from __future__ import annotations
 
+import contextlib
 from dataclasses import dataclass, field
 from typing import Iterable, Iterator, Optional
 
 from office.day.closure import Closure, closed_by
 from office.day.desk_words import decoded
+from office.day.safe_files import read_whole
+from office.refused import Refused
+
+# no number of a file is greater than this, and an instance has no more slots
+MOST, SLOTS = 999_999_999, 2000
 
 
 @dataclass(frozen=True)
@@ -84,30 +90,58 @@ class Instance:
         return "curriculum", shared[0] if shared else ""
 
 
+@contextlib.contextmanager
+def readable(path: str) -> Iterator[None]:
+    """What is damaged in a file is refused with its name."""
+    try:
+        yield
+    except (ValueError, KeyError) as fault:
+        told = f"no {fault}" if isinstance(fault, KeyError) else str(fault)
+        raise Refused(f"cannot read {path}: {told}") from None
+
+
 class Reader:
     """The words of a file, one after another."""
 
     def __init__(self, path: str) -> None:
-        with open(path, "rb") as file:
-            self.words: Iterator[str] = map(decoded, file.read().split())
+        self.words: Iterator[str] = map(decoded, read_whole(path).split())
 
     def word(self) -> str:
-        return next(self.words)
+        found = next(self.words, None)
+        if found is None:
+            raise ValueError("it ends too early")
+        return found
 
     def number(self) -> int:
-        return int(next(self.words))
+        found = int(self.word())
+        if not 0 <= found <= MOST:
+            raise ValueError(f"the number {found} is too great")
+        return found
 
     def headed(self) -> str:
         """The word after a fixed one."""
         self.word()
         return self.word()
 
+    def count(self) -> int:
+        """The number behind a fixed word."""
+        self.word()
+        return self.number()
+
 
 def read_instance(path: str, barred: Optional[str] = None) -> Instance:
     """The instance of a file, and the rooms that are barred by another one."""
-    reader = Reader(path)
+    pairs = read_barred(barred) if barred else set()
+    with readable(path):
+        return instance_from(Reader(path), pairs)
+
+
+def instance_from(reader: Reader, pairs: set[tuple[str, str]]) -> Instance:
+    """The instance that words say."""
     name = reader.headed()
-    courses, rooms, days, periods, curricula, constraints = (int(reader.headed()) for _ in range(6))
+    courses, rooms, days, periods, curricula, constraints = (reader.count() for _ in range(6))
+    if days * periods > SLOTS:
+        raise ValueError(f"{days} days of {periods} periods are too many")
     reader.word()
     listed = [
         Course(reader.word(), reader.word(), reader.number(), reader.number(), reader.number())
@@ -124,22 +158,22 @@ def read_instance(path: str, barred: Optional[str] = None) -> Instance:
     away: dict[str, set[tuple[int, int]]] = {course.name: set() for course in listed}
     for _ in range(constraints):
         away[reader.word()].add((reader.number(), reader.number()))
-    pairs = read_barred(barred) if barred else set()
     return Instance(name, days, periods, {c.name: c for c in listed}, seats, members, away, pairs)
 
 
 def read_barred(path: str) -> set[tuple[str, str]]:
     """The pairs of a course and a room that must not meet."""
-    reader = Reader(path)
-    return {(reader.word(), reader.word()) for _ in range(int(reader.headed()))}
+    with readable(path):
+        reader = Reader(path)
+        return {(reader.word(), reader.word()) for _ in range(reader.count())}
 
 
 def read_solution(path: str) -> list[tuple[str, str, int, int]]:
     """The lectures of a solution: course, room, day and period."""
-    reader = Reader(path)
-    words = list(reader.words)
-    entries = zip(words[0::4], words[1::4], words[2::4], words[3::4])
-    return [(course, room, int(day), int(period)) for course, room, day, period in entries]
+    with readable(path):
+        words = list(Reader(path).words)
+        entries = zip(words[0::4], words[1::4], words[2::4], words[3::4])
+        return [(course, room, int(day), int(period)) for course, room, day, period in entries]
 
 
 # the words that a line at a seat may begin with

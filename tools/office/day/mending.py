@@ -12,10 +12,11 @@ from office.day import processes
 from office.day.desk_words import decoded, encoded
 from office.day.edits import Edit
 from office.day.file_faults import POINT, explained
-from office.day.folder import Day, write_whole
+from office.day.folder import Day
 from office.day.instance import Instance, read_barred, read_instance, read_solution
 from office.day.parts import Aside, Part
 from office.day.processes import Signals
+from office.day.safe_files import make_anew, write_whole
 from office.refused import Silent
 from office.seat.answers import Fault
 from office.words.notice import say
@@ -82,7 +83,8 @@ def mend(
     known = part.file("known.sol")
     write_solution(known, left)
     words = [*program, "mend", part.day.instance, known, *part.side_words(), POINT]
-    with open(part.start, "wb") as start, open(part.aside, "w+b") as aside:
+    ends = make_anew(part.start, 0o640), make_anew(part.aside, 0o640, os.O_RDWR)
+    with open(ends[0], "wb") as start, open(ends[1], "w+b") as aside:
         aside.write(encoded("".join(lines)))
         aside.flush()
         status = processes.run(signals, words, stdout=start, stderr=aside)

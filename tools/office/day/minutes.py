@@ -3,11 +3,16 @@ of its parts."""
 from __future__ import annotations
 
 import os
+import re
 from dataclasses import dataclass
 from typing import Sequence
 
 from office.day.desk_words import decoded
 from office.day.edits import Edit
+from office.day.safe_files import open_there
+
+# an entry begins with its planner, and with how many calls it has
+HEAD = re.compile(rb"entry [0-9]{1,4} [0-9]{1,9}\Z")
 
 
 @dataclass(frozen=True)
@@ -34,6 +39,8 @@ class Minutes:
         # how many drafts of the day were accepted before these
         self.before = before
         self.entries: list[Entry] = []
+        # whether something stands behind them that is no entry, so that nothing more is read
+        self.is_damaged = False
         self._at = 0
 
     def size(self) -> int:
@@ -52,7 +59,7 @@ class Minutes:
         """The entries that are there since the last time. What is torn at the end is left for the
         next time."""
         try:
-            with open(self.path, "rb") as file:
+            with open(open_there(self.path, os.O_RDONLY), "rb") as file:
                 file.seek(self._at)
                 text = file.read()
         except OSError:
@@ -62,7 +69,8 @@ class Minutes:
         at = 0
         while at < len(lines):
             head = lines[at].split()
-            if len(head) != 3 or head[0] != b"entry":
+            if not HEAD.match(b" ".join(head)):
+                self.is_damaged = True
                 break
             end = at + 1 + 2 * int(head[2])
             if end > len(lines):

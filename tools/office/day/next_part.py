@@ -10,11 +10,11 @@ from typing import Optional, Sequence
 
 from office.day import mending, processes
 from office.day.closures_file import blocked_text, closures_end, standing_of
-from office.day.folder import write_whole
 from office.day.instance import Instance
 from office.day.parts import Part
 from office.day.processes import Signals
 from office.day.program import run_on_files
+from office.day.safe_files import make_anew, open_or_make, sync, write_whole
 from office.refused import Refused, Silent
 
 
@@ -24,15 +24,6 @@ def rules_after(part: Part, instance: Instance) -> Optional[int]:
     end = closures_end(part.day)
     new = blocked_text(standing_of(part.day, instance, end))
     return end if new != blocked_text(part.closures(instance)) else None
-
-
-def sync(path: str) -> None:
-    """Has a file, or the names in a folder, on the disk."""
-    end = os.open(path, os.O_RDONLY)
-    try:
-        os.fsync(end)
-    finally:
-        os.close(end)
 
 
 class NewPart:
@@ -61,7 +52,7 @@ class NewPart:
         self.end_before()
         mending.mend(self.signals, self.program, self.made, self.instance, self.made.before)
         self.check()
-        os.close(os.open(self.made.minutes, os.O_WRONLY | os.O_CREAT, 0o640))
+        os.close(open_or_make(self.made.minutes, os.O_WRONLY, 0o640))
         sync(self.made.folder)
         os.rename(self.made.folder, self.target.folder)
         sync(self.day.path)
@@ -97,7 +88,7 @@ class NewPart:
 
     def print_into(self, path: str, *words: str) -> None:
         """Has the program print into a file, which is on the disk then."""
-        with open(path, "wb") as file:
+        with open(make_anew(path, 0o640), "wb") as file:
             status = run_on_files(self.signals, [*self.program, *words], stdout=file)
             os.fsync(file.fileno())
         if status != 0:

@@ -11,6 +11,7 @@ from typing import NamedTuple, Optional
 
 from office.day.folder import Day
 from office.day.lecture import Lecture
+from office.day.safe_files import make_anew, read_whole, share
 
 
 class AtWork(NamedTuple):
@@ -32,9 +33,8 @@ def keep_work(day: Day, work: AtWork) -> None:
     """Writes on what a planner works. What cannot be written is not said: an old file goes."""
     path, text = work_path(day, work.planner), json.dumps(work._asdict())
     try:
-        with open(path + ".new", "w", encoding="ascii") as file:
-            with contextlib.suppress(OSError):
-                os.fchmod(file.fileno(), 0o660)
+        with open(make_anew(path + ".new", 0o660), "w", encoding="ascii") as file:
+            share(file.fileno())
             file.write(text)
         os.replace(path + ".new", path)
     except OSError:
@@ -51,11 +51,10 @@ def end_work(day: Day, planner: int) -> None:
 def read_work(day: Day, planner: int) -> Optional[AtWork]:
     """On what a planner works; None if no draft of his is known."""
     try:
-        with open(work_path(day, planner), encoding="ascii") as file:
-            found = json.load(file)
+        found = json.loads(read_whole(work_path(day, planner)))
         lectures = tuple(Lecture(*lecture) for lecture in found["lectures"])
         return AtWork(planner, found["name"], found["since"], int(found["edits"]), lectures)
-    except (OSError, ValueError, KeyError, TypeError):
+    except (OSError, ValueError, KeyError, TypeError, RecursionError):
         return None
 
 

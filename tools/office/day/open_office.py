@@ -11,13 +11,15 @@ from typing import Optional
 from office.day import processes
 from office.day.closures_file import closures_end, closures_size
 from office.day.file_faults import POINT
-from office.day.folder import CHANGING, CLOSED, OPEN, REOPENING, STARTING, Day, write_whole
+from office.day.folder import CHANGING, CLOSED, OPEN, REOPENING, STARTING, Day
 from office.day.next_part import NewPart, rules_after
 from office.day.open_drafts import end_work
 from office.day.parts import Part
 from office.day.pipes import HeldSeats
 from office.day.processes import Signals, Stopped
-from office.refused import Refused, Silent
+from office.day.safe_files import has_loose_names, write_whole
+from office.day.web_beside import WebBeside
+from office.refused import MACHINE, Refused, Silent, reason_of
 from office.words.announce import announce
 
 # how many seconds those who sit have when the office is closed by a signal, and for the way to the
@@ -36,6 +38,7 @@ class Running:
         self.planners, self.lock, self.signals = planners, lock, signals
         self.program: list[str] = []
         self.seats = HeldSeats()
+        self.web = WebBeside([])
         self.desk: Optional[subprocess.Popen[bytes]] = None
         # how long the closures were when it was looked whether they change the rules, and when it
         # is looked again although they are as long as then
@@ -92,6 +95,7 @@ class Running:
         assert self.desk is not None
         while self.desk.poll() is None and not self.signals.count:
             self.signals.wait(PACE)
+            self.web.look()
             if closures_size(self.day) != self.looked or time.monotonic() > self.again:
                 self.look()
         if self.desk.poll() is None:
@@ -105,7 +109,8 @@ class Running:
         until = self.day.closes_at()
         if until is None:
             until = time.time() + GRACE
-            write_whole(self.day.closing, f"{until}\n".encode())
+            with contextlib.suppress(Refused):
+                write_whole(self.day.closing, f"{until}\n".encode())
         self.let_end(desk, until - time.time() + 1)
 
     def let_end(self, desk: subprocess.Popen[bytes], seconds: float) -> None:
@@ -129,9 +134,18 @@ class Running:
     def look(self) -> None:
         """Changes the rules, if something is blocked or lifted since they were made."""
         self.looked, self.again = closures_size(self.day), NEVER
-        taken = rules_after(self.part, self.part.instance())
+        try:
+            taken = rules_after(self.part, self.part.instance())
+        except (Refused, OSError) as fault:
+            self.rules_stay(reason_of(fault))
+            return
         if taken is not None:
             self.change(taken)
+
+    def rules_stay(self, why: str) -> None:
+        """Says why the rules cannot be changed just now. It is tried again."""
+        announce(f"the rules stay as they are, for now: {why}")
+        self.again = time.monotonic() + LATER
 
     def change(self, taken: int) -> None:
         """The desk ends, and another one begins with what it has left, less what cannot stand any
@@ -141,9 +155,7 @@ class Running:
         try:
             new.begin(taken)
         except (Refused, OSError) as fault:
-            why = str(fault) or "the program does not read the new ones"
-            announce(f"the rules stay as they are, for now: {why}")
-            self.again = time.monotonic() + LATER
+            self.rules_stay(reason_of(fault) or "the program does not read the new ones")
             return
         announce("the rules change: the desk ends, and another one opens")
         self.note(CHANGING)
@@ -179,18 +191,17 @@ def keep(running: Running, web_words: list[str]) -> int:
         f"open, seats 0 to {running.planners - 1}: office sit {day.path} PLANNER; "
         f"Ctrl-C, or office close {day.path}, closes it"
     )
-    web = processes.start(web_words, None) if web_words else None
+    if has_loose_names(day.path):
+        announce(f"others can put files of theirs in the place of the day's: chmod +t {day.path}")
+    running.web = WebBeside(web_words)
+    running.web.start()
     status = 0
     try:
         with contextlib.suppress(Stopped):
             status = running.keep()
     finally:
         running.forget()
-        if web is not None:
-            # it sees that the day is closed, and says so in its windows
-            with contextlib.suppress(subprocess.TimeoutExpired):
-                web.wait(processes.GRACE)
-            processes.end(web)
+        running.web.end()
     if status < 0 and not signals.count:
         announce(
             f"the desk has ended {processes.how_ended(status)}; "
@@ -200,4 +211,7 @@ def keep(running: Running, web_words: list[str]) -> int:
         f"closed; office close {day.path} writes the journal of the day "
         "and the timetable that it leaves"
     )
+    if status < 0 and not signals.count:
+        # who has killed it wants to know it, as a supervisor does
+        return MACHINE
     return max(0, status)

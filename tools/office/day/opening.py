@@ -20,18 +20,18 @@ from office.day.closures_file import (
     standing,
 )
 from office.day.desk_words import encoded
-from office.day.folder import CHECKING, Day, lock, write_whole
+from office.day.folder import CHECKING, SEATS, Day
 from office.day.instance import Instance, completion_words, read_instance
 from office.day.open_office import Running, keep
 from office.day.parts import FIRST, Part, last_part
 from office.day.pins import pins_path
 from office.day.processes import Signals, Stopped
 from office.day.program import build_words, program_words, run_on_files
-from office.refused import Refused, Silent
+from office.day.safe_files import lock, must_be_own, open_or_make, sync, write_whole
+from office.day.spare import keep_room, spare_path
+from office.refused import Refused, Silent, sentence
 from office.seat.seat import user_name
 from office.words.announce import announce
-
-SEATS = 64
 
 
 class Plan:
@@ -86,22 +86,31 @@ def plan_after(
     return plan
 
 
+def take_office(day: Day) -> int:
+    """Takes the lock of a day's office."""
+    try:
+        held = lock(day.office)
+        if held is not None:
+            must_be_own(held, day.office)
+    except OSError as fault:
+        raise Refused(f"cannot write into {day.path}: {sentence(fault)}") from None
+    if held is None:
+        raise Refused(f"an office is open in {day.path}")
+    return held
+
+
 def claim(day: Day) -> tuple[int, bool]:
     """Makes the folder of a day, and takes its lock: the lock, and whether the folder was made."""
     made = False
     try:
         os.mkdir(day.path, 0o700)
         made = True
+        sync(os.path.dirname(os.path.abspath(day.path)))
     except FileExistsError:
         pass
     except OSError as fault:
         raise Refused(f"cannot make {day.path}: {fault.strerror}") from None
-    try:
-        held = lock(day.office)
-    except OSError as fault:
-        raise Refused(f"cannot write into {day.path}: {fault.strerror}") from None
-    if held is None:
-        raise Refused(f"an office is open in {day.path}")
+    held = take_office(day)
     minutes = Part(day, FIRST).minutes
     if day.is_there() or (os.path.exists(minutes) and os.path.getsize(minutes)):
         os.close(held)
@@ -163,8 +172,9 @@ class Opening:
         self.check()
         names = "\n".join(completion_words(read_instance(day.instance)))
         write_whole(day.names, encoded(names + "\n"))
-        os.close(os.open(self.part.minutes, os.O_WRONLY | os.O_CREAT, 0o640))
+        os.close(open_or_make(self.part.minutes, os.O_WRONLY, 0o640))
         self.write_facts()
+        keep_room(day)
 
     def write_facts(self) -> None:
         plan = self.plan
@@ -255,6 +265,7 @@ class Opening:
             part.file("known.sol"),
             closures_path(day),
             pins_path(day),
+            spare_path(day),
             *map(day.file, FILES),
         ]
         for path in [*made, day.office]:

@@ -11,14 +11,23 @@ from typing import Any, NamedTuple, Optional
 from office.day.closure import Closure
 from office.day.closures_file import read_closures, standing_of
 from office.day.desk_words import words_of
-from office.day.folder import Day, read_text
+from office.day.folder import Day, is_count
 from office.day.instance import Instance, read_instance, read_solution
 from office.day.lecture import Lecture
 from office.day.minutes import Entry, Minutes
+from office.day.safe_files import read_text
+from office.day.shared_lines import is_number
 from office.refused import Refused
 
 FOLDER = re.compile(r"part([1-9][0-9]*)\Z")
 FIRST = 1
+
+
+def is_part(found: Any) -> bool:
+    """Whether a file has said when a part began, and how much it has taken up."""
+    if not isinstance(found, dict) or not isinstance(found.get("begun"), str):
+        return False
+    return is_count(found.get("closures", 0))
 
 
 class Part:
@@ -57,6 +66,8 @@ class Part:
             found = json.loads(read_text(self.facts_file))
         except (OSError, ValueError) as fault:
             raise Refused(f"cannot read {self.facts_file}: {fault}") from None
+        if not is_part(found):
+            raise Refused(f"cannot read {self.facts_file}: it has no facts of a part")
         return dict(found)
 
     def taken(self) -> int:
@@ -128,11 +139,12 @@ class Aside(NamedTuple):
         """What a line says that was set aside; None if it is another line."""
         _, is_aside, rest = line.partition(": set aside ")
         words = words_of(rest)
-        if not is_aside or len(words) <= 4:
+        course, room, day, period, *why = [*words, "", "", "", ""]
+        period = period.rstrip(":")
+        if not is_aside or len(words) <= 4 or not (is_number(day) and is_number(period)):
             return None
-        course, room, day, period, *why = words
-        lecture = Lecture(course, room, int(day), int(period.rstrip(":")))
-        return Aside(lecture, " ".join(why))
+        lecture = Lecture(course, room, int(day), int(period))
+        return Aside(lecture, " ".join(filter(None, why)))
 
 
 def read_aside(path: str) -> list[Aside]:
@@ -214,6 +226,14 @@ class DayMinutes:
         """Goes on to the next part, which is there. The minutes of this one grow no more, and were
         read to their end since then."""
         self._begin(self.part.next())
+
+
+def read_all_minutes(day: Day) -> list[tuple[Part, Minutes]]:
+    """The parts of a day, each with its minutes, which are read to their end."""
+    found = [(part, Minutes(part.minutes)) for part in parts_of(day)]
+    for _, minutes in found:
+        minutes.read_on()
+    return found
 
 
 def read_parts(day: Day) -> list[tuple[Part, list[Entry]]]:

@@ -12,7 +12,7 @@ from typing import NamedTuple
 from office.day.folder import Day
 from office.day.lecture import Slot
 from office.day.processes import now
-from office.day.shared_lines import add_line, read_lines
+from office.day.shared_lines import add_line, is_number, read_lines
 
 PIN, UNPIN = "pin", "unpin"
 Pinned = tuple[str, Slot]
@@ -36,7 +36,7 @@ def read_pins(day: Day) -> dict[Pinned, Pin]:
     """The pins of a day by course and slot."""
     found: dict[Pinned, Pin] = {}
     for time, act, course, at_day, period, name, why in read_lines(pins_path(day), 7):
-        if not (at_day.isdecimal() and period.isdecimal()):
+        if not (is_number(at_day) and is_number(period)):
             continue
         slot = int(at_day), int(period)
         found.pop((course, slot), None)

@@ -7,6 +7,7 @@ import os
 from typing import Callable, Optional
 
 from office.day.processes import Signals
+from office.day.safe_files import open_pipe, share
 
 
 def remove_pipes(seat: str) -> None:
@@ -23,13 +24,14 @@ class HeldSeat:
         for ending in (".in", ".out"):
             with contextlib.suppress(FileNotFoundError):
                 os.remove(seat + ending)
-            os.mkfifo(seat + ending)
-            os.chmod(seat + ending, 0o660)
+            os.mkfifo(seat + ending, 0o600)
         # a pipe that is opened at both ends waits for nobody, and takes a line before the desk has
         # opened it
-        self.both: Optional[int] = os.open(seat + ".in", os.O_RDWR)
-        self.lines = os.open(seat + ".in", os.O_WRONLY)
-        self.answers = os.open(seat + ".out", os.O_RDONLY | os.O_NONBLOCK)
+        self.both: Optional[int] = open_pipe(seat + ".in", os.O_RDWR)
+        self.lines = open_pipe(seat + ".in", os.O_WRONLY)
+        self.answers = open_pipe(seat + ".out", os.O_RDONLY)
+        for end in (self.lines, self.answers):
+            share(end)
 
     def leave_to_desk(self) -> None:
         """Closes the end that is the desk's, so that one can see whether the desk has it."""

@@ -12,10 +12,11 @@ from typing import Any, Mapping, Optional, Sequence
 from office.day import processes
 from office.day.desk_words import decoded
 from office.day.file_faults import NO_NAMES, POINT, explained
-from office.day.folder import write_whole
 from office.day.parts import Part
 from office.day.processes import Signals
+from office.day.safe_files import write_whole
 from office.refused import MACHINE, Refused, Silent
+from office.words.text import shown_lines
 
 # the folder that has `timedesk` and `office`
 HERE = os.path.abspath(os.path.join(os.path.dirname(__file__), "../../.."))
@@ -57,7 +58,7 @@ def build(program: list[str]) -> None:
 def tell(said: bytes, names: Mapping[str, str] = NO_NAMES) -> None:
     """Says what the program has said: why a file is refused, by its place in it."""
     with contextlib.suppress(OSError):
-        sys.stderr.write(explained(decoded(said), names))
+        sys.stderr.write(shown_lines(explained(decoded(said), names)))
         sys.stderr.flush()
 
 

@@ -11,10 +11,11 @@ import time
 from office.day import processes
 from office.day.closing import send
 from office.day.closures_file import closures_end
-from office.day.folder import CHECKING, CLOSED, REOPENING, Day, lock
+from office.day.folder import CHECKING, CLOSED, REOPENING, Day
 from office.day.next_part import NewPart, rules_after
 from office.day.open_drafts import end_work
 from office.day.open_office import Running, keep
+from office.day.opening import take_office
 from office.day.parts import Part, half_made, last_part
 from office.day.pipes import remove_pipes
 from office.day.processes import Signals, Stopped
@@ -42,9 +43,7 @@ def take_lock(day: Day) -> int:
     """Takes the lock of a day that can go on."""
     facts = day.facts()
     end_orphan(day)
-    held = lock(day.office)
-    if held is None:
-        raise Refused(f"an office is open in {day.path}")
+    held = take_office(day)
     if os.path.exists(day.end):
         os.close(held)
         raise Refused(f"{day.path} is closed: office open NEXT --after {day.path}")

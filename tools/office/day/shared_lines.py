@@ -4,11 +4,10 @@ from __future__ import annotations
 import contextlib
 import fcntl
 import os
-import stat
 from typing import Sequence
 
 from office.day.desk_words import encoded, words_of
-from office.day.folder import read_text
+from office.day.safe_files import open_or_make, read_text, share
 
 
 def one_line(text: str) -> str:
@@ -21,14 +20,11 @@ def add_line(path: str, fields: Sequence[str]) -> str:
     or nothing."""
     line = "\t".join(map(one_line, fields)) + "\n"
     try:
-        end = os.open(path, os.O_RDWR | os.O_CREAT | os.O_APPEND, 0o660)
+        end = open_or_make(path, os.O_RDWR | os.O_APPEND, 0o660)
     except OSError as fault:
         return fault.strerror or "the disk fails"
     try:
-        if stat.S_ISREG(os.fstat(end).st_mode):
-            with contextlib.suppress(OSError):
-                # only who made the file may
-                os.fchmod(end, 0o660)
+        share(end)
         fcntl.flock(end, fcntl.LOCK_EX)
         size = os.fstat(end).st_size
         # a line that was cut, as by a full disk, ends first
@@ -42,6 +38,11 @@ def add_line(path: str, fields: Sequence[str]) -> str:
     finally:
         os.close(end)
     return ""
+
+
+def is_number(text: str) -> bool:
+    """Whether a field is a number of this day."""
+    return text.isascii() and text.isdigit() and len(text) < 10
 
 
 def fields_of(text: str, count: int) -> list[list[str]]:

@@ -8,14 +8,14 @@ from typing import Optional
 from office.data.label_files import read_labels
 from office.day.closures_file import standing_of
 from office.day.costs import costs_in_words
-from office.day.folder import Day, is_locked
-from office.day.parts import FIRST, Part, instance_of, last_part, read_entries
+from office.day.folder import Day
+from office.day.parts import FIRST, Part, instance_of, last_part, read_all_minutes, read_entries
 from office.day.pins import read_pins
 from office.past.authors import read_pasts
 from office.past.replay import play_costs
 from office.past.timetable_at import read_at
 from office.refused import Refused
-from office.seat.seat import read_sitter
+from office.seat.seat import is_taken, read_sitter
 from office.seat.seat_log import SeatPast
 from office.words.closure_notices import closure_notice
 from office.words.text import counted, shown
@@ -49,19 +49,19 @@ def draft_of(past: SeatPast, is_open: bool) -> str:
 def of_whom(past: SeatPast) -> str:
     """Whose draft it is, if it is not that of who sat there last alone."""
     drafters = list(dict.fromkeys(past.drafters))
-    return "" if drafters in ([], [past.name]) else f" of {' and '.join(drafters)}"
+    return "" if drafters in ([], [past.name]) else f" of {' and '.join(map(shown, drafters))}"
 
 
 def seat_line(day: Day, planner: int, past: Optional[SeatPast], accepted: int) -> list[str]:
     """What is known of a seat, column by column."""
     name, since = read_sitter(day, planner)
-    sits = is_locked(day.sitter(planner))
-    who, when = (name or "somebody", since[11:16]) if sits else ("nobody", "")
+    sits = is_taken(day, planner)
+    who, when = (shown(name) or "somebody", shown(since[11:16])) if sits else ("nobody", "")
     if past is not None and past.state.has_left:
         who = "left for the day"
     if past is None:
         return [str(planner), who, when, "its log is closed to you", "", str(accepted)]
-    last = past.last[0][11:19]
+    last = shown(past.last[0][11:19])
     return [str(planner), who, when, draft_of(past, day.is_open()), last, str(accepted)]
 
 
@@ -89,6 +89,9 @@ def minutes_line(day: Day, pasts: list[Optional[SeatPast]]) -> str:
     is_full = any(past is not None and past.state.is_full for past in pasts)
     if is_full or os.path.exists(day.failing):
         return "minutes cannot be written: close the office, make room, and open a day after it"
+    damaged = [part.minutes for part, minutes in read_all_minutes(day) if minutes.is_damaged]
+    if damaged:
+        return f"{damaged[0]} is damaged: what stands behind these drafts is not read"
     room = os.statvfs(day.path)
     if room.f_bavail == 0:
         return "minutes: the disk is full"

@@ -28,7 +28,7 @@ def read_pasts(day: Day) -> list[Optional[SeatPast]]:
     for planner in range(day.facts()["planners"]):
         try:
             past = read_past(day.log(planner))
-        except PermissionError:
+        except OSError:
             pasts.append(None)
             continue
         bring_up(past, day, planner)

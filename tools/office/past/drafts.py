@@ -13,6 +13,7 @@ from office.day.parts import Part, read_parts
 from office.day.shifts import Shift, shifts_of
 from office.day.timetable import Timetable
 from office.past.authors import NO_FACTS, CommitFacts, read_commit_facts
+from office.refused import CONTENT, Refused
 from office.seat.seat import read_sitter
 
 CourseRow = dict[Slot, str]
@@ -96,7 +97,11 @@ def drafts_of(part: Part, entries: Iterable[Entry], facts: dict[int, CommitFacts
     for entry in entries:
         name, time, why = facts.get(entry.number, NO_FACTS)
         name = name or read_sitter(part.day, entry.planner)[0]
-        shifts = make_draft(timetable, entry.edits)
+        try:
+            shifts = make_draft(timetable, entry.edits)
+        except (ValueError, KeyError, IndexError):
+            fault = f"cannot read {part.minutes}: draft {entry.number} has edits of no such day"
+            raise Refused(fault, CONTENT) from None
         found.append(Draft(entry.number, entry.planner, name, time, why, entry.edits, shifts))
     return found
 

@@ -33,7 +33,7 @@ def unfinished_before(day: Day, planner: int) -> tuple[str, list[Edit]]:
     for before in days_before(day):
         try:
             past = read_past(before.log(planner))
-        except PermissionError:
+        except OSError:
             break
         past.settle(read_entries(before), planner)
         if past.unfinished():

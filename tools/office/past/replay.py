@@ -38,7 +38,8 @@ def answers(part: Part, lines: list[str]) -> list[Answer]:
     status, printed = left.run("run", left.instance, "-", *part.start_words(), text=text)
     found = list(map(read_answer, decoded(printed).split("\n")[:-1]))
     if status != 0 or len(found) != len(lines):
-        raise Refused(f"the program does not play the minutes of {part.day.path}", CONTENT)
+        start = f" from {part.start}" if part.has_start() else ""
+        raise Refused(f"the program does not play the drafts of {part.minutes}{start}", CONTENT)
     for line, answer in zip(lines, found):
         if line == "0 commit" and not isinstance(answer, Committed):
             reason = f"the minutes of {part.day.path} do not fit its start: {answer}"

@@ -6,7 +6,8 @@ import os
 from typing import Optional
 
 from office.data.label_files import read_labels
-from office.day.folder import Day, is_locked
+from office.day.folder import Day
+from office.day.safe_files import is_locked
 from office.past.authors import read_pasts
 from office.past.drafts import Draft, read_drafts
 from office.past.log import head_words

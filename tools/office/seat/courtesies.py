@@ -4,13 +4,14 @@ from __future__ import annotations
 
 from typing import Iterable, NamedTuple, Optional
 
-from office.day.folder import Day, file_size, is_locked
+from office.day.folder import Day
 from office.day.lecture import Lecture
 from office.day.open_drafts import AtWork, OthersAtWork, end_work, keep_work, read_work
 from office.day.pins import Pin, Pinned, pin, pins_path, read_pins, unpin
 from office.day.processes import now
+from office.day.safe_files import file_size
 from office.day.shifts import Shift
-from office.seat.seat import Seat, read_sitter
+from office.seat.seat import Seat, is_taken, read_sitter
 
 
 class SeatStatus(NamedTuple):
@@ -29,7 +30,7 @@ def who_sits(day: Day, planners: int) -> list[SeatStatus]:
         SeatStatus(
             planner,
             *read_sitter(day, planner),
-            is_locked(day.sitter(planner)),
+            is_taken(day, planner),
             read_work(day, planner),
         )
         for planner in range(planners)

@@ -12,14 +12,17 @@ from typing import Callable, Optional, Union
 
 from office.day.desk_words import decoded, encoded, has_words
 from office.day.edits import Edit
-from office.day.folder import Day, lock, read_text
+from office.day.folder import Day
 from office.day.open_drafts import end_work
 from office.day.parts import last_part, read_parts
 from office.day.processes import now
+from office.day.safe_files import is_locked, lock, open_pipe, read_text
 from office.refused import Refused
 from office.seat.answers import Answer, read_answer
 from office.seat.calls import Turn, read_call
 from office.seat.seat_log import SeatLog, read_past, settle
+from office.seat.waits import LAST, PATIENCE, SAID_AFTER, is_ready, wait_for_desk
+from office.words.text import shown
 
 
 class DeskEnded(Exception):
@@ -36,21 +39,24 @@ class NoAnswer(Exception):
 
 DEAD_DESK = "the desk has ended; committed drafts are on the disk"
 DEAD = f"{DEAD_DESK}, and open edits are offered again after the next opening"
-# a desk that says nothing for so many seconds is not waited for; after the first ones it is said
-# how long it has been
-PATIENCE = 30.0
-SAID_AFTER = 1.0
-# how many seconds the last answers of a desk that ends are waited for, and how long it takes to
-# look again whether the next one is there
-LAST, AGAIN = 10.0, 0.05
 # no pipe
 CLOSED = -1
 
 
 def read_sitter(day: Day, planner: int) -> tuple[str, str]:
     """Who sits at a seat, or sat there last, and since when."""
-    lines = read_text(day.sitter(planner)).split("\n")
+    try:
+        lines = read_text(day.sitter(planner)).split("\n")
+    except OSError:
+        return "", ""
     return (lines[0], lines[1]) if len(lines) > 1 else ("", "")
+
+
+def is_taken(day: Day, planner: int) -> bool:
+    """Whether somebody sits at a seat; not if that cannot be seen."""
+    with contextlib.suppress(OSError):
+        return is_locked(day.sitter(planner))
+    return False
 
 
 def user_name() -> str:
@@ -58,24 +64,6 @@ def user_name() -> str:
         return getpass.getuser()
     except (KeyError, OSError):
         return "somebody"
-
-
-def wait_for_desk(day: Day, waits: Callable[[float], None]) -> None:
-    """Waits as long as the office changes the rules, and tells `waits` how long it has been."""
-    begun = time.monotonic()
-    while day.is_changing():
-        time.sleep(AGAIN)
-        waited = time.monotonic() - begun
-        if waited >= SAID_AFTER:
-            waits(waited)
-
-
-def is_ready(end: int, sign: int, seconds: float) -> bool:
-    """Whether a pipe can be read or written within so many seconds. Unlike `select` it takes any
-    number of a descriptor, so that one process may sit at many seats."""
-    poll = select.poll()
-    poll.register(end, sign)
-    return bool(poll.poll(max(0.0, seconds) * 1000))
 
 
 class Seat:
@@ -93,28 +81,42 @@ class Seat:
         if not day.is_ready():
             why = "the office is not open yet in" if day.is_open() else "no office is open in"
             raise Refused(f"{why} {day.path}")
-        self._lock = self._take_lock()
-        # the part of the day of which the desk answers here
-        self.part = last_part(day)
-        self._lines, self.answers = self._open_pipes()
-        self.log = SeatLog(day.log(planner))
-        # what the log said when this client had received what was under way
-        self.past = past = read_past(day.log(planner))
-        self.state, self.waiting, self.offer = past.state, past.waiting, past.offer
+        self._lines = self.answers = self._lock = CLOSED
+        # what is closed when the planner goes away, or cannot sit down
+        self._left = contextlib.ExitStack()
+        self._left.callback(self._close_ends)
+        self._received = bytearray()
         # whether the last answer was as it had to be, by what was known
         self.fits = True
-        # whose draft is here, if it is somebody else's
-        self.owner = past.owner() if past.owner() != self.name else ""
-        self._received = b""
         # the drafts that were accepted, and the lines that were sent, of which no answer came
         # before the last part ended
         self.settled: list[int] = []
         self.unanswered: list[str] = []
+        try:
+            self._sit_down()
+        except BaseException:
+            self._left.close()
+            raise
+
+    def _sit_down(self) -> None:
+        """Takes the seat, opens its pipes, and reads its log."""
+        self._take_lock()
+        # the part of the day of which the desk answers here
+        self.part = last_part(self.day)
+        self._lines, self.answers = self._open_pipes()
+        log = self.day.log(self.planner)
+        self.log = SeatLog(log)
+        self._left.callback(self.log.close)
+        # what the log said when this client had received what was under way
+        self.past = past = read_past(log)
+        self.state, self.waiting, self.offer = past.state, past.waiting, past.offer
+        # whose draft is here, if it is somebody else's
+        self.owner = past.owner() if past.owner() != self.name else ""
         if past.part != self.part.number:
             self._begin_part()
         self.log.noted(f"sits {self.name}")
 
-    def _take_lock(self) -> int:
+    def _take_lock(self) -> None:
         path = self.day.sitter(self.planner)
         try:
             found = lock(path)
@@ -122,22 +124,41 @@ class Seat:
             raise Refused(f"cannot sit in {self.day.path}: {fault.strerror}") from None
         if found is None:
             name, since = read_sitter(self.day, self.planner)
-            raise Refused(f"{name or 'somebody'} sits at seat {self.planner}, since {since[11:16]}")
+            who = shown(name) or "somebody"
+            raise Refused(f"{who} sits at seat {self.planner}, since {shown(since[11:16])}")
+        self._lock = found
+        # on a disk that is full one sits without a name
         with contextlib.suppress(OSError):
             os.fchmod(found, 0o660)
-        os.ftruncate(found, 0)
-        os.pwrite(found, f"{self.name}\n{now()}\n{os.getpid()}\n".encode(), 0)
-        return found
+        with contextlib.suppress(OSError):
+            os.ftruncate(found, 0)
+            os.pwrite(found, encoded(f"{self.name}\n{now()}\n{os.getpid()}\n"), 0)
 
     def _open_pipes(self) -> tuple[int, int]:
         seat = self.day.seat(self.planner)
         try:
-            lines = os.open(seat + ".in", os.O_WRONLY | os.O_NONBLOCK)
-            return lines, os.open(seat + ".out", os.O_RDONLY | os.O_NONBLOCK)
+            lines = open_pipe(seat + ".in", os.O_WRONLY)
         except OSError as fault:
-            if fault.errno in (errno.ENXIO, errno.ENOENT):
-                raise Refused(f"nobody answers at seat {self.planner}: it has ended") from None
-            raise Refused(f"cannot sit at seat {self.planner}: {fault.strerror}") from None
+            raise self._silent(fault) from None
+        try:
+            return lines, open_pipe(seat + ".out", os.O_RDONLY)
+        except OSError as fault:
+            os.close(lines)
+            raise self._silent(fault) from None
+
+    def _silent(self, fault: OSError) -> Refused:
+        """Why nobody can sit at the seat whose pipes cannot be opened."""
+        if fault.errno in (errno.ENXIO, errno.ENOENT):
+            return Refused(f"nobody answers at seat {self.planner}: it has ended")
+        return Refused(f"cannot sit at seat {self.planner}: {fault.strerror}")
+
+    def _close_ends(self) -> None:
+        """Closes what is open, the lock last."""
+        ends = self._lines, self.answers, self._lock
+        self._lines = self.answers = self._lock = CLOSED
+        for end in ends:
+            if end != CLOSED:
+                os.close(end)
 
     def go(self) -> None:
         """Goes away: the desk goes on, and an open draft stays as it is."""
@@ -145,10 +166,7 @@ class Seat:
             self.log.noted("went away")
         if not self.state.is_open:
             end_work(self.day, self.planner)
-        for end in (self._lines, self.answers, self._lock):
-            if end != CLOSED:
-                os.close(end)
-        self.log.close()
+        self._left.close()
 
     # from one part of the day to the next
 
@@ -182,7 +200,7 @@ class Seat:
             wait_for_desk(self.day, self.waits)
             if not self.day.is_ready():
                 raise DeskEnded
-            self.part, self._received = last_part(self.day), b""
+            self.part, self._received = last_part(self.day), bytearray()
             try:
                 self._lines, self.answers = self._open_pipes()
                 break
@@ -228,21 +246,26 @@ class Seat:
         self._write(encoded(line) + b"\n")
 
     def _write(self, rest: bytes) -> None:
+        """Sends bytes. A desk whose answers nobody has read takes no line: they are taken in."""
+        ends = (self._lines, select.POLLOUT), (self.answers, select.POLLIN)
         try:
             while rest:
-                if not self._wait(self._lines, select.POLLOUT, PATIENCE):
+                if not self._wait(PATIENCE, *ends):
                     raise NoAnswer
-                with contextlib.suppress(BlockingIOError):
-                    rest = rest[os.write(self._lines, rest) :]
+                if is_ready(0, ends[0]):
+                    with contextlib.suppress(BlockingIOError):
+                        rest = rest[os.write(self._lines, rest) :]
+                else:
+                    self._take_in()
         except BrokenPipeError:
             raise DeskEnded from None
 
-    def _wait(self, end: int, sign: int, seconds: float) -> bool:
-        """Waits for a pipe, and tells `waits` how long it has been."""
+    def _wait(self, seconds: float, *ends: tuple[int, int]) -> bool:
+        """Waits for one of some pipes, and tells `waits` how long it has been."""
         begun = time.monotonic()
         while True:
             waited = time.monotonic() - begun
-            if is_ready(end, sign, min(SAID_AFTER / 4, seconds - waited)):
+            if is_ready(min(SAID_AFTER / 4, seconds - waited), *ends):
                 return True
             waited = time.monotonic() - begun
             if waited >= seconds:
@@ -252,20 +275,26 @@ class Seat:
 
     def has_more(self) -> bool:
         """Whether the desk has said something that was not read; its end counts, too."""
-        return is_ready(self.answers, select.POLLIN, 0)
+        return is_ready(0, (self.answers, select.POLLIN))
+
+    def _take_in(self) -> None:
+        """Takes in what the desk has said by now."""
+        with contextlib.suppress(BlockingIOError):
+            more = os.read(self.answers, 65536)
+            if not more:
+                raise DeskEnded
+            self._received += more
 
     def read(self, seconds: float) -> Optional[str]:
         """The next line of the desk, as it came; None if none has come in so many seconds."""
         until = time.monotonic() + seconds
         while b"\n" not in self._received:
-            if not self._wait(self.answers, select.POLLIN, until - time.monotonic()):
+            if not self._wait(until - time.monotonic(), (self.answers, select.POLLIN)):
                 return None
-            with contextlib.suppress(BlockingIOError):
-                more = os.read(self.answers, 65536)
-                if not more:
-                    raise DeskEnded
-                self._received += more
-        line, self._received = self._received.split(b"\n", 1)
+            self._take_in()
+        at = self._received.index(b"\n")
+        line = bytes(self._received[:at])
+        del self._received[: at + 1]
         return decoded(line)
 
     def take(self, text: str) -> Answer:

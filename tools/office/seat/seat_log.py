@@ -11,14 +11,15 @@ from __future__ import annotations
 import contextlib
 import json
 import os
+import re
 from dataclasses import dataclass, field
 from typing import Optional
 
 from office.day.desk_words import encoded, has_words
 from office.day.edits import Edit, edits_in
-from office.day.folder import read_text
 from office.day.minutes import Entry
 from office.day.processes import now
+from office.day.safe_files import open_or_make, read_text
 from office.refused import Refused
 from office.seat.answers import (
     Answer,
@@ -28,6 +29,7 @@ from office.seat.answers import (
     PricesAre,
     Redone,
     Said,
+    SlotsAre,
     Stale,
     Undone,
     read_answer,
@@ -36,9 +38,14 @@ from office.seat.calls import Look, Turn, read_call
 from office.seat.state import SeatState
 
 SENT, RECEIVED, NOTED = ">", "<", "="
+# the end of a line of which the rest is lost
+CUT = "\x18"
+# no file
+CLOSED = -1
 # answers to looks can be long, and are not what a draft is made of: so much of them is in the log
 LONGEST_LOOK = 200
-LONG = (LecturesAre, PricesAre, MissingAre)
+LONG = (LecturesAre, PricesAre, MissingAre, SlotsAre)
+COMMITTED = re.compile(r"committed [0-9]{1,9}\Z")
 # answers after which a planner has lost something if they are not on the disk
 KEPT = (Undone, Committed, Redone, Stale)
 
@@ -48,15 +55,18 @@ class SeatLog:
 
     def __init__(self, path: str) -> None:
         try:
-            self.end = os.open(path, os.O_RDWR | os.O_CREAT | os.O_APPEND, 0o600)
+            self.end = open_or_make(path, os.O_RDWR | os.O_APPEND, 0o600)
         except PermissionError:
             raise Refused(f"the log {path} is another planner's: this seat is his") from None
         except OSError as fault:
             raise Refused(f"cannot write {path}: {fault.strerror}") from None
+        if os.fstat(self.end).st_uid != os.geteuid():
+            os.close(self.end)
+            raise Refused(f"the log {path} is another planner's: this seat is his")
         size = os.fstat(self.end).st_size
-        # what is to be written; a line that was cut by a crash ends first
+        # what is to be written; a line that was cut, as by a full disk, is marked first
         is_cut = size and os.pread(self.end, 1, size - 1) != b"\n"
-        self._unwritten = b"\n" if is_cut else b""
+        self._unwritten = encoded(CUT) + b"\n" if is_cut else b""
         # why not all could be written
         self.fault = ""
 
@@ -96,7 +106,9 @@ class SeatLog:
             self.fault = fault.strerror or "the disk fails"
 
     def close(self) -> None:
+        """Nothing is written from now on."""
         os.close(self.end)
+        self.end = CLOSED
 
 
 @dataclass
@@ -128,9 +140,13 @@ class SeatPast:
     def take(self, line: str) -> None:
         """Takes up a line of the log."""
         parts = line.split(" ", 2)
-        if len(parts) != 3:
+        if len(parts) != 3 or is_cut(parts[1], parts[2]):
             return
-        time, sign, text = parts
+        # what somebody has written by hand has no sense
+        with contextlib.suppress(ValueError, IndexError):
+            self._take(*parts)
+
+    def _take(self, time: str, sign: str, text: str) -> None:
         self.last = (time, text)
         if sign == SENT:
             if has_words(encoded(text)):
@@ -218,6 +234,12 @@ class SeatPast:
         return self.state.unfinished() + edits_in(self.waiting)
 
 
+def is_cut(sign: str, text: str) -> bool:
+    """Whether the rest of a line is lost: the next one may tell what it was."""
+    is_short = sign == RECEIVED and text.startswith("committed") and not COMMITTED.match(text)
+    return is_short or text.endswith(CUT)
+
+
 def accept(state: SeatState, waiting: list[str], number: int) -> bool:
     """Takes up that the commit was accepted that waits for its answer, with the edits that were
     sent before it; answers whether one waits."""
@@ -240,6 +262,7 @@ def settle(state: SeatState, waiting: list[str], entries: list[Entry], planner: 
 def read_past(path: str) -> SeatPast:
     """What the log of a seat says; nothing, if there is none."""
     past = SeatPast()
-    for line in read_text(path).split("\n"):
+    # a last line without an end is written just now, or was cut
+    for line in read_text(path).split("\n")[:-1]:
         past.take(line)
     return past

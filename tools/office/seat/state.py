@@ -49,6 +49,8 @@ class SeatState:
         self.ended_standing: list[Standing] = []
         # the edits that the redo by which the draft was opened could not make again
         self.left_out: list[LeftOut] = []
+        # the same, until the planner does something else: only then he has read what was refused
+        self.unread: list[Edit] = []
         # the edits that were taken back one after another, and can be made again
         self.undone: list[Edit] = []
         self.accepted: list[int] = []
@@ -73,7 +75,8 @@ class SeatState:
     def unfinished(self) -> list[Edit]:
         """The edits that were made and neither accepted nor given up."""
         found = self.edits if self.is_open else self.ended
-        return [*found, *(edit for edit in self.again if edit not in found)]
+        others = list(dict.fromkeys([*self.again, *self.unread]))
+        return [*found, *(edit for edit in others if edit not in found)]
 
     # what is fed
 
@@ -82,10 +85,12 @@ class SeatState:
         if call is None or answer in WANTING or isinstance(answer, BadLine):
             # nothing has changed by it
             return True
-        if isinstance(call, Edit):
-            return self._edit(call, answer)
         if isinstance(call, Look):
             return self.timetables is None or self.timetables.fits(call, answer)
+        if call not in (Turn.STATUS, Turn.HELP):
+            self.unread = []
+        if isinstance(call, Edit):
+            return self._edit(call, answer)
         return TURNS[call](self, answer)
 
     def accept(self, number: int) -> None:
@@ -95,7 +100,7 @@ class SeatState:
 
     def forget(self) -> None:
         """The edits of the last draft are given up. The desk would still make them again."""
-        self.ended_standing, self.again = [], []
+        self.ended_standing, self.again, self.unread = [], [], []
 
     def begin_part(self, offset: int, waiting: Sequence[str]) -> None:
         """Another part of the day begins, after so many accepted drafts. A draft that is open is
@@ -103,7 +108,7 @@ class SeatState:
         kept = self.unfinished() + edits_in(waiting)
         is_cut = self.is_open or bool(self.again) or kept != self.ended
         self._end(keeps=True)
-        self.offset, self.has_left = offset, False
+        self.offset, self.has_left, self.unread = offset, False, []
         if is_cut:
             self.ended_made = self.again = kept
             self.ended_standing = [Standing(edit, edit.inverse()) for edit in kept]
@@ -220,6 +225,7 @@ class SeatState:
         is_all = answer.of == len(ended) and answer.made == len(made)
         fits = self._begin(made)
         self.left_out = answer.refused
+        self.unread = [one.edit for one in answer.refused]
         return fits and is_all and not was_open
 
     def _commit(self, answer: Answer) -> bool:

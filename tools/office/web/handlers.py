@@ -3,23 +3,29 @@ from __future__ import annotations
 
 import asyncio
 import json
+import re
 import sys
 import traceback
+from asyncio import Future
 from typing import Any, Optional, TYPE_CHECKING
 
 import tornado.iostream
 import tornado.web
 from tornado import httputil
 
+from office.web.connections import TAKES, must_take, stream_of
 from office.web.guard import ALWAYS, Fault, Head, media_type
+from office.web.seat_faults import fault_of
 
 if TYPE_CHECKING:
     from office.web.server import Office
     from office.web.windows import Window
 
-# seconds between two signs of life, and that one who listens may take to hear something
-ALIVE, TAKES = 15.0, 20.0
+# seconds between two signs of life
+ALIVE = 15.0
 WINDOW = "X-Window"
+# half a letter; those that stand for the bytes of a name are none
+HALF = re.compile("[\ud800-\udc7f\udd00-\udfff]")
 Data = dict[str, Any]
 
 
@@ -28,6 +34,17 @@ def head_of(request: httputil.HTTPServerRequest) -> Head:
     for name, value in request.headers.get_all():
         fields.setdefault(name.lower(), []).append(value)
     return Head(request.method or "", request.path, request.query, fields)
+
+
+def whole(found: Any) -> Any:
+    """Data without halves of letters, which nothing can be written with."""
+    if isinstance(found, str):
+        return HALF.sub("\N{REPLACEMENT CHARACTER}", found)
+    if isinstance(found, list):
+        return [whole(one) for one in found]
+    if isinstance(found, dict):
+        return {whole(name): whole(one) for name, one in found.items()}
+    return found
 
 
 def json_of(data: Any) -> bytes:
@@ -71,6 +88,11 @@ class Handler(tornado.web.RequestHandler):
         self.set_header("Content-Type", "application/json")
         self.write(json_of(data))
 
+    def finish(self, chunk: Any = None) -> Future[None]:
+        sent = super().finish(chunk)
+        must_take(self.request, sent)
+        return sent
+
     def write_error(self, status_code: int, **more: Any) -> None:
         self.finish(json_of({"fault": f"status {status_code}"}))
 
@@ -102,10 +124,12 @@ class PageFile(Handler):
 class Keyed(Handler):
     """A request of somebody who has a key."""
 
+    listens = False
+
     def check(self) -> None:
         self.office.guard.check_origin(self.asked)
         self.who = self.office.guard.who(self.asked)
-        self.office.connections.is_known(self.request)
+        self.office.connections.is_known(self.request, self.who, self.listens)
 
     @property
     def window(self) -> str:
@@ -134,11 +158,13 @@ class Verb(Keyed):
             self.answer(await self.office.answer(self.who, self.window, verb, data))
         except Fault as fault:
             self.refuse(fault)
+        except Exception as thrown:
+            self.refuse(fault_of(thrown))
 
     def read_body(self) -> Data:
         """What the request says."""
         try:
-            found = json.loads(self.said.decode("utf-8"))
+            found = whole(json.loads(self.said.decode("utf-8")))
         except (ValueError, RecursionError):
             raise Fault(400, "no JSON") from None
         if not isinstance(found, dict):
@@ -149,6 +175,7 @@ class Verb(Keyed):
 class NewsStream(Keyed):
     """What changes, a line of JSON each, as long as the window listens."""
 
+    listens = True
     listened: Optional[Window] = None
 
     def check(self) -> None:
@@ -174,8 +201,10 @@ class NewsStream(Keyed):
                 if event is None:
                     break
                 await self.tell(json_of(event) + b"\n" if event else b"\n")
-        except (tornado.iostream.StreamClosedError, asyncio.TimeoutError):
+        except tornado.iostream.StreamClosedError:
             pass
+        except asyncio.TimeoutError:
+            stream_of(self.request).close()
         finally:
             listened.end()
 

@@ -5,26 +5,30 @@ import contextlib
 import copy
 from typing import Any, Optional
 
+from office.day.edits import Edit
 from office.day.folder import Day
 from office.day.parts import DayMinutes
 from office.day.timetable import Timetable
+from office.refused import Refused
 from office.web.frame import Frame
 from office.web.guard import Fault
 from office.web.verbs import Request
 from office.web.windows import Window, Windows
 from office.work.week import View, all_views, blocked_at, by_slot, of_view
 
-# so many may read at once
-MOST = 200
+# so many may read at once; one more lets go the one that has been there longest
+MOST = 1000
 Data = dict[str, Any]
 
 
 class Readers:
     """Those who have the reader's link."""
 
+    called = "who reads"
+
     def __init__(self, day: Day, frame: Frame) -> None:
         self.frame = frame
-        self.windows = Windows(MOST)
+        self.windows = Windows(MOST, makes_room=True)
         self.minutes = DayMinutes(day)
         self.pictures = 0
         self._begin()
@@ -45,14 +49,21 @@ class Readers:
             # what a part has is whole once the next one is there
             is_last = self.minutes.part.is_last()
             entries = self.minutes.read_on()
-            for entry in entries:
-                for edit in entry.edits:
-                    self.timetable.make(edit)
+            self._make([edit for entry in entries for edit in entry.edits])
             is_new = is_new or bool(entries) or not is_last
             if is_last:
                 return is_new
             self.minutes.step()
             self._begin()
+
+    def _make(self, edits: list[Edit]) -> None:
+        """Makes the edits of accepted drafts."""
+        for edit in edits:
+            try:
+                self.timetable.make(edit)
+            except (ValueError, KeyError, IndexError):
+                path = self.minutes.part.minutes
+                raise Refused(f"{path} is damaged: {edit} is no edit of this day") from None
 
     async def answer(self, window: Window, verb: str, data: Data) -> Data:
         request = Request(self.instance, data)

@@ -2,14 +2,25 @@
 from __future__ import annotations
 
 import os
+import re
 import secrets
 import time
 from typing import NamedTuple, Optional
 
-from office.day.folder import Day, is_locked, lock, read_text, write_whole
-from office.refused import Refused
+from office.day.folder import Day
+from office.day.safe_files import (
+    is_locked,
+    lock,
+    must_be_own,
+    must_be_secret,
+    read_text,
+    write_whole,
+)
+from office.refused import Refused, sentence
 
 READER = "reader"
+# a key as it is made
+KEY = re.compile(r"[A-Za-z0-9_-]{32,200}\Z")
 # bytes of a key: 192 bits; seconds that a server may take to begin
 LONG, BEGINS = 24, 10.0
 
@@ -35,9 +46,11 @@ def key_names(day: Day) -> list[str]:
 def read_file(day: Day) -> dict[str, str]:
     """The keys that a day has on the disk."""
     try:
-        lines = [line.split() for line in read_text(file_of(day)).split("\n")]
+        lines = [line.split() for line in read_text(file_of(day), must_be_secret).split("\n")]
     except PermissionError:
         raise Refused(f"the keys of {day.path} are closed to you") from None
+    except OSError as fault:
+        raise Refused(f"cannot read {sentence(fault)}") from None
     return {line[0]: line[1] for line in lines if len(line) == 2}
 
 
@@ -54,16 +67,34 @@ def keys_before(day: Day) -> dict[str, str]:
     return {}
 
 
-def read_keys(day: Day) -> Keys:
-    """The keys of a day. Those that it lacks are taken from the day before, or made."""
+def check_keys(day: Day, keys: Keys) -> None:
+    """Refuses keys that can be guessed, and two that are the same."""
+    names: dict[str, str] = {}
+    for name, key in keys.by_name.items():
+        if not KEY.match(key):
+            told = f"the key of {name} is none that was made by `--new-key {name}`"
+            raise Refused(f"cannot take {file_of(day)}: {told}")
+        if names.setdefault(key, name) != name:
+            told = f"{names[key]} and {name} have the same key: `--new-key {name}` makes one"
+            raise Refused(f"cannot take {file_of(day)}: {told}")
+
+
+def read_keys(day: Day, anew: Optional[str] = None) -> Keys:
+    """The keys of a day. Those that it lacks are taken from the day before, or made; one is made
+    anew."""
     found = read_file(day)
+    if anew is not None:
+        found[anew] = secrets.token_urlsafe(LONG)
+        write_keys(day, found)
     wanted = key_names(day)
     if any(name not in found for name in wanted):
         before = keys_before(day)
         for name in wanted:
             found.setdefault(name, before.get(name) or secrets.token_urlsafe(LONG))
         write_keys(day, found)
-    return Keys({name: found[name] for name in wanted})
+    keys = Keys({name: found[name] for name in wanted})
+    check_keys(day, keys)
+    return keys
 
 
 def write_keys(day: Day, found: dict[str, str]) -> None:
@@ -72,9 +103,11 @@ def write_keys(day: Day, found: dict[str, str]) -> None:
 
 def lock_server(day: Day) -> int:
     """Takes the place of the day's one server."""
-    held = lock(day.file("web"))
+    path = day.file("web")
+    held = lock(path, 0o640)
     if held is None:
         raise Refused(f"the seats of {day.path} are served already: office web {day.path} --links")
+    must_be_own(held, path)
     # where an earlier one has served them is no address any more
     os.truncate(held, 0)
     return held
@@ -84,7 +117,7 @@ def served_at(day: Day) -> Optional[str]:
     """Where the seats are served now. A server that begins just now is waited for."""
     until = time.monotonic() + BEGINS
     while is_locked(day.file("web")) and time.monotonic() < until:
-        base = read_text(day.file("web")).strip()
+        base = read_text(day.file("web"), must_be_own).strip()
         if base:
             return base
         time.sleep(0.05)
@@ -111,10 +144,10 @@ def print_links(day: Day) -> int:
 def make_key(day: Day, name: str) -> int:
     """Makes a new key; the link that there was leads nowhere any more. A server that runs takes it
     up by itself."""
-    keys = read_keys(day).by_name
-    if name not in keys:
-        raise Refused(f"{day.path} has no seat {name}: its links are of {', '.join(keys)}")
-    write_keys(day, {**keys, name: secrets.token_urlsafe(LONG)})
+    names = key_names(day)
+    if name not in names:
+        raise Refused(f"{day.path} has no seat {name}: its links are of {', '.join(names)}")
+    read_keys(day, name)
     base = served_at(day)
     if base is None:
         print(f"a new key is made: office web {day.path} prints its link")

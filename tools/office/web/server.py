@@ -4,27 +4,24 @@ from __future__ import annotations
 import asyncio
 import contextlib
 import os
-import resource
 import signal
 import socket as sockets
 import time
-from collections import OrderedDict
 from typing import Any, Optional
 
-import tornado.httpserver
 import tornado.netutil
-from tornado import httputil
-from tornado.iostream import IOStream
 
 from office.data.label_files import Watched
 from office.day.folder import Day
 from office.day.parts import instance_of
 from office.refused import Refused
 from office.web.action_names import BrowserKeyNames
+from office.web.connections import Connections, Listener, allow_files
 from office.web.frame import Frame, PageWording, isolated
 from office.web.guard import BODY, HEAD, Guard, read_logins
 from office.web.handlers import application
 from office.web.launch import Served
+from office.web.look_faults import LookFaults
 from office.web.readers import Readers
 from office.web.seat_keys import READER, file_of, links_of, lock_server, read_keys
 from office.web.sitter import Sitter
@@ -33,8 +30,6 @@ from office.web.windows import Window
 
 # seconds in which a head and a body have to come, and between two looks for news
 COMES, TICK = 10.0, 0.25
-# connections of strangers at once; files that the process may have open
-STRANGERS, FILES = 500, 4096
 # a path of a Unix socket has so many bytes at most
 LONGEST_PATH = 107
 # how long the windows have to hear that all is over
@@ -42,47 +37,20 @@ FAREWELL = 0.3
 Data = dict[str, Any]
 
 
-class Connections:
-    """The connections of which no request has had a key. The oldest one makes room, so that stalled
-    ones keep nobody out."""
-
-    def __init__(self) -> None:
-        self._strangers: OrderedDict[IOStream, None] = OrderedDict()
-
-    def begin(self, stream: IOStream) -> None:
-        for old in [one for one in self._strangers if one.closed()]:
-            self._strangers.pop(old)
-        self._strangers[stream] = None
-        if len(self._strangers) > STRANGERS:
-            self._strangers.popitem(last=False)[0].close()
-
-    def is_known(self, request: httputil.HTTPServerRequest) -> None:
-        self._strangers.pop(request.connection.stream, None)  # type: ignore[union-attr]
-
-
-class Listener(tornado.httpserver.HTTPServer):
-    """A server that knows its connections."""
-
-    connections: Connections
-
-    def handle_stream(self, stream: IOStream, address: Any) -> None:
-        self.connections.begin(stream)
-        super().handle_stream(stream, address)
-
-
 class Office:
     """The seats of a day, those who read, and who listens."""
 
-    def __init__(self, day: Day, guard: Guard) -> None:
+    def __init__(self, day: Day, guard: Guard, files: int) -> None:
         self.day, self.guard = day, guard
         self.pages = read_pages()
-        self.connections = Connections()
+        self.faults = LookFaults()
         self.labels = Watched(day.path)
         self.frame = frame = Frame(
             instance_of(day), PageWording(BrowserKeyNames(), self.labels.labels, isolated)
         )
         self.readers = Readers(day, frame)
         self.sitters = [Sitter(day, planner, frame) for planner in range(day.facts()["planners"])]
+        self.connections = Connections(files, len(self.sitters))
         self.keys_at = self.stat_keys()
         self.closes: Optional[float] = None
         self.people: list[Data] = []
@@ -115,14 +83,22 @@ class Office:
     # news
 
     async def watch(self, stop: asyncio.Event) -> None:
-        """Looks for news until the office closes, or the server is ended."""
+        """Looks for news until the office closes, or the server is ended. What fails meanwhile is
+        said, and looked at again."""
         while not stop.is_set() and not self.is_over():
-            self.look_at_keys()
-            await self.look_at_labels()
+            with self.faults.kept("the keys"):
+                self.look_at_keys()
+            with self.faults.kept("the labels"):
+                await self.look_at_labels()
             await self.look()
-            self.tell_closing()
+            with self.faults.kept("the closing"):
+                self.tell_closing()
             with contextlib.suppress(asyncio.TimeoutError):
                 await asyncio.wait_for(stop.wait(), TICK)
+        await self.end()
+
+    async def end(self) -> None:
+        """All windows are told that it is over, and all seats are left."""
         if self.closes is None:
             # a desk that has died closes no office: its seats are told so first
             await self.look()
@@ -131,19 +107,23 @@ class Office:
             place.windows.end_all()
         await asyncio.sleep(FAREWELL)
         for sitter in self.sitters:
-            await sitter.leave()
+            with self.faults.kept(f"seat {sitter.planner}"):
+                await sitter.leave()
 
     def places(self) -> list[Any]:
         return [*self.sitters, self.readers]
 
     def is_over(self) -> bool:
-        at = self.day.closes_at()
-        return not self.day.is_open() or (at is not None and time.time() > at)
+        with self.faults.kept("the day"):
+            at = self.day.closes_at()
+            return not self.day.is_open() or (at is not None and time.time() > at)
+        return False
 
     async def look(self) -> None:
-        """Looks for news at each place at which somebody is."""
+        """Looks for news at each place at which somebody is. What fails at one is that one's."""
         for place in self.places():
-            await place.look()
+            with self.faults.kept(place.called):
+                await place.look()
         people = self.who_sits()
         if people != self.people:
             self.people = people
@@ -151,7 +131,11 @@ class Office:
                 sitter.tell({"people": people})
 
     def who_sits(self) -> list[Data]:
-        return [one for one in (sitter.person() for sitter in self.sitters) if one]
+        found = []
+        for sitter in self.sitters:
+            with self.faults.kept(f"who sits at {sitter.called}"):
+                found.append(sitter.person())
+        return [one for one in found if one]
 
     def tell_closing(self) -> None:
         at = self.day.closes_at()
@@ -232,16 +216,8 @@ def say_links(day: Day, served: Served, base: str, path: str) -> None:
         print(f"  {name:<7} {link}", flush=True)
 
 
-def allow_files() -> None:
-    """As many open files as connections may need."""
-    soft, hard = resource.getrlimit(resource.RLIMIT_NOFILE)
-    wanted = FILES if hard == resource.RLIM_INFINITY else min(FILES, hard)
-    if soft != resource.RLIM_INFINITY and soft < wanted:
-        resource.setrlimit(resource.RLIMIT_NOFILE, (wanted, hard))
-
-
 async def run(day: Day, served: Served, held: int) -> int:
-    office = Office(day, guard_of(day, served))
+    office = Office(day, guard_of(day, served), allow_files())
     path = served.socket or day.file("web.socket")
     end = listen_at(served, path)
     base = base_of(served, end)
@@ -254,7 +230,7 @@ async def run(day: Day, served: Served, held: int) -> int:
         idle_connection_timeout=COMES,
     )
     server.connections = office.connections
-    server.add_socket(end)
+    server.listen_at(end)
     stop = asyncio.Event()
     for sign in (signal.SIGINT, signal.SIGTERM):
         asyncio.get_running_loop().add_signal_handler(sign, stop.set)
@@ -262,7 +238,7 @@ async def run(day: Day, served: Served, held: int) -> int:
         say_links(day, served, base, path)
         await office.watch(stop)
     finally:
-        server.stop()
+        server.stop_listening()
         if served.port is None:
             with contextlib.suppress(OSError):
                 os.remove(path)
@@ -274,6 +250,5 @@ def serve_day(day: Day, served: Served) -> int:
     if not day.is_ready():
         raise Refused(f"no office is open in {day.path}")
     held = lock_server(day)
-    allow_files()
     signal.signal(signal.SIGHUP, signal.SIG_IGN)
     return asyncio.run(run(day, served, held))

@@ -10,9 +10,8 @@ from typing import Any, Callable, Optional
 
 from office.day.costs import COSTS, MEANINGS
 from office.day.edits import Edit
-from office.day.folder import Day, is_locked
-from office.refused import Refused
-from office.seat.seat import DEAD, DeskEnded, NoAnswer, Seat, read_sitter
+from office.day.folder import Day
+from office.seat.seat import DeskEnded, NoAnswer, Seat, is_taken, read_sitter
 from office.web.action_names import key_table
 from office.web.frame import Frame
 from office.web.guard import Fault
@@ -20,6 +19,7 @@ from office.web.messages import notice_data, question_data
 from office.web.news_sent import NewsSent, last_news
 from office.web.picture import Picture
 from office.web.questions import WHY, Shown
+from office.web.seat_faults import LOST, fault_of
 from office.web.verbs import CHANGES, VERBS, Request, WindowTurn, hold_again
 from office.web.windows import Window, Windows
 from office.words.notice import NOTHING, Question, say
@@ -31,8 +31,6 @@ from office.work.work import Work
 # so many requests of a seat may wait for their turn; a seat without a window is left after so many
 # seconds; letters of a name
 WAIT, IDLE, NAME = 16, 30.0, 40
-# the status of a seat whose desk has ended or does not answer
-LOST = 503
 # what changes nothing
 LOOKS = ("show", "next_week", "about", "offers", "print", "close")
 FAREWELL = (
@@ -47,7 +45,7 @@ class Sitter:
 
     def __init__(self, day: Day, planner: int, frame: Frame) -> None:
         self.day, self.planner, self.frame = day, planner, frame
-        self.windows = Windows()
+        self.windows, self.called = Windows(), f"seat {planner}"
         self.planning: Optional[Planning] = None
         self.name = ""
         # what is asked of who has sat down, until it is answered in one of his windows
@@ -97,20 +95,22 @@ class Sitter:
 
     def _do(self, work: Callable[[], Data], is_look: bool) -> Data:
         try:
+            return self._done(work, is_look)
+        except Exception as thrown:
+            fault = fault_of(thrown)
+            if fault.status == LOST:
+                self._go()
+            raise fault from None
+
+    def _done(self, work: Callable[[], Data], is_look: bool) -> Data:
+        try:
             if is_look or not self._is_over():
                 return work()
-            self._step_over()
-            return {}
-        except Refused as refused:
-            raise Fault(409, refused.reason) from None
-        except (DeskEnded, NoAnswer) as fault:
-            with contextlib.suppress(DeskEnded, NoAnswer):
-                if self._is_over():
-                    self._step_over()
-                    return work() if is_look else {}
-            self._go()
-            why = DEAD if isinstance(fault, DeskEnded) else "the desk does not answer"
-            raise Fault(LOST, why) from None
+        except (DeskEnded, NoAnswer):
+            if not self._is_over():
+                raise
+        self._step_over()
+        return work() if is_look else {}
 
     # in the seat's thread
 
@@ -148,16 +148,16 @@ class Sitter:
 
     def _sit(self, name: str) -> None:
         seat = Seat(self.day, self.planner, name)
-        planning = Planning(seat, self.frame.instance)
-        seat.waits = partial(self._tell_waiting, seat)
         try:
+            planning = Planning(seat, self.frame.instance)
+            seat.waits = partial(self._tell_waiting, seat)
             self.begun = Work(planning)
             self.first = self.begun.begin()
+            self.news_sent = NewsSent(planning, self.frame.wording)
         except BaseException:
             seat.go()
             raise
         self.planning, self.name = planning, name
-        self.news_sent = NewsSent(planning, self.frame.wording)
         self.prices.clear()
 
     def _tell_waiting(self, seat: Seat, seconds: float) -> None:
@@ -334,7 +334,7 @@ class Sitter:
     def person(self) -> Optional[Data]:
         """Who sits at the seat now, here or at a terminal."""
         name, since = read_sitter(self.day, self.planner)
-        if self.planning is None and not is_locked(self.day.sitter(self.planner)):
+        if self.planning is None and not is_taken(self.day, self.planner):
             return None
         who = self.frame.wording.safe(name) or f"planner {self.planner}"
         return {

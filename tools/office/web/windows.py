@@ -63,8 +63,9 @@ class Window:
 class Windows:
     """The windows of a seat, or of the readers."""
 
-    def __init__(self, most: int = MOST) -> None:
-        self.most = most
+    def __init__(self, most: int = MOST, makes_room: bool = False) -> None:
+        # whether one that listens is let go for a new one; its page comes back by itself
+        self.most, self.makes_room = most, makes_room
         self.by_name: dict[str, Window] = {}
         self.gone_since = time.monotonic()
 
@@ -80,6 +81,9 @@ class Windows:
         """Forgets the oldest of those that do not listen, as a page that was loaded anew before it
         did."""
         silent = [window for window in self.all() if not window.is_listening]
+        if not silent and self.makes_room:
+            min(self.all(), key=lambda window: window.asked_at).end_soon()
+            return
         if not silent:
             raise Fault(429, f"{self.most} windows of this link are open: close one of them")
         self.forget(min(silent, key=lambda window: window.asked_at))

@@ -4,8 +4,10 @@ from __future__ import annotations
 import contextlib
 import sys
 
+from office.words.text import shown_lines
+
 
 def announce(*words: str) -> None:
     """Says a line of the office; the terminal may be closed by now."""
     with contextlib.suppress(OSError):
-        print("office:", *words, file=sys.stderr, flush=True)
+        print("office:", *map(shown_lines, words), file=sys.stderr, flush=True)

@@ -13,6 +13,11 @@ def shown(text: str) -> str:
     )
 
 
+def shown_lines(text: str) -> str:
+    """Lines of text without what a terminal would take as a command."""
+    return "\n".join(map(shown, text.split("\n")))
+
+
 def letter_width(letter: str) -> int:
     if unicodedata.combining(letter) or unicodedata.category(letter) in ("Mn", "Me", "Cf"):
         return 0

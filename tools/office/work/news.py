@@ -5,9 +5,10 @@ from collections import Counter
 from dataclasses import dataclass
 
 from office.day.commit_notes import notes_path, read_commit_notes
-from office.day.folder import Day, file_size
+from office.day.folder import Day
 from office.day.lecture import Lecture
 from office.day.minutes import Entry
+from office.day.safe_files import file_size
 from office.day.shifts import Shift, undo_shifts
 from office.day.timetable import Timetable
 from office.past.authors import CommitFacts, commits_of, read_pasts

@@ -13,6 +13,7 @@ from office.day.lecture import Lecture
 from office.day.minutes import Entry
 from office.day.parts import DayMinutes, RuleChange, instance_of
 from office.day.processes import now
+from office.day.safe_files import open_or_make
 from office.day.shifts import Shift, all_shifts, shifts_of
 from office.day.timetable import Timetable
 from office.seat.answers import WANTING, Answer, Row, Status, costs_in, lectures_in, missing_in
@@ -269,7 +270,7 @@ class Reading:
         self.is_failing = True
         self._cache.clear()
         with contextlib.suppress(OSError):
-            os.close(os.open(self.seat.day.failing, os.O_WRONLY | os.O_CREAT, 0o660))
+            os.close(open_or_make(self.seat.day.failing, os.O_WRONLY, 0o660))
 
     def read_anew(self) -> None:
         """Reads everything anew, as the desk has it, and says so; if the minutes fail, that is said

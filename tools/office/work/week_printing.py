@@ -8,7 +8,7 @@ from office.data.label_files import read_labels
 from office.data.one_week import OneWeek
 from office.data.site import file_name
 from office.data.week_page import week_page
-from office.day.folder import write_whole
+from office.day.safe_files import write_whole
 from office.past.timetable_at import At
 from office.refused import Refused
 from office.words.notice import Notice, say
