@@ -4,6 +4,7 @@ import random
 import subprocess
 import sys
 import threading
+import unicodedata
 import unittest.mock
 
 from support import HERE, PROGRAM, SMALL, SMALL_SOL, SPRING, SPRING_SOL, OfficeTest, make_edit, said
@@ -252,6 +253,9 @@ class Shown(OfficeTest):
         self.assertEqual(
             [width(text) for text in ("abc", "数学", "e\u0301", "ﷺ", "a\u200bb")], [3, 4, 1, 1, 2]
         )
+        # as a file's name on a Mac has it, letter by letter; and a sign with a column of its own
+        self.assertEqual(width(unicodedata.normalize("NFD", "한국어")), width("한국어"))
+        self.assertEqual(width("\u1b13\u1b44"), 2)
         self.assertEqual(
             [fit("数学a", n) for n in (1, 2, 3, 4, 5, 6)], ["~", "~ ", "数~", "数~ ", "数学a", "数学a "]
         )

@@ -7,6 +7,12 @@ from test_import import Tables
 from office.data.importing import import_folder
 from office.refused import Refused
 
+# a program that is there, and takes no plan
+LIAR = """#!/bin/sh
+[ "$1" != --help ] || exit 0
+echo 'timedesk: instance I5 3' >&2
+exit 1
+"""
 # for each file a text to be replaced, the text in its place, and what is then wrong
 FAULTS = [
     ("courses.csv", "Ada Byron,2,2,120", ",2,2,120", ["courses.csv row 2: the teacher is empty"]),
@@ -223,8 +229,7 @@ class Wrong(Tables):
         """What is wrong is said all the same, and that the start was not compared."""
         self.tables()
         self.change("rooms.csv", "20", "few")
-        text = "#!/bin/sh\necho 'timedesk: instance I5 3' >&2\nexit 1\n"
-        os.environ["TIMEDESK"] = self.write("liar", text, 0o755)
+        os.environ["TIMEDESK"] = self.write("liar", LIAR, 0o755)
         with self.assertRaises(Refused) as caught:
             import_folder(self.path("college"), self.path("plan"), False)
         self.assertEqual(
@@ -246,8 +251,7 @@ class Wrong(Tables):
 
     def test_the_program_decides(self):
         self.tables()
-        liar = self.write("liar", "#!/bin/sh\necho 'timedesk: instance I5 3' >&2\nexit 1\n", 0o755)
-        os.environ["TIMEDESK"] = liar
+        os.environ["TIMEDESK"] = self.write("liar", LIAR, 0o755)
         with self.assertRaises(Refused) as caught:
             import_folder(self.path("college"), self.path("plan"), False)
         self.assertEqual(caught.exception.status, 1)

@@ -12,7 +12,7 @@ from plain_instance import instance_of, lectures_of
 from support import PROGRAM, SMALL, SMALL_SOL, SPRING, SPRING_SOL, OfficeTest, said
 
 from office.data.calendars import folded
-from office.data.time_zones import changes, check_zone, offsets
+from office.data.time_zones import changes, zone_of
 from office.day.folder import Day
 from office.refused import Refused
 from office.terminal.board import Board
@@ -30,6 +30,7 @@ teaching,2026-10-12,2027-02-05,Winter term
 off,2026-12-24,2027-01-06,Christmas
 zone,,,Europe/Berlin
 """
+UTC = datetime.timezone.utc
 CLOCKS = [("8:15", "9:45"), ("10:15", "11:45"), ("12:15", "13:45")]
 
 
@@ -266,23 +267,26 @@ class Calendars(Weeks):
         self.assertEqual(said, "office: times.csv has no time for Mon, period 2\n")
 
     def test_no_such_zone(self):
-        for zone in "Europe/Nowhere", "../etc/passwd", "", "Europe":
+        # the last one is a file beside those of zones
+        for zone in "Europe/Nowhere", "../etc/passwd", "", "Europe", "zone.tab":
             with self.assertRaisesRegex(Refused, "this machine knows no time zone"):
-                check_zone(zone)
+                zone_of(zone)
         day = self.labelled(term=TERM.replace("Europe/Berlin", "Mars/Olympus"))
         found = self.office("show", day.path, "--course", "geo", "--ics")
         self.assertEqual(found, (1, "", "office: this machine knows no time zone Mars/Olympus\n"))
 
     def test_zones(self):
-        new_year = 1767225600
-        found = changes("America/New_York", new_year, new_year + 365 * 24 * 3600)
-        self.assertEqual([change.after.is_summer for change in found], [True, False])
+        new_year, year = datetime.datetime(2026, 1, 1, tzinfo=UTC), datetime.timedelta(365)
+        zone = zone_of("America/New_York")
+        found = list(changes(zone, new_year, new_year + year))
+        self.assertEqual([bool(time.astimezone(zone).dst()) for time in found], [True, False])
         self.assertEqual(
-            [datetime.datetime.utcfromtimestamp(change.at).isoformat() for change in found],
-            ["2026-03-08T07:00:00", "2026-11-01T06:00:00"],
+            [time.isoformat() for time in found],
+            ["2026-03-08T07:00:00+00:00", "2026-11-01T06:00:00+00:00"],
         )
-        self.assertEqual(changes("Asia/Tokyo", new_year, new_year + 365 * 24 * 3600), [])
-        self.assertEqual(offsets("Asia/Kolkata", [new_year])[0].seconds, 19800)
+        self.assertEqual(list(changes(zone_of("Asia/Tokyo"), new_year, new_year + year)), [])
+        in_kolkata = new_year.astimezone(zone_of("Asia/Kolkata"))
+        self.assertEqual(in_kolkata.utcoffset().seconds, 19800)
 
 
 class InABrowser(Weeks):

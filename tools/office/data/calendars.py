@@ -1,7 +1,6 @@
 """The week of one as a calendar by RFC 5545: an event for each lecture in each week of the term."""
 from __future__ import annotations
 
-import calendar
 import datetime
 from functools import lru_cache
 from typing import Iterator, NamedTuple
@@ -9,12 +8,12 @@ from urllib.parse import quote
 
 from office.data.labels import Labels, Term
 from office.data.one_week import OneWeek
-from office.data.time_zones import ClockChange, Offset, changes, check_zone, offsets
+from office.data.time_zones import MINUTE, changes, zone_of
 from office.day.lecture import Lecture, Slot
 from office.refused import CONTENT, Refused
 from office.words.text import shown
 
-YEAR = 366 * 24 * 3600
+YEAR, WEEK = datetime.timedelta(366), datetime.timedelta(7)
 
 
 class Event(NamedTuple):
@@ -120,29 +119,25 @@ def stamp(time: datetime.datetime) -> str:
     return f"{time:%Y%m%dT%H%M%S}"
 
 
-def offset_text(offset: Offset) -> str:
-    sign, seconds = "-" if offset.seconds < 0 else "+", abs(offset.seconds)
-    return f"{sign}{seconds // 3600:02}{seconds // 60 % 60:02}"
-
-
 @lru_cache(maxsize=8)
-def zone_lines(zone: str, term_first: datetime.date, term_last: datetime.date) -> tuple[str, ...]:
+def zone_lines(name: str, term_first: datetime.date, term_last: datetime.date) -> tuple[str, ...]:
     """The clocks of a zone from a year before a term to its end."""
-    check_zone(zone)
-    first = calendar.timegm(term_first.timetuple()) - YEAR
-    found = changes(zone, first, calendar.timegm(term_last.timetuple()) + 7 * 24 * 3600)
-    before = offsets(zone, [first])[0]
-    rows = [ClockChange(first, before, before), *found]
-    lines = ["BEGIN:VTIMEZONE", f"TZID:{zone}"]
-    for at, before, after in rows:
-        part = "DAYLIGHT" if after.is_summer else "STANDARD"
-        local = datetime.datetime(1970, 1, 1) + datetime.timedelta(seconds=at + before.seconds)
+    zone = zone_of(name)
+    first, last = (
+        datetime.datetime(day.year, day.month, day.day, tzinfo=datetime.timezone.utc)
+        for day in (term_first - YEAR, term_last + WEEK)
+    )
+    lines = ["BEGIN:VTIMEZONE", f"TZID:{name}"]
+    for time in (first, *changes(zone, first, last)):
+        before, after = (time - MINUTE).astimezone(zone), time.astimezone(zone)
+        part = "DAYLIGHT" if after.dst() else "STANDARD"
         lines += [
             f"BEGIN:{part}",
-            f"DTSTART:{stamp(local)}",
-            f"TZOFFSETFROM:{offset_text(before)}",
-            f"TZOFFSETTO:{offset_text(after)}",
-            f"TZNAME:{after.name}",
+            # by the clocks before the change
+            f"DTSTART:{stamp(before + MINUTE)}",
+            f"TZOFFSETFROM:{before:%z}",
+            f"TZOFFSETTO:{after:%z}",
+            f"TZNAME:{after:%Z}",
             f"END:{part}",
         ]
     return (*lines, "END:VTIMEZONE")

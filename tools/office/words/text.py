@@ -19,7 +19,8 @@ def shown_lines(text: str) -> str:
 
 
 def letter_width(letter: str) -> int:
-    if unicodedata.combining(letter) or unicodedata.category(letter) in ("Mn", "Me", "Cf"):
+    # vowels and ends of Hangul stand in the columns of the letter before them
+    if unicodedata.category(letter) in ("Mn", "Me", "Cf") or "\u1160" <= letter <= "\u11ff":
         return 0
     return 2 if unicodedata.east_asian_width(letter) in "WF" else 1
 
