@@ -25,6 +25,7 @@ from office.web.frame import Frame, PageWording, isolated
 from office.web.guard import BODY, HEAD, Guard, read_logins
 from office.web.handlers import application
 from office.web.launch import Served
+from office.web.message_types import PersonData
 from office.web.readers import Readers
 from office.web.seat_keys import READER, file_of, links_of, lock_server, read_keys
 from office.web.sitter import Sitter
@@ -85,7 +86,7 @@ class Office:
         self.sitters = [Sitter(day, planner, frame) for planner in range(day.facts()["planners"])]
         self.keys_at = self.stat_keys()
         self.closes: Optional[float] = None
-        self.people: list[Data] = []
+        self.people: list[PersonData] = []
 
     def place(self, who: str) -> Any:
         return self.readers if who == READER else self.sitters[int(who)]
@@ -150,7 +151,7 @@ class Office:
             for sitter in self.sitters:
                 sitter.tell({"people": people})
 
-    def who_sits(self) -> list[Data]:
+    def who_sits(self) -> list[PersonData]:
         return [one for one in (sitter.person() for sitter in self.sitters) if one]
 
     def tell_closing(self) -> None:
