@@ -4,9 +4,10 @@ from __future__ import annotations
 
 from typing import Literal, Optional, TypedDict
 
-# a day and a period, from 0; the kind of a week and the code of whose it is
+# a day and a period, from 0
 SlotData = tuple[int, int]
-ViewData = tuple[str, str]
+# the kind of a week and the code of whose it is, or a code and what it is called
+PairData = tuple[str, str]
 # a price, the room or the course that is offered, and what it is called
 OfferData = tuple[int, str, str]
 
@@ -17,7 +18,7 @@ class NamesData(TypedDict):
     days: list[str]
     periods: list[str]
     slots: list[list[str]]
-    named: dict[str, list[tuple[str, str]]]
+    named: dict[str, list[PairData]]
 
 
 class KeyData(TypedDict):
@@ -53,9 +54,8 @@ class NewsData(TypedDict):
 # what stands below the week, and what is asked
 
 
-class NoticePrice(TypedDict, total=False):
-    # by how much an edit has changed the cost
-    price: int
+# by how much an edit has changed the cost
+NoticePrice = TypedDict("NoticePrice", {"price": int}, total=False)
 
 
 class NoticeData(NoticePrice):
@@ -66,11 +66,8 @@ class NoticeData(NoticePrice):
     isBad: bool
 
 
-class LineData(TypedDict):
-    """A line of a question, by what it is."""
-
-    code: str
-    text: str
+# a line of a question, by what it is
+LineData = TypedDict("LineData", {"code": str, "text": str})
 
 
 class AnswerData(TypedDict):
@@ -89,15 +86,9 @@ class CostRowData(TypedDict):
     now: int
 
 
-class WhyData(TypedDict):
-    """What a line that is to be typed is called."""
-
-    label: str
-
-
-class QuestionMore(TypedDict, total=False):
-    why: WhyData
-    costs: list[CostRowData]
+# what a line that is to be typed is called
+WhyData = TypedDict("WhyData", {"label": str})
+QuestionMore = TypedDict("QuestionMore", {"why": WhyData, "costs": list[CostRowData]}, total=False)
 
 
 class QuestionData(QuestionMore):
@@ -131,11 +122,8 @@ class MissingData(CourseData):
     stood: list[str]
 
 
-class EditData(TypedDict):
-    """An edit, and by how much it has changed the cost, as far as that is known."""
-
-    text: str
-    price: Optional[int]
+# an edit, and by how much it has changed the cost, as far as that is known
+EditData = TypedDict("EditData", {"text": str, "price": Optional[int]})
 
 
 class DraftData(TypedDict):
@@ -173,11 +161,8 @@ class LectureData(CourseData):
     alone: int
 
 
-class BlockedData(TypedDict):
-    """Why a slot is blocked, in few words and in a sentence."""
-
-    why: str
-    text: str
+# why a slot is blocked, in few words and in a sentence
+BlockedData = TypedDict("BlockedData", {"why": str, "text": str})
 
 
 class CellData(TypedDict):
@@ -200,7 +185,7 @@ class CellData(TypedDict):
 class WeekData(TypedDict):
     """A week, and whose it is."""
 
-    view: ViewData
+    view: PairData
     title: str
     about: str
     missing: str
@@ -211,10 +196,8 @@ class WeekData(TypedDict):
 # what is held
 
 
-class SlotWhy(TypedDict, total=False):
-    # why a slot offers nothing
-    shortly: str
-    why: str
+# why a slot offers nothing
+SlotWhy = TypedDict("SlotWhy", {"shortly": str, "why": str}, total=False)
 
 
 class HeldSlotData(SlotWhy):
@@ -256,10 +239,8 @@ class PictureData(ReaderPictureData):
 # what is answered
 
 
-class FaultData(TypedDict):
-    """Why a request is refused."""
-
-    fault: str
+# why a request is refused
+FaultData = TypedDict("FaultData", {"fault": str})
 
 
 class DayData(TypedDict):
@@ -313,33 +294,16 @@ class AboutLectureData(TypedDict):
     where: str
     lines: list[str]
     notices: list[str]
-    weeks: list[tuple[ViewData, str]]
+    weeks: list[tuple[PairData, str]]
 
 
-class AboutData(TypedDict):
-    about: Optional[AboutLectureData]
-
-
-class OffersData(TypedDict):
-    offers: list[OfferData]
-
-
-class PageData(TypedDict):
-    """A page to be kept as a file."""
-
-    name: str
-    text: str
-
-
-class PrintData(TypedDict):
-    page: PageData
-    notice: NoticeData
-
-
-class ReaderTurnData(TypedDict):
-    """What is answered to who reads."""
-
-    picture: ReaderPictureData
+AboutData = TypedDict("AboutData", {"about": Optional[AboutLectureData]})
+OffersData = TypedDict("OffersData", {"offers": list[OfferData]})
+# a page to be kept as a file
+PageData = TypedDict("PageData", {"name": str, "text": str})
+PrintData = TypedDict("PrintData", {"page": PageData, "notice": NoticeData})
+# what is answered to who reads
+ReaderTurnData = TypedDict("ReaderTurnData", {"picture": ReaderPictureData})
 
 
 class TurnData(TypedDict, total=False):

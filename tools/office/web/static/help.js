@@ -1,8 +1,10 @@
+// @ts-check
 // The box that explains keys and signs.
 import { backTo, buttons, close, open } from "./boxes.js";
 import { button, el, key } from "./dom.js";
 
 // each key in a sentence, which does the same if it is pressed here; the signs, and the costs
+/** @type {(day: HelloData, act: (name: string) => void) => void} */
 export function help({ keys, parts, meanings }, act) {
   const keyList = keys.filter((one) => one.help);
   const term = (one, text) => [el("dt", {}, one), el("dd", {}, text)];

@@ -1,7 +1,9 @@
+// @ts-check
 // A short list beside a slot: rooms, or partners of a swap, by price.
 import { el, name } from "./dom.js";
 import { kindOf, signed } from "./numbers.js";
 
+/** @type {?{ box: HTMLElement, back: () => void }} */
 let shown = null;
 
 export const isMenuOpen = () => shown !== null;
@@ -31,7 +33,14 @@ function put(box, anchor) {
   box.style.top = `${Math.max(8, Math.min(top, innerHeight - size.height - 8))}px`;
 }
 
-// offers: [price, code, said]; choose(place) when one is taken, back() when none is
+// choose(place) when one is taken, back() when none is
+/**
+ * @param {HTMLElement} anchor
+ * @param {string} label
+ * @param {OfferData[]} offers
+ * @param {(place: number) => void} choose
+ * @param {() => void} back
+ */
 export function openMenu(anchor, label, offers, choose, back) {
   closeMenu();
   const list = el("ul", { role: "listbox", tabindex: "0", "aria-label": label, cls: "menu" });

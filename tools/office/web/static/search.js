@@ -1,13 +1,26 @@
+// @ts-check
 // The box in which one types whose week is to be seen.
 import { el, find, name } from "./dom.js";
 
 const MOST = 40;
 const STEPS = { ArrowDown: 1, ArrowUp: -1, PageDown: 10, PageUp: -10 };
 
+/** @typedef {{ kind: string, code: string, said: string, text: string }} Hit */
+
 class Search {
   // choose(view) when a week is taken, and back() then, or when none is
+  /**
+   * @param {(view: PairData) => void} choose
+   * @param {() => void} back
+   */
   constructor(choose, back) {
-    Object.assign(this, { choose, back, all: [], found: [], at: 0 });
+    this.choose = choose;
+    this.back = back;
+    /** @type {Hit[]} */
+    this.all = [];
+    /** @type {Hit[]} */
+    this.found = [];
+    this.at = 0;
     this.input = find("search-input");
     this.list = find("search-list");
     const begin = () => {
@@ -21,6 +34,7 @@ class Search {
   }
 
   // named: for each kind its codes, each with what it is called
+  /** @type {(named: NamesData["named"]) => void} */
   rename(named) {
     this.all = Object.entries(named).flatMap(([kind, names]) =>
       names.map(([code, said]) => ({ kind, code, said, text: `${said} ${code}`.toLowerCase() }))
@@ -41,6 +55,7 @@ class Search {
     return [...hits.filter(begins), ...hits.filter((one) => !begins(one))];
   }
 
+  /** @type {(one: Hit, place: number) => HTMLElement} */
   item(one, place) {
     const press = (event) => {
       event.preventDefault();
@@ -108,6 +123,11 @@ class Search {
   }
 }
 
+/**
+ * @param {NamesData["named"]} named
+ * @param {(view: PairData) => void} choose
+ * @param {() => void} back
+ */
 export function makeSearch(named, choose, back) {
   const search = new Search(choose, back);
   search.rename(named);
