@@ -61,7 +61,10 @@ class Acts {
 
   // what is held
 
-  /** @type {(verb: string, told?: object) => Promise<void>} */
+  /**
+   * @param {string} verb
+   * @param {object} [told]
+   */
   async hold(verb, told) {
     const begun = performance.now();
     await this.turn(verb, told);
@@ -210,6 +213,7 @@ const AT_ONCE = ["view", "line", "help"];
 export function makeActs({ closed, seen, ...parts }) {
   const raw = new Acts({ closed, seen, ...parts });
   const { queue, look } = raw;
+  /** @type {(slot: SlotData) => Promise<void>} */
   const drop = (slot) => queue(() => raw.drop(slot));
   return {
     isHolding: () => raw.isHolding(),

@@ -12,6 +12,7 @@ let isAsked = false;
 let later = null;
 
 // where the keyboard goes when a box is closed
+/** @type {(element: ?HTMLElement) => void} */
 export function backTo(element) {
   before = element;
 }
@@ -77,9 +78,11 @@ export function closeAsked() {
   if (isAsked) close();
 }
 
+/** @type {(...made: any[]) => HTMLElement} */
 export const buttons = (...made) => el("div", { cls: "buttons end" }, ...made);
 
 // a line of text in a box, and what Enter does with it
+/** @type {(id: string, label: string, more: object, go: () => void) => HTMLElement[]} */
 function field(id, label, more, go) {
   const input = el("input", { type: "text", id, autocomplete: "off", ...more });
   input.addEventListener("keydown", (event) => {
@@ -144,6 +147,9 @@ function linePart({ code, text }) {
   return el("p", { cls: `line-${code.replace(/ /g, "-")}` }, name(text.trim()));
 }
 
+/** @type {Record<string, number>} */
+const STEPS = { ArrowDown: 1, ArrowUp: -1 };
+
 // what can be chosen from, which narrows as one types
 /** @type {(choices: string[], choose: (at: number) => void) => HTMLElement} */
 function choiceList(choices, choose) {
@@ -160,10 +166,11 @@ function choiceList(choices, choose) {
   });
   /** @type {() => NodeListOf<HTMLElement>} */
   const shown = () => list.querySelectorAll("li:not([hidden]) button");
+  /** @type {(event: KeyboardEvent) => void} */
   const walk = (event) => {
     const all = [input, ...shown()];
     const at = all.indexOf(/** @type {HTMLElement} */ (document.activeElement));
-    const step = { ArrowDown: 1, ArrowUp: -1 }[event.key];
+    const step = STEPS[event.key];
     if (step) all[Math.max(0, Math.min(all.length - 1, at + step))].focus();
     else if (event.key === "Enter" && at === 0) shown()[0]?.click();
     else return;
@@ -188,7 +195,9 @@ export function ask(question, acts) {
     acts.closeQuestion(id);
   };
   const typed = () => (why ? { why: find("why").value.trim() } : {});
+  /** @type {(answer: string) => () => void} */
   const go = (answer) => () => acts.answer(id, answer, typed());
+  /** @type {(choice: number) => Promise<any>} */
   const choose = (choice) => acts.answer(id, null, { choice });
   const first = answers.length ? go(answers[0].name) : back;
   const isRead = !answers.length && !choices.length;

@@ -18,6 +18,7 @@ export function signs(lecture, kind) {
   return found;
 }
 
+/** @type {(cls: string, ...parts: any[]) => HTMLElement} */
 const line = (cls, ...parts) => el("div", { cls: `line ${cls}` }, ...parts);
 
 const pencil = () => el("span", { cls: "pencil", "aria-hidden": "true" }, "✎");

@@ -28,16 +28,19 @@ export function el(tag, more = {}, ...children) {
   return made;
 }
 
+/** @type {(made: Element, acts: Record<string, EventListener>) => void} */
 function listen(made, acts) {
   for (const [event, act] of Object.entries(acts)) made.addEventListener(event, act);
 }
 
+/** @type {(made: HTMLElement, values: Record<string, string>) => void} */
 function style(made, values) {
   for (const [name, value] of Object.entries(values)) made.style.setProperty(name, value);
 }
 
 /** @type {(box: Element, ...children: any[]) => void} */
 export function fill(box, ...children) {
+  /** @type {(child: any) => boolean} */
   const isThere = (child) => child !== null && child !== undefined && child !== false;
   box.replaceChildren(...children.flat(3).filter(isThere));
 }
@@ -71,22 +74,26 @@ export function refill(box, ...children) {
 export const weekCell = () => find("week").querySelector("[tabindex='0']");
 
 // hands a page to the browser, to be kept as a file
+/** @type {(file: string, text: string) => void} */
 export function save(file, text) {
   const href = URL.createObjectURL(new Blob([text], { type: "text/html" }));
   el("a", { href, download: file }).click();
   setTimeout(() => URL.revokeObjectURL(href), 60000);
 }
 
+/** @type {(text: string) => HTMLElement} */
 export const key = (text) => el("kbd", {}, text);
 
 // what is typed goes on where it was begun, whatever comes meanwhile
 export const isTyping = () => document.activeElement?.matches("input, textarea") ?? false;
 
 // what a person hears who does not see
+/** @type {(text: string) => void} */
 export function announce(text) {
   find("said").textContent = text;
 }
 
+/** @type {(text: string) => void} */
 export function banner(text) {
   const box = find("banner");
   box.hidden = !text;

@@ -157,6 +157,7 @@ class Hand {
 
 // the click that follows a drag means nothing
 function swallowClick() {
+  /** @type {(event: Event) => void} */
   const eat = (event) => {
     event.stopPropagation();
     event.preventDefault();

@@ -8,11 +8,13 @@ import { kindOf, priceSaid, same, signed } from "./numbers.js";
 const preposition = (held) => (held.kind === "swap" ? "with" : "in");
 
 // the button that asks for all that a slot offers
+/** @type {(said: string, ...label: any[]) => HTMLElement} */
 function more(said, ...label) {
   const told = { type: "button", cls: "more", tabindex: "-1", "aria-label": `${said} by price` };
   return el("button", told, label, "▾");
 }
 
+/** @type {(text: string) => HTMLElement} */
 const word = (text) => el("span", { cls: "word" }, `${text} `);
 
 // what stands in the slot now

@@ -6,6 +6,7 @@ import { button, el, find, key, name, refill } from "./dom.js";
 
 /** @type {(text: string) => HTMLElement} */
 const line = (text) => el("p", { cls: "told" }, name(text));
+/** @type {(text: string, more: string) => HTMLElement} */
 const title = (text, more) =>
   el("div", { cls: "who-line" }, name(text, "big"), el("span", { cls: "where" }, more));
 
@@ -40,6 +41,7 @@ function heldParts(held, acts) {
 
 /** @type {(about: AboutLectureData, seen: PairData, here: LectureData, acts: Acting) => any[]} */
 function chosenParts(about, seen, here, acts) {
+  /** @type {(view: PairData) => boolean} */
   const isSeen = (view) => view.join() === seen.join();
   const weeks = about.weeks.map(([view, said]) =>
     button(view.join(), name(said), () => acts.show(view), {

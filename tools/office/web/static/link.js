@@ -152,6 +152,7 @@ function pause(time) {
   });
 }
 
+/** @type {(thrown: any) => Fault} */
 function faultOf(thrown) {
   if (thrown instanceof Fault) return thrown;
   if (thrown instanceof TypeError || thrown.name === "AbortError") return new Fault(0, SILENT);

@@ -9,6 +9,7 @@ import { same } from "./numbers.js";
 // so long the cursor rests before the office is asked
 const REST = 60;
 
+/** @type {(cls: string, sign: string, text: string) => HTMLElement} */
 const legend = (cls, sign, text) => el("span", {}, el("span", { cls: `sign ${cls}` }, sign), text);
 
 export class Look {
@@ -38,6 +39,7 @@ export class Look {
   /** @type {(days: number, periods: number) => void} */
   go(days, periods) {
     const { cursor, days: all, periods: rows } = this.week;
+    /** @type {(at: number, count: number) => number} */
     const inside = (at, count) => Math.max(0, Math.min(count - 1, at));
     this.goTo([inside(cursor[0] + days, all.length), inside(cursor[1] + periods, rows.length)]);
   }

@@ -16,13 +16,15 @@ export function closeMenu() {
   shown = null;
 }
 
+/** @type {(event: Event) => void} */
 function outside(event) {
-  if (!shown || shown.box.contains(event.target)) return;
+  if (!shown || shown.box.contains(/** @type {Node} */ (event.target))) return;
   const { back } = shown;
   closeMenu();
   back();
 }
 
+/** @type {(box: HTMLElement, anchor: HTMLElement) => void} */
 function put(box, anchor) {
   const spot = anchor.getBoundingClientRect();
   const size = box.getBoundingClientRect();
@@ -63,12 +65,14 @@ export function openMenu(anchor, label, offers, choose, back) {
   put(box, anchor);
   shown = { box, back };
 
+  /** @type {(place: number) => void} */
   function go(place) {
     at = Math.max(0, Math.min(items.length - 1, place));
     items.forEach((item, n) => item.setAttribute("aria-selected", String(n === at)));
     list.setAttribute("aria-activedescendant", `offer-${at}`);
     items[at].scrollIntoView({ block: "nearest" });
   }
+  /** @type {(place: number) => void} */
   function take(place) {
     closeMenu();
     choose(place);

@@ -5,6 +5,7 @@ import { hasLater } from "./boxes.js";
 import { menuInFront } from "./menu.js";
 import { toast } from "./toasts.js";
 
+/** @type {(fault: any) => void} */
 function failed(fault) {
   console.error(fault);
   toast("bad", "Something went wrong with your last action. Reload the page if it happens again.");
@@ -16,6 +17,7 @@ export function makeQueue(app) {
   let last = Promise.resolve();
   let count = 0;
   // so many are not done yet
+  /** @type {(more: number) => void} */
   const tell = (more) => {
     count += more;
     document.body.dataset.acts = String(count);

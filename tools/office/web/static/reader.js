@@ -37,6 +37,7 @@ function build(found) {
   document.title = `${found.day} · timedesk`;
   week = new Week(found, false);
   search = makeSearch(found.named, show, () => week.setCursor(week.cursor, true));
+  /** @type {Record<string, number[]>} */
   const steps = { ArrowLeft: [-1, 0], ArrowRight: [1, 0], ArrowUp: [0, -1], ArrowDown: [0, 1] };
   find("week").addEventListener("keydown", (event) => {
     const [days, periods] = steps[event.key] || [0, 0];

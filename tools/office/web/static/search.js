@@ -3,6 +3,7 @@
 import { el, find, name } from "./dom.js";
 
 const MOST = 40;
+/** @type {Record<string, number>} */
 const STEPS = { ArrowDown: 1, ArrowUp: -1, PageDown: 10, PageUp: -10 };
 
 /** @typedef {{ kind: string, code: string, said: string, text: string }} Hit */
@@ -47,8 +48,11 @@ class Search {
 
   matches() {
     const words = this.input.value.toLowerCase().split(/\s+/).filter(Boolean);
+    /** @type {(one: Hit, word: string) => boolean} */
     const isIn = (one, word) => one.text.includes(word) || one.kind.startsWith(word);
+    /** @type {(one: Hit) => boolean} */
     const has = (one) => words.every((word) => isIn(one, word));
+    /** @type {(one: Hit) => boolean} */
     const begins = (one) =>
       words.some((word) => one.text.startsWith(word) || one.code.toLowerCase().startsWith(word));
     const hits = this.all.filter(has);
@@ -57,6 +61,7 @@ class Search {
 
   /** @type {(one: Hit, place: number) => HTMLElement} */
   item(one, place) {
+    /** @type {(event: Event) => void} */
     const press = (event) => {
       event.preventDefault();
       this.take(place);
@@ -97,6 +102,7 @@ class Search {
     this.input.removeAttribute("aria-activedescendant");
   }
 
+  /** @type {(place: number) => void} */
   take(place) {
     const one = this.found[place];
     if (!one) return;
@@ -110,6 +116,7 @@ class Search {
     this.back();
   }
 
+  /** @type {(event: KeyboardEvent) => void} */
   press(event) {
     const step = STEPS[event.key];
     if (step) {

@@ -195,7 +195,7 @@ function where() {
 
 async function begin() {
   const told = { name: sessionStorage.getItem(NAME) || "", ...where() };
-  let found = await ask("hello", told);
+  let found = /** @type {HelloData & WantsData} */ (await ask("hello", told));
   while (found.wants) {
     drawBanner();
     told.name = await boxes.askName(found, localStorage.getItem(NAME) || "");

@@ -49,6 +49,7 @@ export function drawCosts({ picture, day }) {
 
 /** @type {(draft: ?DraftData, ended: string[]) => any} */
 function draftSaid(draft, ended) {
+  /** @type {(text: string, cls?: string) => HTMLElement} */
   const pill = (text, cls = "") => el("span", { cls: `pill ${cls}` }, name(text));
   if (ended.length) return pill("draft not accepted", "bad");
   if (!draft) return pill("no draft open");
@@ -146,6 +147,7 @@ export function drawDraft({ picture }, acts) {
 }
 
 const STANDS = "Nothing that it stands on has changed.";
+/** @type {(text: string) => HTMLElement} */
 const told = (text) => el("li", {}, name(text));
 
 // what is missing

@@ -42,6 +42,7 @@ export class Week {
     this.days = days;
     this.periods = periods;
     this.slots = slots;
+    /** @type {(place: string, texts: string[]) => void} */
     const write = (place, texts) =>
       find("week").querySelectorAll(place).forEach((one, at) => fill(one, name(texts[at])));
     write(".day", days);
@@ -64,6 +65,7 @@ export class Week {
     this.cell(this.cursor).tabIndex = 0;
   }
 
+  /** @type {(label: string, period: number) => HTMLElement} */
   row(label, period) {
     const cells = this.days.map((_, day) => {
       const key = keyOf([day, period]);
@@ -159,6 +161,7 @@ export class Week {
     const now = one.now && name(one.now.join(", ") || "empty");
     const news = now ? [el("div", { cls: "now" }, "now ", now)] : [];
     if (one.lectures.length) {
+      /** @type {(lecture: LectureData) => HTMLElement} */
       const made = (lecture) => card(lecture, view, this.canMove, one.mine);
       return [...one.lectures.map(made), ...news];
     }
