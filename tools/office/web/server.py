@@ -25,7 +25,6 @@ from office.web.frame import Frame, PageWording, isolated
 from office.web.guard import BODY, HEAD, Guard, read_logins
 from office.web.handlers import application
 from office.web.launch import Served
-from office.web.message_types import PersonData
 from office.web.readers import Readers
 from office.web.seat_keys import READER, file_of, links_of, lock_server, read_keys
 from office.web.sitter import Sitter
@@ -86,7 +85,7 @@ class Office:
         self.sitters = [Sitter(day, planner, frame) for planner in range(day.facts()["planners"])]
         self.keys_at = self.stat_keys()
         self.closes: Optional[float] = None
-        self.people: list[PersonData] = []
+        self.people: list[Data] = []
 
     def place(self, who: str) -> Any:
         return self.readers if who == READER else self.sitters[int(who)]
@@ -151,7 +150,7 @@ class Office:
             for sitter in self.sitters:
                 sitter.tell({"people": people})
 
-    def who_sits(self) -> list[PersonData]:
+    def who_sits(self) -> list[Data]:
         return [one for one in (sitter.person() for sitter in self.sitters) if one]
 
     def tell_closing(self) -> None:

@@ -16,7 +16,7 @@ from office.seat.seat import DEAD, DeskEnded, NoAnswer, Seat, read_sitter
 from office.web.action_names import key_table
 from office.web.frame import Frame
 from office.web.guard import Fault
-from office.web.message_types import NoticeData, PersonData, PictureData
+from office.web.message_types import NoticeData, PictureData
 from office.web.messages import notice_data, question_data
 from office.web.news_sent import NewsSent, last_news
 from office.web.picture import Picture
@@ -331,7 +331,7 @@ class Sitter:
         for window in self.windows.all():
             window.tell(event)
 
-    def person(self) -> Optional[PersonData]:
+    def person(self) -> Optional[Data]:
         """Who sits at the seat now, here or at a terminal."""
         name, since = read_sitter(self.day, self.planner)
         if self.planning is None and not is_locked(self.day.sitter(self.planner)):
