@@ -16,6 +16,7 @@ sys.path.insert(0, os.path.join(HERE, "tools"))
 
 from browser import Browser, Driver, DriverFault, has_browser  # noqa: E402
 from support import OFFICE, SMALL, SPRING, SPRING_SOL, OfficeTest, wait_until  # noqa: E402
+from typed_messages import EVENT, answer_of, misfits  # noqa: E402
 
 from office.refused import Refused  # noqa: E402
 from office.web.launch import find_python  # noqa: E402
@@ -41,7 +42,9 @@ addEventListener('unhandledrejection', (one) => blocked.push(String(one.reason))
 
 
 class WebTest(OfficeTest):
-    """A test with days that are served."""
+    """A test with days that are served. Each message of a seat has its type."""
+
+    met = None
 
     def serve(self, day, *words):
         """Serves the seats of a day, and answers their links by what they are of."""
@@ -91,7 +94,13 @@ class WebTest(OfficeTest):
         status, _, text = self.request(
             "POST", f"/api/{verb}", told or {}, self.asking(self.key(name), *more)
         )
-        return status, json.loads(text)
+        found = json.loads(text)
+        self.fits(found, answer_of(verb, name, status))
+        return status, found
+
+    def fits(self, message, kind):
+        """What was sent has its type; which it has is kept, if it is to be."""
+        self.assertEqual(misfits(message, kind, met=self.met), [], message)
 
     def next_event(self, answer, name):
         """The next news of a kind."""
@@ -99,8 +108,11 @@ class WebTest(OfficeTest):
             line = answer.readline()
             if not line:
                 self.fail(f"no {name} has come")
-            if line.strip() and name in json.loads(line):
-                return json.loads(line)
+            if line.strip():
+                event = json.loads(line)
+                self.fits(event, EVENT)
+                if name in event:
+                    return event
 
     def raw(self, text, seconds=15):
         """What is answered to these bytes, until the connection is closed."""

@@ -1,5 +1,5 @@
 """The files of the page: plain modules, short, checked, and without anything from elsewhere; and
-the types of the package."""
+the types of both the page and the package."""
 import os
 import re
 import shutil
@@ -104,13 +104,29 @@ class Files(unittest.TestCase):
         )
         self.assertEqual((done.returncode, done.stdout, done.stderr), (0, "", ""))
 
+    def test_message_types(self):
+        """The types of what a page is sent are those of its messages."""
+        done = subprocess.run(
+            [os.path.join(TOOLS, "page_types.py"), "--check"], capture_output=True, text=True
+        )
+        self.assertEqual((done.returncode, done.stdout, done.stderr), (0, "", ""))
+
+    @unittest.skipUnless(shutil.which("tsc"), "tsc is not installed: no type of the page was checked")
+    def test_typed_page(self):
+        """The types of the page's modules hold, as tsconfig.json has it; each asks for that."""
+        for path in self.files(STATIC, ".js"):
+            self.assertEqual(lines_of(path)[0], "// @ts-check", path)
+        words = ["tsc", "-p", os.path.join(PACKAGE, "web")]
+        done = subprocess.run(words, capture_output=True, text=True)
+        self.assertEqual((done.returncode, done.stdout, done.stderr), (0, "", ""))
+
     @unittest.skipUnless(shutil.which("mypy"), "mypy is not installed, so no type was checked")
     def test_typed(self):
         """Each function of the office and of these tools has types, and they hold, in the oldest
         Python that runs it."""
         words = ["mypy", "--strict", "--python-version", "3.9", "--cache-dir", os.devnull]
         words += ["-p", "office", "-p", "edits"]
-        for name in ("flags", "strip_checks", "gate"):
+        for name in ("flags", "page_types", "strip_checks", "gate"):
             words += ["-m", name]
         done = subprocess.run(words, capture_output=True, text=True, cwd=TOOLS)
         self.assertEqual(done.returncode, 0, done.stdout + done.stderr)

@@ -1,8 +1,7 @@
 """What actions are called in a browser: keys in the week, and buttons."""
 from __future__ import annotations
 
-from typing import Any
-
+from office.web.message_types import KeyData
 from office.words.actions import ACTIONS, BY_NAME, NAMED
 
 # keys that a browser has otherwise: Tab leaves the week there, and / is a key of searches
@@ -86,7 +85,7 @@ def said_key(key: str) -> str:
     return named.get(key, key.upper() if len(key) == 1 else key)
 
 
-def key_table() -> list[dict[str, Any]]:
+def key_table() -> list[KeyData]:
     """The keys of the week, each in a sentence."""
     return [
         {

@@ -1,16 +1,16 @@
 """What is said alike at each seat: the words, the colours of courses, and what has a name."""
 from __future__ import annotations
 
-from typing import Any, Iterable, Sequence
+from typing import Any, Iterable, Optional, Sequence, cast
 
 from office.day.instance import Instance
 from office.day.lecture import Lecture
 from office.day.shifts import Shift
+from office.web.message_types import CourseData, LectureData, NamesData
 from office.words.text import counted, shown
 from office.words.wording import Wording
-from office.work.week import View, courses_of_view
+from office.work.week import Signs, View, courses_of_view
 
-Data = dict[str, Any]
 # what is said with a sign: a price, and those of the parts
 PRICES = ("price", "parts")
 # hues that are told apart, in an order in which the first few lie far from each other
@@ -54,7 +54,7 @@ class Frame:
         self.instance, self.wording = instance, wording
         self.hues = hues_of(instance)
 
-    def data(self) -> Data:
+    def data(self) -> NamesData:
         """Days, periods, slots and names, with which a window begins."""
         instance, wording = self.instance, self.wording
         days, periods = range(instance.days), range(instance.periods)
@@ -69,12 +69,12 @@ class Frame:
             "periods": [wording.period(period) for period in periods],
             "slots": [[wording.slot((day, period)) for period in periods] for day in days],
             "named": {
-                kind: [[code, wording.name(kind, code)] for code in codes]
+                kind: [(code, wording.name(kind, code)) for code in codes]
                 for kind, codes in named.items()
             },
         }
 
-    def course(self, code: str) -> Data:
+    def course(self, code: str) -> CourseData:
         course = self.instance.courses[code]
         return {
             "course": code,
@@ -84,12 +84,16 @@ class Frame:
             "students": course.students,
         }
 
-    def lecture(self, lecture: Lecture) -> Data:
-        return {
+    def lecture(self, lecture: Lecture, seats: Optional[int], signs: Signs) -> LectureData:
+        found: dict[str, object] = {
             **self.course(lecture.course),
             "room": lecture.room,
             "room_said": self.wording.short("room", lecture.room),
+            "seats": seats,
+            "short": signs.short,
+            "alone": signs.alone,
         }
+        return cast(LectureData, found)
 
     def brief(self, lecture: Lecture) -> str:
         """A lecture in two words."""

@@ -1,10 +1,11 @@
 """What is said in a browser: notices, questions, and drafts that were accepted, as plain data."""
 from __future__ import annotations
 
-from typing import Any, Optional
+from typing import Optional
 
 from office.day.costs import COSTS
 from office.web.action_names import button, letter
+from office.web.message_types import CostRowData, NewsData, NoticeData, QuestionData
 from office.web.questions import Shown
 from office.words.notice import Notice
 from office.words.text import counted
@@ -13,21 +14,19 @@ from office.work.drafting import Box
 from office.work.news import Accepted
 from office.work.planning import Planning
 
-Data = dict[str, Any]
 
-
-def notice_data(wording: Wording, notice: Notice) -> Data:
+def notice_data(wording: Wording, notice: Notice) -> NoticeData:
     return {"code": notice.code, "text": wording.notice(notice), "isBad": notice.is_bad}
 
 
-def question_data(wording: Wording, shown: Shown) -> Optional[Data]:
+def question_data(wording: Wording, shown: Shown) -> Optional[QuestionData]:
     """What is to be read, answered, chosen or typed, with a button an answer."""
     question, line = shown.question, shown.line
     if question is None:
         return None
     lines = [one for one in question.lines if one.code != "box change"]
     answers = [*question.answers, *([line.answer] if line else [])]
-    found: Data = {
+    found: QuestionData = {
         "number": shown.asked,
         "title": wording.notice(question.title),
         "lines": [{"code": one.code, "text": wording.notice(one)} for one in lines],
@@ -46,10 +45,10 @@ def question_data(wording: Wording, shown: Shown) -> Optional[Data]:
     return found
 
 
-def cost_rows(box: Box) -> list[Data]:
+def cost_rows(box: Box) -> list[CostRowData]:
     """The costs before and after a commit, part by part, and their sums."""
     before = box.before or None
-    rows = [
+    rows: list[CostRowData] = [
         {"label": part, "was": before[part] if before else None, "now": box.after[part]}
         for part in COSTS
     ]
@@ -57,7 +56,7 @@ def cost_rows(box: Box) -> list[Data]:
     return [*rows, {"label": "total", "was": was, "now": sum(box.after.values())}]
 
 
-def news_data(planning: Planning, wording: Wording, accepted: Accepted) -> Data:
+def news_data(planning: Planning, wording: Wording, accepted: Accepted) -> NewsData:
     """An accepted draft."""
     news, entry = planning.news, accepted.entry
     facts = news.facts(accepted)

@@ -1,18 +1,16 @@
 """Which accepted drafts the windows of a seat were sent."""
 from __future__ import annotations
 
-from typing import Any
-
+from office.web.message_types import NewsData
 from office.web.messages import news_data
 from office.words.wording import Wording
 from office.work.planning import Planning
 
 # so many drafts are told when a window begins
 DRAFTS = 40
-Data = dict[str, Any]
 
 
-def last_news(planning: Planning, wording: Wording) -> list[Data]:
+def last_news(planning: Planning, wording: Wording) -> list[NewsData]:
     """The last drafts that were accepted."""
     return [news_data(planning, wording, one) for one in planning.news.accepted[-DRAFTS:]]
 
@@ -25,10 +23,10 @@ class NewsSent:
         self.count = max(0, len(planning.news.accepted) - DRAFTS)
         # how long the notes of commits were then
         self.notes = 0
-        self.sent: dict[int, Data] = {}
+        self.sent: dict[int, NewsData] = {}
         self.read_on()
 
-    def read_on(self) -> list[Data]:
+    def read_on(self) -> list[NewsData]:
         """Drafts that were accepted since, and those of which more is known by now: a reason is
         written after its commit."""
         news = self.planning.news

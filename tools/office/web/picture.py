@@ -2,7 +2,7 @@
 of the wording alone."""
 from __future__ import annotations
 
-from typing import Any
+from typing import cast
 
 from office.day.closure import Closure
 from office.day.edits import Edit
@@ -10,6 +10,19 @@ from office.day.lecture import Lecture, Slot
 from office.day.rules import students_without_seat
 from office.seat.answers import Offer, costs_in
 from office.web.frame import Frame
+from office.web.message_types import (
+    AboutLectureData,
+    BlockedData,
+    CellData,
+    DraftData,
+    HeldData,
+    HeldSlotData,
+    MissingData,
+    OfferData,
+    PictureData,
+    StateData,
+    WeekData,
+)
 from office.words.closure_notices import blocked_here_notice, by_notice, closure_notice
 from office.words.notice import NOTHING, Notice, say
 from office.words.text import counted
@@ -17,8 +30,6 @@ from office.work.carry import SWAP, Carry
 from office.work.planning import Planning
 from office.work.week import Cell, View, by_slot, courses_of_view, of_view, weeks_of
 from office.work.work import Work
-
-Data = dict[str, Any]
 
 
 class Picture:
@@ -30,10 +41,11 @@ class Picture:
         self.planning: Planning = work.planning
         self.wording = frame.wording
 
-    def data(self) -> Data:
+    def data(self, number: int) -> PictureData:
         carry = self.work.carry
         goal, self.work.goal = self.work.goal, None
         return {
+            "number": number,
             # where to look, if something was chosen that stands there
             "goal": goal,
             "state": self.state(),
@@ -43,7 +55,7 @@ class Picture:
 
     # the draft
 
-    def state(self) -> Data:
+    def state(self) -> StateData:
         planning = self.planning
         return {
             "costs": planning.costs(),
@@ -62,7 +74,7 @@ class Picture:
         urgent = [one for one in self.work.urgent() if one.code != "closing"]
         return self.wording.notice(urgent[0]) if urgent else ""
 
-    def draft(self) -> Data:
+    def draft(self) -> DraftData:
         planning, wording = self.planning, self.wording
         row = planning.stale_preview
         stale = say("box stale", row=row) if row is not None else NOTHING
@@ -78,8 +90,8 @@ class Picture:
             "left_out": wording.lines(planning.left_out()),
         }
 
-    def missing(self) -> list[Data]:
-        return [
+    def missing(self) -> list[MissingData]:
+        found = [
             {
                 "count": count,
                 "stood": [self.wording.place(one) for one in self.work.stood(name)],
@@ -87,10 +99,11 @@ class Picture:
             }
             for name, count in self.planning.missing().items()
         ]
+        return cast(list[MissingData], found)
 
     # a week
 
-    def week(self) -> Data:
+    def week(self) -> WeekData:
         view, instance = self.work.view, self.planning.instance
         cells, gone = self.work.cells(), self.gone()
         newest = by_slot(of_view(self.planning.known.newest, view))
@@ -110,19 +123,16 @@ class Picture:
             "cells": drawn,
         }
 
-    def cell(self, slot: Slot, cell: Cell, gone: list[Lecture], newest: list[Lecture]) -> Data:
+    def cell(
+        self, slot: Slot, cell: Cell, gone: list[Lecture], newest: list[Lecture]
+    ) -> CellData:
         rooms = self.planning.instance.rooms
         changed = self.work.changed_here(slot) if cell.is_others else None
         brief = self.frame.brief
         return {
             "at": slot,
             "lectures": [
-                {
-                    **self.frame.lecture(one),
-                    "seats": rooms[one.room],
-                    "short": signs.short,
-                    "alone": signs.alone,
-                }
+                self.frame.lecture(one, rooms[one.room], signs)
                 for one, signs in zip(cell.lectures, cell.signs)
             ],
             "mine": cell.is_mine,
@@ -139,7 +149,7 @@ class Picture:
             "blocked": [self.blocked(one) for one in cell.blocked],
         }
 
-    def blocked(self, closure: Closure) -> Data:
+    def blocked(self, closure: Closure) -> BlockedData:
         """Why a slot is blocked, in few words, and with by whom and when."""
         return {
             "why": self.wording.safe(closure.why),
@@ -180,7 +190,7 @@ class Picture:
             f"costs {points or 'nothing'}",
         ]
 
-    def about(self, lecture: Lecture) -> Data:
+    def about(self, lecture: Lecture) -> AboutLectureData:
         """The lecture at the cursor, with the weeks in which it stands."""
         wording, instance = self.wording, self.planning.instance
         seats = instance.rooms[lecture.room]
@@ -198,16 +208,16 @@ class Picture:
             "lines": [room, *self.course_lines(lecture.course)],
             # what others have to do with it
             "notices": wording.lines(notices),
-            "weeks": [[view, wording.short(*view)] for view in weeks_of(instance, lecture)],
+            "weeks": [(view, wording.short(*view)) for view in weeks_of(instance, lecture)],
         }
 
     # what is held
 
-    def held(self, carry: Carry) -> Data:
+    def held(self, carry: Carry) -> HeldData:
         """The cheapest offer of each slot, in the own slot of what is moved all rooms, or why there
         is none."""
         best = carry.best()
-        return {
+        found: dict[str, object] = {
             "kind": carry.kind.value,
             **self.frame.course(carry.course),
             "about": self.frame.about(View("course", carry.course)),
@@ -220,8 +230,9 @@ class Picture:
             "place": carry.cheapest(best[0]).index(best[1]) if best else 0,
             "slots": [self.slot(carry, slot) for slot in self.planning.instance.slots()],
         }
+        return cast(HeldData, found)
 
-    def slot(self, carry: Carry, slot: Slot) -> Data:
+    def slot(self, carry: Carry, slot: Slot) -> HeldSlotData:
         offers = carry.cheapest(slot)
         if offers:
             return {"at": slot, "offers": [self.offer(carry, offer) for offer in offers]}
@@ -229,11 +240,11 @@ class Picture:
         words = self.wording.notice
         return {"at": slot, "offers": [], "shortly": words(shortly), "why": words(why)}
 
-    def offers(self, slot: Slot) -> list[list[Any]]:
+    def offers(self, slot: Slot) -> list[OfferData]:
         """All that a slot offers for what is held, cheapest first."""
         carry = self.work.carry
         return [self.offer(carry, offer) for offer in carry.at(slot)] if carry else []
 
-    def offer(self, carry: Carry, offer: Offer) -> list[Any]:
+    def offer(self, carry: Carry, offer: Offer) -> OfferData:
         kind = "course" if carry.kind is SWAP else "room"
-        return [offer.price, offer.about, self.wording.short(kind, offer.about)]
+        return offer.price, offer.about, self.wording.short(kind, offer.about)

@@ -7,14 +7,16 @@ from typing import Any, Optional
 
 from office.day.edits import Edit
 from office.day.folder import Day
+from office.day.lecture import Lecture, Slot
 from office.day.parts import DayMinutes
 from office.day.timetable import Timetable
 from office.refused import Refused
 from office.web.frame import Frame
 from office.web.guard import Fault
+from office.web.message_types import CellData, ReaderPictureData, WeekData
 from office.web.verbs import Request
 from office.web.windows import Window, Windows
-from office.work.week import View, all_views, blocked_at, by_slot, of_view
+from office.work.week import Signs, View, all_views, blocked_at, by_slot, of_view
 
 # so many may read at once; one more lets go the one that has been there longest
 MOST = 1000
@@ -77,7 +79,7 @@ class Readers:
             window.shown = request.view()
         return {**self.frame.data(), "picture": self.picture(window)}
 
-    def picture(self, window: Window) -> Data:
+    def picture(self, window: Window) -> ReaderPictureData:
         """The week that a window shows, as it stands now."""
         views = all_views(self.instance)
         view: View = window.shown or views[0]
@@ -86,22 +88,39 @@ class Readers:
         closed = self.instance.closed[view.name] if view.kind == "course" else set()
         lectures = by_slot(of_view(self.timetable, view))
         blocked = {one for one in self.instance.slots() if blocked_at(self.instance, view, one)}
-        blank: Data = {"mine": False, "others": [], "now": None, "gone": [], "working": []}
         cells = [
-            {
-                "at": slot,
-                "lectures": [self.frame.lecture(one) for one in lectures.get(slot, [])],
-                "closed": slot in closed,
-                # who reads is told neither why nor by whom
-                "blocked": [{"why": "", "text": "blocked"}] if slot in blocked else [],
-                **blank,
-            }
+            self.cell(slot, lectures.get(slot, []), slot in closed, slot in blocked)
             for slot in self.instance.slots()
             if slot in lectures or slot in closed or slot in blocked
         ]
         title = self.frame.wording.name(*view)
-        week = {"view": view, "title": title, "about": self.frame.about(view), "cells": cells}
+        week: WeekData = {
+            "view": view,
+            "title": title,
+            "about": self.frame.about(view),
+            "missing": "",
+            "working": [],
+            "cells": cells,
+        }
         return {"number": self.pictures, "week": week}
+
+    def cell(
+        self, slot: Slot, lectures: list[Lecture], is_closed: bool, is_blocked: bool
+    ) -> CellData:
+        """A slot for who reads, who is told neither why it is blocked nor by whom."""
+        return {
+            "at": slot,
+            "lectures": [self.frame.lecture(one, None, Signs(0, 0)) for one in lectures],
+            "mine": False,
+            "others": [],
+            "changed": "",
+            "now": None,
+            "closed": is_closed,
+            "gone": [],
+            "working": [],
+            "pinned": False,
+            "blocked": [{"why": "", "text": "blocked"}] if is_blocked else [],
+        }
 
     async def look(self) -> None:
         self.windows.drop_silent()

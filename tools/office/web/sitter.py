@@ -15,6 +15,7 @@ from office.seat.seat import DeskEnded, NoAnswer, Seat, is_taken, read_sitter
 from office.web.action_names import key_table
 from office.web.frame import Frame
 from office.web.guard import Fault
+from office.web.message_types import NoticeData, PictureData
 from office.web.messages import notice_data, question_data
 from office.web.news_sent import NewsSent, last_news
 from office.web.picture import Picture
@@ -259,13 +260,12 @@ class Sitter:
             if question is not None:
                 shown.ask(question)
 
-    def _picture(self, shown: Shown) -> Data:
+    def _picture(self, shown: Shown) -> PictureData:
         shown.work.renew()
         shown.pictures += 1
-        data = Picture(self.frame, shown.work, self.prices).data()
-        return {"number": shown.pictures, **data}
+        return Picture(self.frame, shown.work, self.prices).data(shown.pictures)
 
-    def _notice(self, before: Optional[int] = None) -> Data:
+    def _notice(self, before: Optional[int] = None) -> NoticeData:
         """What there is to say; of an edit that was made also how it has changed the cost."""
         planning = self.planning
         assert planning is not None

@@ -1,3 +1,4 @@
+// @ts-check
 // What each key, button and drag does: it is asked of the office, with what was seen.
 import * as boxes from "./boxes.js";
 import { announce, find, isTyping, save } from "./dom.js";
@@ -8,10 +9,18 @@ import { same } from "./numbers.js";
 import { toast } from "./toasts.js";
 
 class Acts {
-  // app: what is known; week: the grid; turn: asks the office; queue: one act after another;
-  // look: what is drawn about the cursor
-  constructor(parts) {
-    Object.assign(this, parts);
+  constructor(/** @type {Parts} */ parts) {
+    this.app = parts.app;
+    this.week = parts.week;
+    this.look = parts.look;
+    this.turn = parts.turn;
+    this.queue = parts.queue;
+    this.search = parts.search;
+    /** @type {(name: string) => any} */
+    this.queued = (name) => {
+      const act = () => this.act(name);
+      return AT_ONCE.includes(name) ? act() : this.queue(act);
+    };
     this.toWeek = () => this.week.setCursor(this.week.cursor, true);
   }
 
@@ -23,17 +32,20 @@ class Acts {
     return this.held !== null;
   }
 
+  /** @type {(slot: SlotData) => ?HeldSlotData} */
   offerAt(slot) {
     return this.held?.slots.find((one) => same(one.at, slot));
   }
 
   // what a slot offers, beside the hand
+  /** @type {(slot: SlotData) => [string, string]} */
   told(slot) {
     return heldShort(this.held, this.offerAt(slot));
   }
 
   // the week
 
+  /** @type {(view: PairData) => Promise<void>} */
   async show(view) {
     await this.turn("show", { view });
     this.look.toFirst();
@@ -41,6 +53,7 @@ class Acts {
     announce(`Week of ${this.app.picture.week.title}`);
   }
 
+  /** @type {(lecture: ?Seen) => Promise<void>} */
   async nextWeek(lecture) {
     await this.turn("next_week", { lecture });
     announce(`Week of ${this.app.picture.week.title}`);
@@ -48,6 +61,10 @@ class Acts {
 
   // what is held
 
+  /**
+   * @param {string} verb
+   * @param {object} [told]
+   */
   async hold(verb, told) {
     const begun = performance.now();
     await this.turn(verb, told);
@@ -55,12 +72,14 @@ class Acts {
     this.toWeek();
   }
 
+  /** @type {(slot: SlotData, lecture?: ?Seen, kind?: "move" | "swap") => Promise<void>} */
   pickUp(slot, lecture = this.week.seen(slot), kind = "move") {
     this.look.place = null;
     this.week.setCursor(slot, true);
     return this.hold("pick_up", { lecture, kind });
   }
 
+  /** @type {(course: string) => Promise<void>} */
   async place(course) {
     await this.turn("pick_up_missing", { course });
     const isDragging = document.body.classList.contains("dragging");
@@ -68,25 +87,30 @@ class Acts {
     else this.look.drawTray();
   }
 
+  /** @type {(slot: SlotData, lecture: ?Seen) => Promise<void>} */
   swap(slot, lecture) {
     return this.held ? this.hold("swap_instead") : this.pickUp(slot, lecture, "swap");
   }
 
+  /** @type {(slot: SlotData, lecture: ?Seen) => Promise<void>} */
   move(slot, lecture) {
     return this.held ? this.hold("move_instead") : this.pickUp(slot, lecture);
   }
 
   // puts down what is held, or picks up what was seen
+  /** @type {(slot: SlotData, lecture: ?Seen) => Promise<void>} */
   enter(slot, lecture) {
     return this.held ? this.drop(slot) : this.pickUp(slot, lecture);
   }
 
+  /** @type {(slot: SlotData) => Promise<void>} */
   drop(slot) {
     const offer = this.offerAt(slot);
     const place = same(slot, this.week.cursor) ? this.look.place : null;
     return offer && this.putDown(slot, chosen(this.held, offer, place));
   }
 
+  /** @type {(slot: SlotData, offer: ?OfferData) => Promise<void>} */
   async putDown(slot, offer) {
     const [price, about] = offer || [null, null];
     this.week.setCursor(slot, false);
@@ -107,6 +131,7 @@ class Acts {
   }
 
   // the rooms of a slot by price, or the partners of a swap
+  /** @type {(slot: SlotData, lecture: ?Seen) => Promise<void>} */
   async rooms(slot, lecture) {
     if (!this.held) await this.pickUp(slot, lecture);
     if (!this.held || isTyping()) return;
@@ -122,10 +147,12 @@ class Acts {
     this.look.goTo(slot);
     const what = held.kind === "swap" ? "swap with" : "rooms by price";
     const label = `${held.said}, ${week.said(slot)}: ${what}`;
+    /** @type {(at: number) => Promise<void>} */
     const take = (at) => this.queue(() => this.putDown(slot, offers[at]));
     openMenu(week.cell(slot), label, offers, take, this.toWeek);
   }
 
+  /** @type {(lecture: ?Seen) => Promise<Found>} */
   takeOut(lecture) {
     return this.turn("take_out", { lecture });
   }
@@ -139,6 +166,7 @@ class Acts {
 
   // what is asked in front of the week
 
+  /** @type {(question: number, answer: ?string, more: object) => Promise<Found>} */
   answer(question, answer, more) {
     return this.turn("answer", { question, answer, ...more });
   }
@@ -154,6 +182,7 @@ class Acts {
   }
 
   // an action by the name that keys have, on what is seen when all before it is done
+  /** @type {(name: string) => any} */
   act(name) {
     const slot = this.week.cursor;
     const lecture = this.week.seen(slot);
@@ -176,32 +205,41 @@ class Acts {
   }
 }
 
-const QUEUED = ["show", "pickUp", "place", "drop", "putDown", "layDown", "rooms", "answer"];
 // these wait for nothing: what is typed after them is text
 const AT_ONCE = ["view", "line", "help"];
 
 // the acts, each after those that were asked for before it
-export function makeActs(parts) {
-  const raw = new Acts(parts);
-  const acts = {
+/** @type {(parts: Parts) => Acting} */
+export function makeActs({ closed, seen, ...parts }) {
+  const raw = new Acts({ closed, seen, ...parts });
+  const { queue, look } = raw;
+  /** @type {(slot: SlotData) => Promise<void>} */
+  const drop = (slot) => queue(() => raw.drop(slot));
+  return {
     isHolding: () => raw.isHolding(),
     told: (slot) => raw.told(slot),
-    act: (name) => (AT_ONCE.includes(name) ? raw.act(name) : raw.queue(() => raw.act(name))),
+    act: raw.queued,
     toWeek: raw.toWeek,
-    hover: (slot) => raw.look.hover(slot),
-    go: (days, periods) => raw.queue(() => raw.look.go(days, periods)),
+    hover: (slot) => look.hover(slot),
+    go: (days, periods) => queue(() => look.go(days, periods)),
     closeQuestion: (question) => {
-      raw.app.question = null;
-      return raw.queue(() => raw.turn("close", { question }));
+      closed();
+      return queue(() => raw.turn("close", { question }));
     },
+    more: (slot) => {
+      const lecture = raw.week.seen(slot);
+      return queue(() => raw.rooms(slot, lecture));
+    },
+    tap: (slot) => {
+      seen();
+      if (raw.isHolding()) drop(slot);
+      else look.goTo(slot);
+    },
+    show: (view) => queue(() => raw.show(view)),
+    pickUp: (slot) => queue(() => raw.pickUp(slot)),
+    place: (course) => queue(() => raw.place(course)),
+    drop,
+    layDown: () => queue(() => raw.layDown()),
+    answer: (question, answer, more) => queue(() => raw.answer(question, answer, more)),
   };
-  for (const name of QUEUED) acts[name] = (...told) => raw.queue(() => raw[name](...told));
-  raw.queued = acts.act;
-  acts.more = (slot) => acts.rooms(slot, raw.week.seen(slot));
-  acts.tap = (slot) => {
-    raw.app.recent.clear();
-    if (raw.isHolding()) acts.drop(slot);
-    else raw.look.goTo(slot);
-  };
-  return acts;
 }

@@ -1,22 +1,30 @@
+// @ts-check
 // Boxes in front of the week: what is to be read or answered.
-import { button, el, find, key, name } from "./dom.js";
-import { kindOf, number, signed } from "./numbers.js";
+import { costTable } from "./costs.js";
+import { button, el, find, key, name, weekCell } from "./dom.js";
 
 // where the keyboard was; whether what is in front is a question of the office; and one that has
 // come while something else was typed or read
+/** @type {?HTMLElement} */
 let before = null;
 let isAsked = false;
+/** @type {?() => void} */
 let later = null;
 
 // where the keyboard goes when a box is closed
+/** @type {(element: ?HTMLElement) => void} */
 export function backTo(element) {
   before = element;
 }
 
 // letters: what is done by a letter, where nothing is typed
-export function open(title, parts, { cls = "", cancel, letters = {} } = {}) {
+/**
+ * @typedef {{ cls?: string, cancel?: () => void, letters?: Record<string, () => void> }} Settings
+ * @type {(title: string, parts: (?HTMLElement)[], settings?: Settings) => void}
+ */
+export function open(title, parts, { cls = "", cancel = null, letters = {} } = {}) {
   const box = find("box");
-  if (!box.open) before = document.activeElement;
+  if (!box.open) before = /** @type {HTMLElement} */ (document.activeElement);
   isAsked = false;
   box.className = cls;
   box.oncancel = (event) => {
@@ -31,16 +39,18 @@ export function open(title, parts, { cls = "", cancel, letters = {} } = {}) {
   };
   box.onkeydown = (event) => {
     const act = letters[event.key.toLowerCase()];
-    const isTyped = event.ctrlKey || event.metaKey || event.altKey || event.target.matches("input");
+    const isInput = event.target instanceof HTMLInputElement;
+    const isTyped = event.ctrlKey || event.metaKey || event.altKey || isInput;
     if (!act || isTyped || event.repeat) return;
     event.preventDefault();
     act();
   };
   box.replaceChildren(el("h2", { id: "box-title" }, name(title)), ...parts.filter(Boolean));
   if (!box.open) box.showModal();
+  /** @type {?HTMLElement} */
   const first = box.querySelector("[autofocus]") || box.querySelector("button");
   first?.focus();
-  if (first?.matches("input")) first.select();
+  if (first instanceof HTMLInputElement) first.select();
 }
 
 export function close() {
@@ -48,8 +58,7 @@ export function close() {
   if (!find("box-title")) return;
   box.replaceChildren();
   if (box.open) box.close();
-  const week = find("week").querySelector("[tabindex='0']");
-  const target = before?.isConnected && before !== document.body ? before : week;
+  const target = before?.isConnected && before !== document.body ? before : weekCell();
   target?.focus();
   askLater();
 }
@@ -69,9 +78,11 @@ export function closeAsked() {
   if (isAsked) close();
 }
 
+/** @type {(...made: any[]) => HTMLElement} */
 export const buttons = (...made) => el("div", { cls: "buttons end" }, ...made);
 
 // a line of text in a box, and what Enter does with it
+/** @type {(id: string, label: string, more: object, go: () => void) => HTMLElement[]} */
 function field(id, label, more, go) {
   const input = el("input", { type: "text", id, autocomplete: "off", ...more });
   input.addEventListener("keydown", (event) => {
@@ -83,6 +94,7 @@ function field(id, label, more, go) {
 }
 
 // who sits down; a promise of the name
+/** @type {(wants: WantsData, proposed: string) => Promise<string>} */
 export function askName({ seat, last }, proposed) {
   return new Promise((done) => {
     const go = () => {
@@ -110,6 +122,7 @@ export function askName({ seat, last }, proposed) {
 }
 
 // a line of the desk that is typed by hand
+/** @type {(send: (line: string) => void) => void} */
 export function askLine(send) {
   const go = () => {
     const line = find("line").value.trim();
@@ -128,38 +141,17 @@ export function askLine(send) {
 }
 
 // lines of a question by what they are: titles, edits, and what else is told
+/** @type {(line: LineData) => ?HTMLElement} */
 function linePart({ code, text }) {
   if (!text) return null;
   return el("p", { cls: `line-${code.replace(/ /g, "-")}` }, name(text.trim()));
 }
 
-function costTable(costs) {
-  const row = ({ label, was, now }, cls) =>
-    el(
-      "tr",
-      { cls },
-      el("th", { scope: "row" }, label),
-      el("td", {}, was === null ? "" : number(was)),
-      el("td", {}, number(now)),
-      el(
-        "td",
-        {},
-        was === null || was === now
-          ? ""
-          : el("span", { cls: `delta ${kindOf(now - was)}` }, signed(now - was))
-      )
-    );
-  const heads = ["before", "after", ""].map((text) => el("th", { scope: "col" }, text));
-  return el(
-    "table",
-    { cls: "sums" },
-    el("thead", {}, el("tr", {}, el("td"), heads)),
-    el("tbody", {}, costs.slice(0, -1).map((one) => row(one))),
-    el("tfoot", {}, row(costs[costs.length - 1]))
-  );
-}
+/** @type {Record<string, number>} */
+const STEPS = { ArrowDown: 1, ArrowUp: -1 };
 
 // what can be chosen from, which narrows as one types
+/** @type {(choices: string[], choose: (at: number) => void) => HTMLElement} */
 function choiceList(choices, choose) {
   const items = choices.map((text, at) => ({
     text: text.toLowerCase(),
@@ -172,11 +164,13 @@ function choiceList(choices, choose) {
     const words = input.value.toLowerCase().split(/\s+/);
     for (const { text, item } of items) item.hidden = !words.every((word) => text.includes(word));
   });
-  const shown = () => [...list.querySelectorAll("li:not([hidden]) button")];
+  /** @type {() => NodeListOf<HTMLElement>} */
+  const shown = () => list.querySelectorAll("li:not([hidden]) button");
+  /** @type {(event: KeyboardEvent) => void} */
   const walk = (event) => {
     const all = [input, ...shown()];
-    const at = all.indexOf(document.activeElement);
-    const step = { ArrowDown: 1, ArrowUp: -1 }[event.key];
+    const at = all.indexOf(/** @type {HTMLElement} */ (document.activeElement));
+    const step = STEPS[event.key];
     if (step) all[Math.max(0, Math.min(all.length - 1, at + step))].focus();
     else if (event.key === "Enter" && at === 0) shown()[0]?.click();
     else return;
@@ -188,6 +182,7 @@ function choiceList(choices, choose) {
 // a question of the office: its title and lines, perhaps costs, a list, a line to type, and a
 // button an answer. What is typed or read meanwhile is ended first, so that no key meant for that
 // answers it.
+/** @type {(question: QuestionData, acts: Acting) => void} */
 export function ask(question, acts) {
   const isBusy = document.activeElement === find("search-input") || (find("box").open && !isAsked);
   if (isBusy) {
@@ -200,7 +195,9 @@ export function ask(question, acts) {
     acts.closeQuestion(id);
   };
   const typed = () => (why ? { why: find("why").value.trim() } : {});
+  /** @type {(answer: string) => () => void} */
   const go = (answer) => () => acts.answer(id, answer, typed());
+  /** @type {(choice: number) => Promise<any>} */
   const choose = (choice) => acts.answer(id, null, { choice });
   const first = answers.length ? go(answers[0].name) : back;
   const isRead = !answers.length && !choices.length;
@@ -231,6 +228,7 @@ export function ask(question, acts) {
 }
 
 // what has become of the draft while its box is in front
+/** @type {(text: string) => void} */
 export function previewStale(text) {
   const line = document.getElementById("stale-preview");
   if (!line) return;

@@ -1,7 +1,9 @@
+// @ts-check
 // A lecture as a card, and the signs for what costs points.
 import { el, name } from "./dom.js";
 import { counted } from "./numbers.js";
 
+/** @type {(lecture: LectureData, kind: string) => HTMLElement[]} */
 export function signs(lecture, kind) {
   const found = [];
   if (lecture.short) {
@@ -16,12 +18,19 @@ export function signs(lecture, kind) {
   return found;
 }
 
+/** @type {(cls: string, ...parts: any[]) => HTMLElement} */
 const line = (cls, ...parts) => el("div", { cls: `line ${cls}` }, ...parts);
 
 const pencil = () => el("span", { cls: "pencil", "aria-hidden": "true" }, "✎");
 
 // what the week's title says already is dim
-export function card(lecture, [kind], { canMove }, isMine) {
+/**
+ * @param {LectureData} lecture
+ * @param {PairData} view
+ * @param {boolean} canMove
+ * @param {boolean} isMine
+ */
+export function card(lecture, [kind], canMove, isMine) {
   const grip = el("span", { cls: "grip", "aria-hidden": "true", title: "drag" }, "⠿");
   const people = `${lecture.students}/${lecture.seats}`;
   return el(
@@ -41,6 +50,7 @@ export function card(lecture, [kind], { canMove }, isMine) {
   );
 }
 
+/** @type {(lecture: LectureData) => string} */
 export function cardSaid(lecture) {
   const found = [`${lecture.said} in ${lecture.room_said}, teacher ${lecture.teacher_said}`];
   if (lecture.seats) found.push(`${lecture.students} students, ${lecture.seats} seats`);

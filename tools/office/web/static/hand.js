@@ -1,3 +1,4 @@
+// @ts-check
 // The pointer: a lecture is dragged by mouse, pen or finger, and dropped on a slot.
 import { el, find, name } from "./dom.js";
 import { keyOf } from "./numbers.js";
@@ -5,22 +6,47 @@ import { keyOf } from "./numbers.js";
 // so many pixels are no drag yet
 const NEAR = 6;
 
+/**
+ * @typedef {{ card: HTMLElement, slot: ?SlotData, missing?: string, x: number, y: number,
+ *   id: number, isDragging: boolean }} Pressed
+ */
+
 class Hand {
-  // acts: pickUp(slot) and place(course), which answer a promise, drop(slot), layDown(),
-  // hover(slot), told(slot)
+  /**
+   * @param {import("./week.js").Week} week
+   * @param {Acting} acts
+   */
   constructor(week, acts) {
-    Object.assign(this, { week, acts, pressed: null, ghost: null, over: null });
+    this.week = week;
+    this.acts = acts;
+    // what is pressed; what is drawn at a pointer that drags it, with the price there
+    /** @type {?Pressed} */
+    this.pressed = null;
+    /** @type {?HTMLElement} */
+    this.ghost = null;
+    /** @type {?HTMLElement} */
+    this.price = null;
+    // the slot over which it is, and where the pointer was last
+    /** @type {?SlotData} */
+    this.over = null;
+    /** @type {?string} */
+    this.at = null;
   }
 
+  /** @type {(event: PointerEvent) => void} */
   begin(event) {
-    const card = event.target.closest?.(".card");
+    const target = elementOf(event);
+    /** @type {?HTMLElement} */
+    const card = target?.closest(".card");
     if (event.button !== 0 || !card || this.pressed || this.acts.isHolding()) return;
     // a finger scrolls, unless it takes the grip
-    if (event.pointerType === "touch" && !event.target.closest(".grip")) return;
+    if (event.pointerType === "touch" && !target.closest(".grip")) return;
+    /** @type {?HTMLElement} */
+    const missing = target.closest("[data-missing]");
     this.pressed = {
       card,
       slot: this.week.slotAt(event.target),
-      missing: event.target.closest("[data-missing]")?.dataset.missing,
+      missing: missing?.dataset.missing,
       x: event.clientX,
       y: event.clientY,
       id: event.pointerId,
@@ -28,6 +54,7 @@ class Hand {
     };
   }
 
+  /** @type {(event: PointerEvent) => void} */
   move(event) {
     const { pressed } = this;
     if (!pressed || event.pointerId !== pressed.id) return;
@@ -49,6 +76,7 @@ class Hand {
   }
 
   // where a hand lets go: where it is marked if it has rested, whatever has been drawn under it
+  /** @type {(event: PointerEvent) => ?SlotData} */
   slotOf(event) {
     if (this.at === [event.clientX, event.clientY].join()) return this.over;
     return this.week.slotAt(document.elementFromPoint(event.clientX, event.clientY));
@@ -69,9 +97,9 @@ class Hand {
     document.body.append(this.ghost);
     document.body.classList.add("dragging");
     const { pickUp, place } = this.acts;
-    pressed.ready = pressed.missing ? place(pressed.missing) : pickUp(pressed.slot);
+    const ready = pressed.missing ? place(pressed.missing) : pickUp(pressed.slot);
     // a hand that rests sees the prices, too, when they come, and is where the cursor is
-    pressed.ready.then(() => {
+    ready.then(() => {
       if (this.pressed !== pressed || !this.over) return;
       this.acts.hover(this.over);
       this.renew();
@@ -83,12 +111,14 @@ class Hand {
     if (this.ghost) this.tell(this.over);
   }
 
+  /** @type {(slot: ?SlotData) => void} */
   tell(slot) {
     const [kind, text] = slot ? this.acts.told(slot) : ["", ""];
     this.price.className = `held-price delta ${kind}`;
     this.price.replaceChildren(name(text));
   }
 
+  /** @type {(slot: ?SlotData) => void} */
   mark(slot) {
     if (this.over) this.week.cell(this.over).classList.remove("over");
     this.over = slot;
@@ -96,6 +126,7 @@ class Hand {
   }
 
   // a drop has its turn after the picking up, which may not be answered yet
+  /** @type {(event: PointerEvent) => void} */
   end(event) {
     const { pressed } = this;
     if (!pressed || event.pointerId !== pressed.id) return;
@@ -115,6 +146,7 @@ class Hand {
     document.body.classList.remove("dragging");
   }
 
+  /** @type {(event: Pick<KeyboardEvent, "key" | "stopPropagation">) => void} */
   escape(event) {
     if (event.key !== "Escape" || !this.pressed?.isDragging) return;
     event.stopPropagation();
@@ -125,6 +157,7 @@ class Hand {
 
 // the click that follows a drag means nothing
 function swallowClick() {
+  /** @type {(event: Event) => void} */
   const eat = (event) => {
     event.stopPropagation();
     event.preventDefault();
@@ -133,6 +166,10 @@ function swallowClick() {
   setTimeout(() => window.removeEventListener("click", eat, { capture: true }), 50);
 }
 
+/** @type {(event: Event) => ?Element} */
+const elementOf = (event) => (event.target instanceof Element ? event.target : null);
+
+/** @type {(week: import("./week.js").Week, acts: Acting) => Hand} */
 export function makeHand(week, acts) {
   const hand = new Hand(week, acts);
   document.addEventListener("pointerdown", (event) => hand.begin(event));
@@ -145,12 +182,12 @@ export function makeHand(week, acts) {
   grid.addEventListener("click", (event) => {
     const slot = week.slotAt(event.target);
     if (!slot) return;
-    if (event.target.closest("button.more")) acts.more(slot);
+    if (elementOf(event).closest("button.more")) acts.more(slot);
     else acts.tap(slot);
   });
   grid.addEventListener("dblclick", (event) => {
     const slot = week.slotAt(event.target);
-    if (slot && event.target.closest(".card") && !acts.isHolding()) acts.pickUp(slot);
+    if (slot && elementOf(event).closest(".card") && !acts.isHolding()) acts.pickUp(slot);
   });
   // a mouse that rests points nowhere, whatever is drawn under it
   grid.addEventListener("pointermove", (event) => {

@@ -1,19 +1,24 @@
+// @ts-check
 // A slot while a lecture is held: its cheapest price and room, or why it cannot stand there. What
 // else it offers is asked when it is wanted.
 import { el, name } from "./dom.js";
 import { kindOf, priceSaid, same, signed } from "./numbers.js";
 
+/** @type {(held: HeldData) => string} */
 const preposition = (held) => (held.kind === "swap" ? "with" : "in");
 
 // the button that asks for all that a slot offers
+/** @type {(said: string, ...label: any[]) => HTMLElement} */
 function more(said, ...label) {
   const told = { type: "button", cls: "more", tabindex: "-1", "aria-label": `${said} by price` };
   return el("button", told, label, "▾");
 }
 
+/** @type {(text: string) => HTMLElement} */
 const word = (text) => el("span", { cls: "word" }, `${text} `);
 
 // what stands in the slot now
+/** @type {(one: Cell, view: PairData) => HTMLElement[]} */
 function here(one, [kind]) {
   return one.lectures.map((lecture) =>
     el(
@@ -27,6 +32,7 @@ function here(one, [kind]) {
 }
 
 // where it comes from: it stays, unless the cheapest of all is another room there
+/** @type {(held: HeldData, offer: HeldSlotData) => HTMLElement[]} */
 function homeParts(held, offer) {
   const isSwap = held.kind === "swap";
   const count = offer.offers.filter(([, code]) => isSwap || code !== held.room).length;
@@ -41,6 +47,14 @@ function homeParts(held, offer) {
   ].filter(Boolean);
 }
 
+/**
+ * @param {HTMLElement} cell
+ * @param {Cell} one
+ * @param {HeldData} held
+ * @param {HeldSlotData} offer
+ * @param {PairData} view
+ * @returns {HTMLElement[]}
+ */
 export function heldParts(cell, one, held, offer, view) {
   if (same(offer.at, held.at)) {
     cell.classList.add("home", "can");
@@ -65,12 +79,14 @@ export function heldParts(cell, one, held, offer, view) {
 }
 
 // which offer of a slot is meant: none where it stays
+/** @type {(held: HeldData, offer: HeldSlotData, place: ?number) => ?OfferData} */
 export function chosen(held, offer, place) {
   if (place !== null) return offer.offers[place];
   return same(offer.at, held.at) ? null : offer.offers[0];
 }
 
 // the same in a sentence; place is that of the offer that is meant, if one was chosen
+/** @type {(held: HeldData, offer: HeldSlotData, place?: ?number) => string} */
 export function heldSaid(held, offer, place = null) {
   const one = chosen(held, offer, place);
   if (!one && same(offer.at, held.at)) return `${held.said} stays here`;
@@ -80,6 +96,7 @@ export function heldSaid(held, offer, place = null) {
 }
 
 // the same beside the hand: its kind and a few letters
+/** @type {(held: ?HeldData, offer: ?HeldSlotData) => [string, string]} */
 export function heldShort(held, offer) {
   if (!held || !offer) return ["", "…"];
   if (same(offer.at, held.at)) return ["same", "stays"];

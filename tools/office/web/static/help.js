@@ -1,17 +1,23 @@
+// @ts-check
 // The box that explains keys and signs.
 import { backTo, buttons, close, open } from "./boxes.js";
 import { button, el, key } from "./dom.js";
 
 // each key in a sentence, which does the same if it is pressed here; the signs, and the costs
+/** @type {(day: HelloData, act: (name: string) => void) => void} */
 export function help({ keys, parts, meanings }, act) {
   const keyList = keys.filter((one) => one.help);
+  /** @type {(one: string | HTMLElement, text: string) => HTMLElement[]} */
   const term = (one, text) => [el("dt", {}, one), el("dd", {}, text)];
+  /** @type {(cls: string, text: string) => HTMLElement} */
   const sign = (cls, text) => el("span", { cls: `${cls} static` }, text);
+  /** @type {(one: KeyData) => () => void} */
   const press = (one) => () => {
     backTo(null);
     close();
     act(one.name);
   };
+  /** @type {(one: KeyData) => HTMLElement} */
   const made = (one) => button(one.name, key(one.said), press(one), { "aria-label": one.name });
   open(
     "Keys and signs",

@@ -1,17 +1,29 @@
+// @ts-check
 // The panel about the lecture at the cursor, or about the one that is held.
 import { button, el, find, key, name, refill } from "./dom.js";
 
+/** @typedef {import("./week.js").Week} Week */
+
+/** @type {(text: string) => HTMLElement} */
 const line = (text) => el("p", { cls: "told" }, name(text));
+/** @type {(text: string, more: string) => HTMLElement} */
 const title = (text, more) =>
   el("div", { cls: "who-line" }, name(text, "big"), el("span", { cls: "where" }, more));
 
+/**
+ * @param {Acting} acts
+ * @param {string} id
+ * @param {string} text
+ * @param {string} letter
+ */
 function act(acts, id, text, letter, more = {}) {
   return button(id, [text, " ", key(letter)], () => acts.act(id), more);
 }
 
+/** @type {(held: HeldData, acts: Acting) => HTMLElement[]} */
 function heldParts(held, acts) {
   const isSwap = held.kind === "swap";
-  const other = isSwap ? ["move", "Move"] : ["swap", "Swap"];
+  const [id, text] = isSwap ? ["move", "Move"] : ["swap", "Swap"];
   const more = isSwap ? "is held, to swap" : "is held";
   return [
     el("div", { css: { "--hue": held.hue } }, title(held.said, more)),
@@ -21,15 +33,16 @@ function heldParts(held, acts) {
       "div",
       { cls: "buttons" },
       act(acts, "cheapest", "Cheapest", "B", { cls: "primary" }),
-      held.at ? act(acts, ...other, "S") : null,
+      held.at ? act(acts, id, text, "S") : null,
       act(acts, "lay down", "Leave it", "Esc")
     ),
   ];
 }
 
-function chosenParts({ about, picture }, week, acts) {
-  const here = week.at(week.cursor).lectures[0];
-  const isSeen = (view) => view.join() === picture.week.view.join();
+/** @type {(about: AboutLectureData, seen: PairData, here: LectureData, acts: Acting) => any[]} */
+function chosenParts(about, seen, here, acts) {
+  /** @type {(view: PairData) => boolean} */
+  const isSeen = (view) => view.join() === seen.join();
   const weeks = about.weeks.map(([view, said]) =>
     button(view.join(), name(said), () => acts.show(view), {
       cls: "link",
@@ -53,17 +66,22 @@ function chosenParts({ about, picture }, week, acts) {
   ];
 }
 
-export function drawInspector(app, week, acts) {
+/**
+ * @param {PictureData} picture
+ * @param {?AboutLectureData} about
+ * @param {Week} week
+ * @param {Acting} acts
+ */
+export function drawInspector({ held, week: { view } }, about, week, acts) {
   const box = find("inspector");
-  const { held } = app.picture;
   if (held) return refill(box, ...heldParts(held, acts));
   const here = week.at(week.cursor).lectures[0];
-  if (here && app.about?.course === here.course) {
-    return refill(box, ...chosenParts(app, week, acts));
+  if (here && about?.course === here.course) {
+    return refill(box, ...chosenParts(about, view, here, acts));
   }
   // what is about to be told takes the same room
   if (here) return refill(box, el("div", { css: { "--hue": here.hue } }, title(here.said, "")));
-  const { changed, blocked = [] } = week.at(week.cursor);
+  const { changed, blocked } = week.at(week.cursor);
   return refill(
     box,
     el("h2", {}, name(week.said(week.cursor))),

@@ -1,8 +1,10 @@
+// @ts-check
 // The keyboard. Letters are keys only in the week, so that they disturb nobody who types or
 // dictates elsewhere.
 import { find, isTyping } from "./dom.js";
 import { isMenuOpen } from "./menu.js";
 
+/** @type {Record<string, [number, number]>} */
 const STEPS = {
   ArrowLeft: [-1, 0],
   ArrowRight: [1, 0],
@@ -12,12 +14,14 @@ const STEPS = {
   End: [99, 0],
 };
 
+/** @type {(event: KeyboardEvent) => boolean} */
 const isPlain = (event) => !event.ctrlKey && !event.metaKey && !event.altKey;
 
-// keys: [{name, key}] as the office has them
+/** @type {(acts: Acting, keys: KeyData[]) => void} */
 export function listenToKeys(acts, keys) {
   const names = new Map(keys.flatMap((one) => one.keys.map((key) => [key, one.name])));
 
+  /** @type {(event: KeyboardEvent) => void} */
   function inWeek(event) {
     if (!isPlain(event) || isMenuOpen() || event.defaultPrevented) return;
     const step = STEPS[event.key];
@@ -28,6 +32,7 @@ export function listenToKeys(acts, keys) {
     event.preventDefault();
   }
 
+  /** @type {(event: KeyboardEvent) => void} */
   function anywhere(event) {
     if (event.defaultPrevented || !isPlain(event) || isTyping()) return;
     if (isMenuOpen() || find("box").open) return;

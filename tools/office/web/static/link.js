@@ -1,3 +1,4 @@
+// @ts-check
 // What is said to the office, and what it says by itself.
 
 const KEY = "seat-key";
@@ -18,7 +19,7 @@ export function takeKey() {
 
 // Status 0 is an office that does not answer, 1 a login that has ended.
 export class Fault extends Error {
-  constructor(status, text) {
+  constructor(/** @type {number} */ status, /** @type {string} */ text) {
     super(text);
     this.status = status;
   }
@@ -30,6 +31,7 @@ const LOGIN =
   "The login of your house has ended: load this page anew to log in. Your draft stays where it is.";
 const fields = () => ({ "X-Seat-Key": key, "X-Window": windowName });
 
+/** @type {(path: string, more: RequestInit) => Promise<Response>} */
 async function request(path, more) {
   let response;
   try {
@@ -53,6 +55,7 @@ async function request(path, more) {
   return response;
 }
 
+/** @type {(verb: string, told?: object) => Promise<any>} */
 export async function ask(verb, told = {}) {
   const response = await request(verb, {
     method: "POST",
@@ -69,7 +72,9 @@ let isKnown = false;
 let times = 0;
 let isEnded = false;
 // who waits for the next beginning, what makes it begin at once, what ends the news that are read
+/** @type {{ good: () => void, bad: (fault: Fault) => void }[]} */
 const waiting = [];
+/** @type {(value?: any) => void} */
 let hurry = () => {};
 let away = new AbortController();
 const UNKNOWN = 410;
@@ -80,18 +85,21 @@ const ENDS = 1000;
 const SOON = 250;
 const LATE = 1000;
 
+/** @type {() => Promise<void>} */
 function beginning() {
   hurry();
   return new Promise((good, bad) => waiting.push({ good, bad }));
 }
 
 // those who wait for a beginning have it, or hear why there is none
+/** @param {Fault} [fault] */
 function settle(fault) {
   for (const { good, bad } of waiting.splice(0)) fault ? bad(fault) : good();
 }
 
 // What a planner does is asked of an office that knows this window. So it waits for a beginning,
 // and is asked again after one if it was not done, since the window was not known.
+/** @type {(verb: string, told?: object) => Promise<any>} */
 export async function act(verb, told = {}) {
   if (!isKnown && !isEnded) await beginning();
   const asked = times;
@@ -112,6 +120,7 @@ export async function act(verb, told = {}) {
 }
 
 // Lines of JSON by fetch, which can send the key in a header.
+/** @type {(hear: (event: any) => void) => Promise<null>} */
 async function readNews(hear) {
   away = new AbortController();
   const response = await request("news", { headers: fields(), signal: away.signal });
@@ -135,6 +144,7 @@ addEventListener("pagehide", () => {
 addEventListener("pageshow", () => hurry());
 
 // some time, or until it is hurried; none if somebody waits
+/** @type {(time: number) => Promise<void>} */
 function pause(time) {
   return new Promise((go) => {
     hurry = go;
@@ -142,6 +152,7 @@ function pause(time) {
   });
 }
 
+/** @type {(thrown: any) => Fault} */
 function faultOf(thrown) {
   if (thrown instanceof Fault) return thrown;
   if (thrown instanceof TypeError || thrown.name === "AbortError") return new Fault(0, SILENT);
@@ -149,6 +160,14 @@ function faultOf(thrown) {
 }
 
 // Begins, listens, and begins again when the office was away; ends when `isOver` says so.
+/**
+ * @param {{
+ *   begin: () => Promise<void>,
+ *   hear: (event: any) => void,
+ *   lost: (fault: Fault) => void,
+ *   isOver: () => boolean,
+ * }} page
+ */
 export async function keepListening({ begin, hear, lost, isOver }) {
   let [wait, late] = [SOON, 0];
   for (;;) {

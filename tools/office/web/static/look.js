@@ -1,3 +1,4 @@
+// @ts-check
 // The cursor, and what is known of the lecture at it.
 import { el, fill, find, key, name } from "./dom.js";
 import { heldSaid } from "./held.js";
@@ -8,24 +9,42 @@ import { same } from "./numbers.js";
 // so long the cursor rests before the office is asked
 const REST = 60;
 
+/** @type {(cls: string, sign: string, text: string) => HTMLElement} */
 const legend = (cls, sign, text) => el("span", {}, el("span", { cls: `sign ${cls}` }, sign), text);
 
 export class Look {
+  /**
+   * @param {Known} app
+   * @param {import("./week.js").Week} week
+   */
   constructor(app, week) {
-    // place is that of the offer that is meant in the cursor's slot, if one was chosen
-    Object.assign(this, { app, week, later: null, place: null });
+    this.app = app;
+    this.week = week;
+    // what is done by its buttons, as soon as that is known
+    /** @type {?Acting} */
+    this.acts = null;
+    // when the office is asked about the lecture at the cursor, and what it has said of it
+    this.later = 0;
+    /** @type {?AboutLectureData & { wanted: string }} */
+    this.about = null;
+    // the place of the offer that is meant in the cursor's slot, if one was chosen
+    /** @type {?number} */
+    this.place = null;
   }
 
   get held() {
     return this.app.picture.held;
   }
 
+  /** @type {(days: number, periods: number) => void} */
   go(days, periods) {
     const { cursor, days: all, periods: rows } = this.week;
+    /** @type {(at: number, count: number) => number} */
     const inside = (at, count) => Math.max(0, Math.min(count - 1, at));
     this.goTo([inside(cursor[0] + days, all.length), inside(cursor[1] + periods, rows.length)]);
   }
 
+  /** @type {(slot: SlotData, place?: ?number) => void} */
   goTo(slot, place = null) {
     this.place = place;
     this.week.setCursor(slot, true);
@@ -34,6 +53,7 @@ export class Look {
   }
 
   // a mouse or a finger is over a slot
+  /** @type {(slot: SlotData) => void} */
   hover(slot) {
     this.place = null;
     this.week.setCursor(slot, false);
@@ -53,19 +73,19 @@ export class Look {
     const lecture = this.held ? null : this.week.seen(this.week.cursor);
     const wanted = lecture && JSON.stringify([lecture, this.app.picture.number]);
     clearTimeout(this.later);
-    if (!lecture || this.app.about?.course !== lecture.course) this.app.about = null;
+    if (!lecture || this.about?.course !== lecture.course) this.about = null;
     this.draw();
-    if (!lecture || this.app.about?.wanted === wanted) return;
+    if (!lecture || this.about?.wanted === wanted) return;
     this.later = setTimeout(async () => {
       const found = await ask("about", { lecture }).catch(() => null);
       if (!found?.about || !same(lecture.at, this.week.cursor)) return;
-      this.app.about = { ...found.about, wanted };
+      this.about = { ...found.about, wanted };
       this.draw();
     }, REST);
   }
 
   draw() {
-    drawInspector(this.app, this.week, this.acts);
+    drawInspector(this.app.picture, this.about, this.week, this.acts);
   }
 
   // the line below the week

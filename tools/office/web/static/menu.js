@@ -1,7 +1,9 @@
+// @ts-check
 // A short list beside a slot: rooms, or partners of a swap, by price.
 import { el, name } from "./dom.js";
 import { kindOf, signed } from "./numbers.js";
 
+/** @type {?{ box: HTMLElement, back: () => void }} */
 let shown = null;
 
 export const isMenuOpen = () => shown !== null;
@@ -14,13 +16,15 @@ export function closeMenu() {
   shown = null;
 }
 
+/** @type {(event: Event) => void} */
 function outside(event) {
-  if (!shown || shown.box.contains(event.target)) return;
+  if (!shown || shown.box.contains(/** @type {Node} */ (event.target))) return;
   const { back } = shown;
   closeMenu();
   back();
 }
 
+/** @type {(box: HTMLElement, anchor: HTMLElement) => void} */
 function put(box, anchor) {
   const spot = anchor.getBoundingClientRect();
   const size = box.getBoundingClientRect();
@@ -31,7 +35,14 @@ function put(box, anchor) {
   box.style.top = `${Math.max(8, Math.min(top, innerHeight - size.height - 8))}px`;
 }
 
-// offers: [price, code, said]; choose(place) when one is taken, back() when none is
+// choose(place) when one is taken, back() when none is
+/**
+ * @param {HTMLElement} anchor
+ * @param {string} label
+ * @param {OfferData[]} offers
+ * @param {(place: number) => void} choose
+ * @param {() => void} back
+ */
 export function openMenu(anchor, label, offers, choose, back) {
   closeMenu();
   const list = el("ul", { role: "listbox", tabindex: "0", "aria-label": label, cls: "menu" });
@@ -54,12 +65,14 @@ export function openMenu(anchor, label, offers, choose, back) {
   put(box, anchor);
   shown = { box, back };
 
+  /** @type {(place: number) => void} */
   function go(place) {
     at = Math.max(0, Math.min(items.length - 1, place));
     items.forEach((item, n) => item.setAttribute("aria-selected", String(n === at)));
     list.setAttribute("aria-activedescendant", `offer-${at}`);
     items[at].scrollIntoView({ block: "nearest" });
   }
+  /** @type {(place: number) => void} */
   function take(place) {
     closeMenu();
     choose(place);

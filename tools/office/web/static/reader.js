@@ -1,3 +1,4 @@
+// @ts-check
 // The timetable as it stands, for who reads: weeks by name, live.
 import { announce, banner, el, fill, find, name } from "./dom.js";
 import { act, ask, keepListening, takeKey } from "./link.js";
@@ -6,10 +7,13 @@ import { Week } from "./week.js";
 
 const VIEW = "read-view";
 const LOST = "The office does not answer just now; this page tries again.";
-const app = { day: null, isOver: false };
-let week = null;
-let search = null;
+const app = { isBuilt: false, isOver: false };
+/** @type {Week} */
+let week;
+/** @type {ReturnType<typeof makeSearch>} */
+let search;
 
+/** @type {(told: WeekData) => void} */
 function draw(told) {
   week.draw(told, null);
   sessionStorage.setItem(VIEW, JSON.stringify(told.view));
@@ -17,7 +21,9 @@ function draw(told) {
   fill(find("week-about"), name(told.about));
 }
 
+/** @type {(view: PairData) => Promise<void>} */
 async function show(view) {
+  /** @type {?ReaderTurnData} */
   const found = await act("show", { view }).catch(lost);
   if (!found) return;
   draw(found.picture.week);
@@ -25,14 +31,17 @@ async function show(view) {
   announce(`Week of ${found.picture.week.title}`);
 }
 
+/** @type {(found: ReaderHelloData) => void} */
 function build(found) {
   find("day").textContent = found.day;
   document.title = `${found.day} · timedesk`;
   week = new Week(found, false);
   search = makeSearch(found.named, show, () => week.setCursor(week.cursor, true));
+  /** @type {Record<string, number[]>} */
   const steps = { ArrowLeft: [-1, 0], ArrowRight: [1, 0], ArrowUp: [0, -1], ArrowDown: [0, 1] };
   find("week").addEventListener("keydown", (event) => {
     const [days, periods] = steps[event.key] || [0, 0];
+    /** @type {SlotData} */
     const slot = [week.cursor[0] + days, week.cursor[1] + periods];
     if ((!days && !periods) || !week.isInside(slot)) return;
     week.setCursor(slot, true);
@@ -47,20 +56,23 @@ function build(found) {
 
 async function begin() {
   const view = JSON.parse(sessionStorage.getItem(VIEW) || "null");
+  /** @type {ReaderHelloData} */
   const found = await ask("hello", { view });
-  if (app.day) rename(found);
+  if (app.isBuilt) rename(found);
   else build(found);
-  app.day = found;
+  app.isBuilt = true;
   banner("");
   draw(found.picture.week);
   performance.mark("ready");
 }
 
+/** @type {(names: NamesData) => void} */
 function rename(names) {
   week.rename(names);
   search.rename(names.named);
 }
 
+/** @type {(event: ReaderEventData) => void} */
 function hear(event) {
   if (event.names) rename(event.names);
   if (event.picture) draw(event.picture.week);
@@ -70,6 +82,7 @@ function hear(event) {
   }
 }
 
+/** @type {(fault: import("./link.js").Fault) => null} */
 function lost(fault) {
   banner(fault.status ? fault.message : LOST);
   return null;

@@ -1,13 +1,27 @@
+// @ts-check
 // The box in which one types whose week is to be seen.
 import { el, find, name } from "./dom.js";
 
 const MOST = 40;
+/** @type {Record<string, number>} */
 const STEPS = { ArrowDown: 1, ArrowUp: -1, PageDown: 10, PageUp: -10 };
+
+/** @typedef {{ kind: string, code: string, said: string, text: string }} Hit */
 
 class Search {
   // choose(view) when a week is taken, and back() then, or when none is
+  /**
+   * @param {(view: PairData) => void} choose
+   * @param {() => void} back
+   */
   constructor(choose, back) {
-    Object.assign(this, { choose, back, all: [], found: [], at: 0 });
+    this.choose = choose;
+    this.back = back;
+    /** @type {Hit[]} */
+    this.all = [];
+    /** @type {Hit[]} */
+    this.found = [];
+    this.at = 0;
     this.input = find("search-input");
     this.list = find("search-list");
     const begin = () => {
@@ -21,6 +35,7 @@ class Search {
   }
 
   // named: for each kind its codes, each with what it is called
+  /** @type {(named: NamesData["named"]) => void} */
   rename(named) {
     this.all = Object.entries(named).flatMap(([kind, names]) =>
       names.map(([code, said]) => ({ kind, code, said, text: `${said} ${code}`.toLowerCase() }))
@@ -33,15 +48,20 @@ class Search {
 
   matches() {
     const words = this.input.value.toLowerCase().split(/\s+/).filter(Boolean);
+    /** @type {(one: Hit, word: string) => boolean} */
     const isIn = (one, word) => one.text.includes(word) || one.kind.startsWith(word);
+    /** @type {(one: Hit) => boolean} */
     const has = (one) => words.every((word) => isIn(one, word));
+    /** @type {(one: Hit) => boolean} */
     const begins = (one) =>
       words.some((word) => one.text.startsWith(word) || one.code.toLowerCase().startsWith(word));
     const hits = this.all.filter(has);
     return [...hits.filter(begins), ...hits.filter((one) => !begins(one))];
   }
 
+  /** @type {(one: Hit, place: number) => HTMLElement} */
   item(one, place) {
+    /** @type {(event: Event) => void} */
     const press = (event) => {
       event.preventDefault();
       this.take(place);
@@ -82,6 +102,7 @@ class Search {
     this.input.removeAttribute("aria-activedescendant");
   }
 
+  /** @type {(place: number) => void} */
   take(place) {
     const one = this.found[place];
     if (!one) return;
@@ -95,6 +116,7 @@ class Search {
     this.back();
   }
 
+  /** @type {(event: KeyboardEvent) => void} */
   press(event) {
     const step = STEPS[event.key];
     if (step) {
@@ -108,6 +130,11 @@ class Search {
   }
 }
 
+/**
+ * @param {NamesData["named"]} named
+ * @param {(view: PairData) => void} choose
+ * @param {() => void} back
+ */
 export function makeSearch(named, choose, back) {
   const search = new Search(choose, back);
   search.rename(named);

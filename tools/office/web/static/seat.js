@@ -1,3 +1,4 @@
+// @ts-check
 // The seat in a browser: what is known, and what is drawn when it changes.
 import { makeActs } from "./acts.js";
 import * as boxes from "./boxes.js";
@@ -18,31 +19,27 @@ const NAME = "name";
 // so long a draft of somebody else is marked as new
 const NEW = 20000;
 
+/** @type {State} */
 const app = {
-  // what the office told at the beginning, the newest picture, and what is asked
   day: null,
   picture: null,
   question: null,
-  // the lecture at the cursor
-  about: null,
   news: [],
   unseen: new Set(),
   recent: new Map(),
   closes: null,
-  // by how many seconds the clock here is before that of the office
   ahead: 0,
   isOver: false,
-  // why nothing can be done now, and what the office said of it
   lost: "",
   fault: "",
   waits: "",
 };
 const LEFT = "You have left the seat: load this page anew to sit down.";
-let week = null;
-let acts = null;
-let look = null;
-let search = null;
-let hand = null;
+/** @type {Week} */ let week;
+/** @type {Acting} */ let acts;
+/** @type {Look} */ let look;
+/** @type {ReturnType<typeof makeSearch>} */ let search;
+/** @type {ReturnType<typeof makeHand>} */ let hand;
 
 // drawing
 
@@ -91,6 +88,7 @@ function closing() {
 }
 
 // takes up what the office tells; what is older than what is seen is left
+/** @type {(found: TurnData) => void} */
 function take(found) {
   if (found.left) leave();
   if (found.picture && found.picture.number >= (app.picture?.number ?? 0)) {
@@ -113,6 +111,7 @@ function take(found) {
 
 // what is asked
 
+/** @type {Parts["turn"]} */
 async function turn(verb, told = {}) {
   try {
     const found = await act(verb, told);
@@ -128,6 +127,7 @@ async function turn(verb, told = {}) {
 
 // what the office says by itself
 
+/** @type {(event: EventData) => void} */
 function hear(event) {
   if (event.names) rename(event);
   if (event.people) side.drawPeople(event.people, app.day);
@@ -143,6 +143,7 @@ function hear(event) {
 }
 
 // names and times have changed
+/** @type {(event: Pick<EventData, "names" | "accepted">) => void} */
 function rename({ names, accepted }) {
   Object.assign(app.day, names);
   app.news = accepted;
@@ -151,6 +152,7 @@ function rename({ names, accepted }) {
   side.drawNews(app);
 }
 
+/** @type {(one: NewsData) => void} */
 function tellNews(one) {
   // who has committed it, and why, may be known a little later
   const at = app.news.findIndex((known) => known.number === one.number);
@@ -158,6 +160,7 @@ function tellNews(one) {
   else newsOf(one);
 }
 
+/** @type {(one: NewsData) => void} */
 function newsOf(one) {
   app.news.push(one);
   if (one.seat === app.day.seat) return;
@@ -171,6 +174,7 @@ function newsOf(one) {
   }, NEW);
 }
 
+/** @type {(fault: Fault) => void} */
 function lost(fault) {
   // an office that has closed answers no more
   if (hasClosed()) app.isOver = true;
@@ -191,7 +195,7 @@ function where() {
 
 async function begin() {
   const told = { name: sessionStorage.getItem(NAME) || "", ...where() };
-  let found = await ask("hello", told);
+  let found = /** @type {HelloData & WantsData} */ (await ask("hello", told));
   while (found.wants) {
     drawBanner();
     told.name = await boxes.askName(found, localStorage.getItem(NAME) || "");
@@ -215,13 +219,25 @@ async function begin() {
   performance.mark("ready");
 }
 
+/** @type {(found: HelloData) => void} */
 function build(found) {
   find("day").textContent = found.day;
   document.title = `${found.day} · ${found.name} · timedesk`;
   week = new Week(found, true);
   look = new Look(app, week);
   search = makeSearch(found.named, (view) => acts.show(view), () => acts.toWeek());
-  acts = makeActs({ app, week, turn, queue: makeQueue(app), look, search: () => search.focus() });
+  acts = makeActs({
+    app,
+    week,
+    look,
+    turn,
+    queue: makeQueue(app),
+    search: () => search.focus(),
+    closed: () => {
+      app.question = null;
+    },
+    seen: () => app.recent.clear(),
+  });
   look.acts = acts;
   hand = makeHand(week, acts);
   listenToKeys(acts, found.keys);

@@ -1,3 +1,4 @@
+// @ts-check
 // The cost above the week, and the panels beside it: the draft, what is missing, what others did.
 import { button, el, find, key, name, refill } from "./dom.js";
 import { counted, kindOf, number, signed, sum } from "./numbers.js";
@@ -6,12 +7,15 @@ import { counted, kindOf, number, signed, sum } from "./numbers.js";
 const COURSES = 60;
 const DRAFTS = 30;
 
+/** @type {(text: string, count?: number) => HTMLElement} */
 const title = (text, count) =>
   el("h2", {}, text, count === undefined ? null : el("span", { cls: "count" }, String(count)));
 
+/** @type {(n: number) => ?HTMLElement} */
 const delta = (n) => (n ? el("span", { cls: `delta ${kindOf(n)}` }, signed(n)) : null);
 
 // what the timetable costs, with its parts, and how the draft changes them
+/** @type {(app: Known) => void} */
 export function drawCosts({ picture, day }) {
   const { costs, draft, missing, ended } = picture.state;
   const all = Object.values(costs);
@@ -43,7 +47,9 @@ export function drawCosts({ picture, day }) {
   );
 }
 
+/** @type {(draft: ?DraftData, ended: string[]) => any} */
 function draftSaid(draft, ended) {
+  /** @type {(text: string, cls?: string) => HTMLElement} */
   const pill = (text, cls = "") => el("span", { cls: `pill ${cls}` }, name(text));
   if (ended.length) return pill("draft not accepted", "bad");
   if (!draft) return pill("no draft open");
@@ -56,7 +62,9 @@ function draftSaid(draft, ended) {
 
 // who sits
 
+/** @type {(seat: number) => string} */
 const hueOf = (seat) => String((seat * 137 + 300) % 360);
+/** @type {(text: string) => string} */
 const initials = (text) =>
   text
     .split(/\s+/)
@@ -65,11 +73,13 @@ const initials = (text) =>
     .join("")
     .toUpperCase();
 
+/** @type {(seat: number, who: string, cls?: string) => HTMLElement} */
 function face(seat, who, cls = "") {
   const css = { "--hue": hueOf(seat) };
   return el("span", { cls: `face ${cls}`, "aria-hidden": "true", css }, initials(who) || "?");
 }
 
+/** @type {(people: PersonData[], day: HelloData) => void} */
 export function drawPeople(people, day) {
   const items = people.map(({ seat, who, title: told }) =>
     el(
@@ -85,15 +95,18 @@ export function drawPeople(people, day) {
 
 // the draft
 
+/** @type {(edit: { text: string, price?: ?number }, more?: ?HTMLElement) => HTMLElement} */
 const editItem = (edit, more) => {
   const price = edit.price ?? null;
   const told = price === null ? null : el("span", { cls: `delta ${kindOf(price)}` }, signed(price));
   return el("li", {}, name(edit.text), told, more);
 };
 
+/** @type {(app: Known, acts: Acting) => void} */
 export function drawDraft({ picture }, acts) {
   const { draft, ended } = picture.state;
   const box = find("draft");
+  /** @type {(id: string, text: any, more?: object) => HTMLElement} */
   const act = (id, text, more) => button(id, text, () => acts.act(id), more);
   if (ended.length) {
     return refill(
@@ -134,15 +147,18 @@ export function drawDraft({ picture }, acts) {
 }
 
 const STANDS = "Nothing that it stands on has changed.";
+/** @type {(text: string) => HTMLElement} */
 const told = (text) => el("li", {}, name(text));
 
 // what is missing
 
+/** @type {(app: Known, acts: Acting) => void} */
 export function drawMissing({ picture }, acts) {
   const { missing } = picture.state;
   const box = find("missing");
   const count = sum(missing.map((one) => one.count));
   box.hidden = count === 0 && !box.contains(document.activeElement);
+  /** @type {(one: MissingData) => HTMLElement} */
   const card = (one) =>
     button(
       one.course,
@@ -178,6 +194,7 @@ export function drawMissing({ picture }, acts) {
 
 // what is blocked, below all others, so that it moves none
 
+/** @type {(app: Known) => void} */
 export function drawBlocked({ picture }) {
   const { blocked } = picture.state;
   const box = find("blocked");
@@ -187,7 +204,9 @@ export function drawBlocked({ picture }) {
 
 // what was accepted
 
+/** @type {(app: Known) => void} */
 export function drawNews({ news, day, unseen }) {
+  /** @type {(one: NewsData) => HTMLElement} */
   const item = (one) =>
     el(
       "li",

@@ -1,10 +1,13 @@
+// @ts-check
 // What the last step has to say, in the line below the week.
 import { announce, button, el, find, name } from "./dom.js";
 import { kindOf, priceSaid, signed } from "./numbers.js";
 
 // how long it stays
+/** @type {Record<string, number>} */
 const STAYS = { bad: 15000, news: 8000, said: 6000 };
 
+/** @type {(kind: string, text: string, more?: HTMLElement[]) => void} */
 export function toast(kind, text, more = []) {
   const gone = () => {
     one.remove();
@@ -21,6 +24,7 @@ export function toast(kind, text, more = []) {
 // what is seen beside the week already is heard alone
 const SEEN = ["cheapest in", "cheapest with", "stays"];
 
+/** @type {(notice: NoticeData, acts: Acting) => void} */
 export function toastNotice({ code, text, isBad, price }, acts) {
   if (!text) return;
   announce(price === undefined ? text : `${text} ${priceSaid(price)}`);

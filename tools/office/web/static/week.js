@@ -1,25 +1,48 @@
+// @ts-check
 // The week: days as columns, periods as rows. Cells stay, what is in them is drawn anew.
 import { card, cardSaid } from "./card.js";
 import { el, fill, find, isTyping, name } from "./dom.js";
 import { heldParts, heldSaid } from "./held.js";
-import { keyOf, same } from "./numbers.js";
+import { keyOf, same, slotOf } from "./numbers.js";
 
-const EMPTY = { lectures: [], others: [], gone: [], now: null, working: [], blocked: [] };
+/** @type {Cell} */
+const EMPTY = {
+  lectures: [],
+  mine: false,
+  others: [],
+  changed: "",
+  now: null,
+  closed: false,
+  gone: [],
+  working: [],
+  pinned: false,
+  blocked: [],
+};
 
 export class Week {
   // slots: for each day what each of its periods is called
-  constructor({ days, periods, slots }, canMove) {
-    Object.assign(this, { days, periods, slots, canMove });
+  constructor(/** @type {NamesData} */ { days, periods, slots }, /** @type {boolean} */ canMove) {
+    this.days = days;
+    this.periods = periods;
+    this.slots = slots;
+    this.canMove = canMove;
+    /** @type {Map<string, HTMLElement>} */
     this.cells = new Map();
+    /** @type {SlotData} */
     this.cursor = [0, 0];
     // what is drawn
+    /** @type {Map<string, CellData>} */
     this.told = new Map();
     this.build();
   }
 
   // what days, periods and slots are called now; they are as many as before
+  /** @type {(names: NamesData) => void} */
   rename({ days, periods, slots }) {
-    Object.assign(this, { days, periods, slots });
+    this.days = days;
+    this.periods = periods;
+    this.slots = slots;
+    /** @type {(place: string, texts: string[]) => void} */
     const write = (place, texts) =>
       find("week").querySelectorAll(place).forEach((one, at) => fill(one, name(texts[at])));
     write(".day", days);
@@ -28,8 +51,8 @@ export class Week {
 
   build() {
     const grid = find("week");
-    grid.style.setProperty("--days", this.days.length);
-    grid.style.setProperty("--periods", this.periods.length);
+    grid.style.setProperty("--days", String(this.days.length));
+    grid.style.setProperty("--periods", String(this.periods.length));
     grid.classList.toggle("dense", this.days.length > 7 || this.periods.length > 8);
     const corner = el("span", { cls: "visually-hidden" }, "period");
     const head = el(
@@ -42,6 +65,7 @@ export class Week {
     this.cell(this.cursor).tabIndex = 0;
   }
 
+  /** @type {(label: string, period: number) => HTMLElement} */
   row(label, period) {
     const cells = this.days.map((_, day) => {
       const key = keyOf([day, period]);
@@ -53,34 +77,42 @@ export class Week {
     return el("div", { role: "row", cls: "row" }, head, cells);
   }
 
+  /** @type {(slot: SlotData) => HTMLElement} */
   cell(slot) {
     return this.cells.get(keyOf(slot));
   }
 
+  /** @type {(slot: SlotData) => string} */
   said([day, period]) {
     return this.slots[day][period];
   }
 
+  /** @type {(slot: SlotData) => boolean} */
   isInside([day, period]) {
     return this.days[day] !== undefined && this.periods[period] !== undefined;
   }
 
+  /** @type {(target: ?EventTarget) => ?SlotData} */
   slotAt(target) {
-    const cell = target?.closest?.(".cell");
-    return cell ? cell.dataset.at.split(",").map(Number) : null;
+    /** @type {?HTMLElement} */
+    const cell = target instanceof Element ? target.closest(".cell") : null;
+    return cell && slotOf(cell.dataset.at);
   }
 
   // what was drawn at a slot
+  /** @type {(slot: SlotData) => Cell} */
   at(slot) {
     return this.told.get(keyOf(slot)) || EMPTY;
   }
 
   // the lecture that is seen at a slot, as the office has to know it
+  /** @type {(slot: SlotData) => ?Seen} */
   seen(slot) {
     const one = this.at(slot).lectures[0];
     return one ? { course: one.course, room: one.room, at: slot } : null;
   }
 
+  /** @type {(slot: SlotData, focus: boolean) => void} */
   setCursor(slot, focus) {
     const old = this.cell(this.cursor);
     old.tabIndex = -1;
@@ -95,12 +127,13 @@ export class Week {
   }
 
   // draws the week, and what is offered if something is held
+  /** @type {(week: WeekData, held: ?HeldData, recent?: ReadonlyMap<string, string>) => void} */
   draw(week, held, recent = new Map()) {
     this.told = new Map(week.cells.map((one) => [keyOf(one.at), one]));
     const offers = new Map((held?.slots || []).map((one) => [keyOf(one.at), one]));
     find("week").classList.toggle("holding", !!held);
     for (const [key, cell] of this.cells) {
-      const slot = key.split(",").map(Number);
+      const slot = slotOf(key);
       const one = this.told.get(key) || EMPTY;
       const who = one.others.join(", ");
       // a hand that rests over it stays over it
@@ -122,12 +155,15 @@ export class Week {
     }
   }
 
+  /** @type {(one: Cell, view: PairData) => HTMLElement[]} */
   freeParts(one, view) {
     // what stands there for all others, if that is not what is drawn
     const now = one.now && name(one.now.join(", ") || "empty");
     const news = now ? [el("div", { cls: "now" }, "now ", now)] : [];
     if (one.lectures.length) {
-      return [...one.lectures.map((lecture) => card(lecture, view, this, one.mine)), ...news];
+      /** @type {(lecture: LectureData) => HTMLElement} */
+      const made = (lecture) => card(lecture, view, this.canMove, one.mine);
+      return [...one.lectures.map(made), ...news];
     }
     if (now) return news;
     if (one.gone.length) return [el("div", { cls: "ghost" }, "was ", name(one.gone.join(", ")))];
@@ -135,6 +171,13 @@ export class Week {
     return one.closed ? [el("span", { cls: "closed-text" }, "closed")] : [];
   }
 
+  /**
+   * @param {SlotData} slot
+   * @param {Cell} one
+   * @param {?HeldSlotData} offer
+   * @param {?HeldData} held
+   * @param {string} who
+   */
   label(slot, one, offer, held, who) {
     const was = one.gone.length ? `empty, was ${one.gone.join(", ")}` : "";
     const empty = was || (one.closed ? "closed" : "empty");
@@ -151,12 +194,14 @@ export class Week {
 }
 
 // a slot that is blocked, and why
+/** @type {(one: BlockedData) => HTMLElement} */
 function blockedText({ why, text }) {
   const told = why ? [": ", name(why)] : null;
   return el("span", { cls: "closed-text blocked-text", title: text }, "blocked", told);
 }
 
 // who works on what stands in a slot, and whether it is pinned
+/** @type {(one: Cell) => HTMLElement[]} */
 function courtesies(one) {
   const found = [];
   if (one.pinned) found.push(el("span", { cls: "note", title: "pinned" }, "pin"));
