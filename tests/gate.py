@@ -187,9 +187,9 @@ class Gate(SmallTree):
             with self.subTest(number=number):
                 proofs = f"prove ctt_tool proved\n{deaf}{nap}"
                 self.tell(proofs=proofs, web=deaf + nap, client=deaf + nap, naps="")
-                gate = subprocess.Popen(
-                    [str(self.top / "test")], stdout=subprocess.PIPE, text=True, env=self.told
-                )
+                # (a job in the background is begun with signals ignored)
+                words = ["env", "--default-signal", str(self.top / "test")]
+                gate = subprocess.Popen(words, stdout=subprocess.PIPE, text=True, env=self.told)
                 naps = []
                 while len(naps) < 6:
                     naps = (self.room / "naps").read_text().split()
