@@ -190,11 +190,12 @@ class Trying:
         if trial.functions and said.status == 2:
             # a function that a check knows by another name: the whole crate tells
             said = self._check(texts, [], 1)
-        tried = self._judge(trial, said, texts)
-        if tried.verdict is Verdict.PASSED and trial.functions:
-            # what it turns may be owed to a function that calls it
-            tried = self._judge(Trial(trial.edit, frozenset()), self._check(texts, [], 1), texts)
-        self.found[trial.edit.name] = tried
+        if said.status == 0 and not all(
+            names_of(it, self.crate.name, said) for _, it in trial.functions
+        ):
+            # not each of its functions was tried under a name that is known here
+            said = self._check(texts, [], 1)
+        self.found[trial.edit.name] = self._judge(trial, said, texts)
 
     def _judge(self, trial: Trial, said: Said, texts: Mapping[str, str]) -> Tried:
         """What the check of one edit alone says."""
