@@ -190,12 +190,11 @@ class Trying:
         if trial.functions and said.status == 2:
             # a function that a check knows by another name: the whole crate tells
             said = self._check(texts, [], 1)
-        if said.status == 0 and not all(
-            names_of(it, self.crate.name, said) for _, it in trial.functions
-        ):
-            # not each of its functions was tried under a name that is known here
-            said = self._check(texts, [], 1)
-        self.found[trial.edit.name] = self._judge(trial, said, texts)
+        tried = self._judge(trial, said, texts)
+        if tried.verdict is Verdict.PASSED and trial.functions:
+            # (it is said to pass only if the whole crate says so)
+            tried = self._judge(Trial(trial.edit, frozenset()), self._check(texts, [], 1), texts)
+        self.found[trial.edit.name] = tried
 
     def _judge(self, trial: Trial, said: Said, texts: Mapping[str, str]) -> Tried:
         """What the check of one edit alone says."""
