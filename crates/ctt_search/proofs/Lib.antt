@@ -1,0 +1,3 @@
+mod ScoreLemmas
+mod BetweenLemmas
+mod WishLemmas

@@ -1,0 +1,17 @@
+//! Searches that propose a timetable in place of another: lawful, with each pinned lecture where it
+//! stood, and worth at least as much.
+#![tactic(auto)]
+
+mod aim;
+mod keeping;
+mod pace;
+mod proposal;
+mod score;
+pub mod search_laws;
+mod wish;
+
+pub use aim::Aim;
+pub use pace::{Pace, Unstopped};
+pub use proposal::Proposal;
+pub use score::{Score, count_changes, score_of};
+pub use wish::Wish;
