@@ -1,9 +1,10 @@
 -- The edits between two lawful timetables lead from the one to the other.
-use Rattle.std.proofs.Common.{◌≡◌, ℕ, Bool, true, false, cond, not, ◌&&◌, ◌||◌, ◌==◌, List, [], ◌∷◌, ◌++◌, map, Option, Some, None, is_some, is_none, refl, ◌∙◌, sym, ap, subst, arith, inl, inr}
+use Rattle.std.proofs.Common.{◌≡◌, ℕ, zero, suc, ◌+◌, ◌<◌, length, get_or, take, append_assoc, Bool, true, false, cond, not, ◌&&◌, ◌||◌, ◌==◌, List, [], ◌∷◌, ◌++◌, map, Option, Some, None, is_some, is_none, refl, ◌∙◌, sym, ap, subst, arith, inl, inr}
 use Rattle.std.specs.List.{filter, find, list_any, AllByRecursion as Each}
 use Rattle.std.specs.Option.{option_eq, option_map}
 use Rattle.std.proofs.lemmas.Bool.{cases_Bool, cases_eq, and_parts, eq-eqb, ne_eqb, eqb-true}
 use Rattle.std.proofs.lemmas.Bool.Decides.{nat_tests}
+use Rattle.std.proofs.lemmas.List.{append-nil, map-append}
 use Rattle.ctt_problem.specs.Lists.{Pairwise}
 use Rattle.ctt_problem.specs.Problem.{Problem}
 use Rattle.ctt_problem.specs.Timetable.{before, Ascending, Fits, has_lecture, with, without}
@@ -11,7 +12,7 @@ use Rattle.ctt_problem.specs.declared.placed.Placed.{Placed}
 use Rattle.ctt_problem.proofs.LectureLaws.{before_apart_turned}
 use Rattle.ctt_rules.specs.Hard.{Lawful}
 use Rattle.ctt_rules.proofs.ListLemmas.{Each-filter, Each-both, Pairwise-filter, Pairwise-map}
-use Rattle.ctt_board.specs.Changes.{room_at, room_of, cell, apply, in_turn, ChangeFits}
+use Rattle.ctt_board.specs.Changes.{room_at, room_of, cell, apply, ChangeFits}
 use Rattle.ctt_board.specs.Fitting.{Obstacle, obstacle, is_known, can_place, fits}
 use Rattle.ctt_board.specs.declared.cell.Cell.{Cell}
 use Rattle.ctt_board.proofs.FitLemmas.{fits_as_tested}
@@ -25,13 +26,11 @@ use Rattle.ctt_edits.specs.Edits.{EditFits, as_fault, fault_if, try_fault, edit_
 use Rattle.ctt_edits.specs.Looks.{told_or}
 use Rattle.ctt_edits.specs.declared.call.Call.TheVariants.{Edit as Edits}
 use Rattle.ctt_edits.specs.declared.edit.Edit.{Edit}
-use Rattle.ctt_edits.specs.declared.edit.Edit.TheVariants.{Place, Drop}
-use Rattle.ctt_edits.specs.declared.fault.EditFault.{EditFault}
 use Rattle.ctt_edits.specs.declared.fault.EditFault.TheVariants.{NotPlaced}
 use Rattle.ctt_edits.specs.declared.reply.Reply.TheVariants.{Done}
 use Rattle.ctt_edits.proofs.OpeningLemmas.{rooms_determine}
 use Rattle.ctt_draft.specs.Drafts.{replies, whole, after_call}
-use Rattle.ctt_search.specs.Between.{stands_in, only_in, drop_of, place_of, edits_between, as_calls, Leads, EditsLead}
+use Rattle.ctt_search.specs.Between.{stands_in, only_in, drop_of, place_of, as_calls, Leads, EditsLead}
 
 -- no two of the lectures are of one course in one slot
 abbrev Distinct : List Placed → Type 0
@@ -74,7 +73,7 @@ own_rooms [] h = tt
 own_rooms (x ∷ xs) h = (
   room_is x.course x.slot (x ∷ xs) ∙ first,
   Each-both (λ y. before x y ≡ true) (λ (l : Placed). room_at l.course l.slot xs ≡ Some l.room) (λ (l : Placed). room_at l.course l.slot (x ∷ xs) ≡ Some l.room)
-  (λ y b r. room_is y.course y.slot (x ∷ xs) ∙ later y b ∙ sym (room_is y.course y.slot xs) ∙ r) xs h.0 (own_rooms xs h.1),
+      (λ y b r. room_is y.course y.slot (x ∷ xs) ∙ later y b ∙ sym (room_is y.course y.slot xs) ∙ r) xs h.0 (own_rooms xs h.1),
 )
   where
     mine : is_at x.course x.slot x ≡ true
@@ -234,6 +233,33 @@ places_lead i u (l ∷ ls) h d there f =
     let put = can_put_back i t l (stripped_lawful i ls u h) at in
     one_more i (without l.course l.slot t) u (place_of l) (map place_of ls) f.0 put.0
     (subst (λ v. Leads i v (map place_of ls) u) (sym put.1) (places_lead i u ls h d.1 there.1 f.1))
+
+taken : (p : Placed → Bool) (xs : List Placed) (k : ℕ) (x : Placed) → k < length xs → x ≡ get_or xs k x → filter p (take (suc k) xs) ≡ filter p (take k xs) ++ cond (p x) (x ∷ []) []
+taken p [] k x lt e = absurd (omega (arith, lt))
+taken p (y ∷ ys) zero x lt e = ap (λ z. cond (p z) (z ∷ []) []) (sym e)
+taken p (y ∷ ys) (suc k) x lt e = elim (cases_Bool (p y)) [
+  | inl b ↦ rw b (ap (λ zs. y ∷ zs) (taken p ys k x (omega (arith, lt)) e))
+  | inr b ↦ rw b (taken p ys k x (omega (arith, lt)) e)
+]
+
+one_on : (n : ℕ) → n + 1 ≡ suc n
+one_on n = omega arith
+
+module _ (f : Placed → Edit) (t u : List Placed) (k : ℕ) (x : Placed) (start old new : List Edit) (lt : k < length t) (item : x ≡ get_or t k x) (was : old ≡ start ++ map f (only_in (take k t) u)) where
+  -- one more lecture that does not stand so in u
+  pub listed : stands_in u x ≡ false → new ≡ old ++ f x ∷ [] → new ≡ start ++ map f (only_in (take (k + 1) t) u)
+  listed fails is =
+      let more : only_in (take (suc k) t) u ≡ only_in (take k t) u ++ x ∷ [] =
+      taken (λ l. not (stands_in u l)) t k x lt item ∙ ap (λ b. only_in (take k t) u ++ cond (not b) (x ∷ []) []) fails in
+      is ∙ ap (λ es. es ++ f x ∷ []) was ∙ append_assoc start (map f (only_in (take k t) u)) (f x ∷ [])
+      ∙ ap (λ es. start ++ es) (sym (map-append f (only_in (take k t) u) (x ∷ [])) ∙ ap (map f) (sym more) ∙ ap (λ n. map f (only_in (take n t) u)) (sym (one_on k)))
+
+  -- one more that does
+  pub passed : stands_in u x ≡ true → new ≡ old → new ≡ start ++ map f (only_in (take (k + 1) t) u)
+  passed stands is =
+      let same : only_in (take (suc k) t) u ≡ only_in (take k t) u =
+      taken (λ l. not (stands_in u l)) t k x lt item ∙ ap (λ b. only_in (take k t) u ++ cond (not b) (x ∷ []) []) stands ∙ append-nil (only_in (take k t) u) in
+      is ∙ was ∙ ap (λ ls. start ++ map f ls) (sym same) ∙ ap (λ n. start ++ map f (only_in (take n t) u)) (sym (one_on k))
 
 pub edits_lead : EditsLead
 edits_lead i t u h k =

@@ -1,5 +1,5 @@
 -- The start may be proposed in place of itself, and pins on all its places keep each lecture.
-use Rattle.std.proofs.Common.{◌≡◌, ◌≤◌, ℕ, Bool, true, false, List, Option, Some, None, sym, subst, arith}
+use Rattle.std.proofs.Common.{◌≡◌, ℕ, Bool, true, false, List, Option, Some, None, ◌∙◌, sym, ap, subst, arith}
 use Rattle.std.specs.Bool.{OnTrue}
 use Rattle.ctt_problem.specs.BitRows.{BitTable}
 use Rattle.ctt_problem.specs.Problem.{Problem}
@@ -36,3 +36,14 @@ pub start_found : (i j : Problem) (aim : Aim) (pins : BitTable) (most : Option �
 start_found i j aim pins most t u s h same is scored small =
     subst (λ v. IsFound i j aim pins most t v s) (sym is)
     (record { same = same; proposal = start_itself i aim pins most t h; scored = scored; small = small })
+
+-- a copy of a sheet that may be proposed
+pub newly_found : (i j k : Problem) (aim : Aim) (pins : BitTable) (most : Option ℕ) (start t u : List Placed) (s : Score) → i ≡ j → k ≡ j → u ≡ t → IsProposal j aim pins most start t → s ≡ score j start t → IsSmallScore s → IsFound i k aim pins most start u s
+newly_found i j k aim pins most start t u s same copied listed proposal scored small =
+    subst (λ v. IsFound i k aim pins most start v s) (sym listed)
+    (record {
+      same = copied ∙ sym same;
+      proposal = subst (λ x. IsProposal x aim pins most start t) (sym same) proposal;
+      scored = scored ∙ ap (λ x. score x start t) (sym same);
+      small = small;
+    })

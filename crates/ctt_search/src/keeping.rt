@@ -49,12 +49,7 @@ fn keeps_pin<'i, S: Sheet<'i>>(
 }
 
 /// Returns whether each pinned lecture of a course still stands where it stands in the start.
-fn keeps_pins_of<'i, S: Sheet<'i>>(
-    start: &S,
-    sheet: &S,
-    pins: &BitRows,
-    course: CourseNo,
-) -> bool
+fn keeps_pins_of<'i, S: Sheet<'i>>(start: &S, sheet: &S, pins: &BitRows, course: CourseNo) -> bool
     requires same { S.problem start.now ≡ S.problem sheet.now }
     requires size { HasSize pins.now (slot_count (S.problem sheet.now))
         (course_count (S.problem sheet.now)) }
@@ -100,7 +95,8 @@ pub(crate) fn may_propose<'i, S: Sheet<'i>>(
         (course_count (S.problem sheet.now)) }
     requires own { own.now ≡ score (S.problem sheet.now) (S.list start.now) (S.list start.now) }
     requires own_small { IsSmallScore own.now }
-    requires reached { reached.now ≡ score (S.problem sheet.now) (S.list start.now) (S.list sheet.now) }
+    requires reached { reached.now
+        ≡ score (S.problem sheet.now) (S.list start.now) (S.list sheet.now) }
     requires small { IsSmallScore reached.now }
     ensures { OnTrue result (IsProposal (S.problem sheet.now) aim wish.now.pins
         wish.now.most_changes (S.list start.now) (S.list sheet.now)) }

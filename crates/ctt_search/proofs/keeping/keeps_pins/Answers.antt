@@ -1,7 +1,6 @@
-use Rattle.std.proofs.Common.{rules, ◌<◌, ℕ, List, subst, ap, arith}
+use Rattle.std.proofs.Common.{rules, ◌<◌, ℕ, subst, ap, arith}
 use borrow.Author.Count.{below_more}
-use Rattle.ctt_problem.specs.Problem.{Problem, course_count}
-use Rattle.ctt_problem.specs.declared.placed.Placed.{Placed}
+use Rattle.ctt_problem.specs.Problem.{course_count}
 use Rattle.ctt_search.specs.Wishes.{KeepsPinsOf}
 use Rattle.ctt_search.proofs.WishLemmas.{holds}
 use Rattle.ctt_search.proofs.keeping.keeps_pins.Goals as goal

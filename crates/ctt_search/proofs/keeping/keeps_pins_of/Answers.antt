@@ -1,7 +1,6 @@
-use Rattle.std.proofs.Common.{rules, ◌<◌, ℕ, List, subst, ap, arith}
+use Rattle.std.proofs.Common.{rules, ◌<◌, ℕ, subst, ap, arith}
 use borrow.Author.Count.{below_more}
-use Rattle.ctt_problem.specs.Problem.{Problem, slot_count}
-use Rattle.ctt_problem.specs.declared.placed.Placed.{Placed}
+use Rattle.ctt_problem.specs.Problem.{slot_count}
 use Rattle.ctt_search.specs.Wishes.{KeepsPin}
 use Rattle.ctt_search.proofs.WishLemmas.{holds}
 use Rattle.ctt_search.proofs.keeping.keeps_pins_of.Goals as goal

@@ -1,6 +1,6 @@
-use Rattle.std.proofs.Common.{rules, ◌≡◌, ◌<◌, ◌∙◌, ℕ, List, ap, arith}
+use Rattle.std.proofs.Common.{rules, ◌≡◌, ◌<◌, ◌∙◌, ℕ, ap, arith}
 use Rattle.ctt_problem.specs.Lists.{sum_below}
-use Rattle.ctt_problem.specs.Problem.{Problem, course_count}
+use Rattle.ctt_problem.specs.Problem.{course_count}
 use Rattle.ctt_search.specs.Scores.{changes_of}
 use Rattle.ctt_search.proofs.ScoreLemmas.{summed}
 use Rattle.ctt_search.proofs.score.count_changes.Goals as goal

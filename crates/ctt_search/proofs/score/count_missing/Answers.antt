@@ -1,4 +1,4 @@
-use Rattle.std.proofs.Common.{◌≡◌, ◌+◌, ◌-◌, ◌∙◌, ◌<◌, ℕ, List, ap, ap₂, arith, length}
+use Rattle.std.proofs.Common.{◌≡◌, ◌+◌, ◌-◌, ◌∙◌, ℕ, List, ap, ap₂, arith, length}
 use Rattle.ctt_problem.specs.Problem.{Problem, course_of, course_count}
 use Rattle.ctt_problem.specs.Timetable.{course_row}
 use Rattle.ctt_problem.specs.declared.placed.Placed.{Placed}

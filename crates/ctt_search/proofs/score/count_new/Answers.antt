@@ -1,7 +1,6 @@
-use Rattle.std.proofs.Common.{rules, ◌≡◌, ◌<◌, ◌∙◌, ℕ, Bool, true, false, List, sym, ap, arith}
+use Rattle.std.proofs.Common.{rules, ◌≡◌, ◌<◌, ◌∙◌, ℕ, Bool, sym, ap, arith}
 use Rattle.ctt_problem.specs.Lists.{count_below}
-use Rattle.ctt_problem.specs.Problem.{Problem, course_count, slot_count}
-use Rattle.ctt_problem.specs.declared.placed.Placed.{Placed}
+use Rattle.ctt_problem.specs.Problem.{slot_count}
 use Rattle.ctt_search.specs.Scores.{is_new}
 use Rattle.ctt_search.proofs.ScoreLemmas.{counted, not_counted}
 use Rattle.ctt_search.proofs.score.count_new.Goals.{then-is_new, else-is_new}
