@@ -1,0 +1,4 @@
+mod ScoreLemmas
+mod BetweenLemmas
+mod WishLemmas
+mod PinLemmas

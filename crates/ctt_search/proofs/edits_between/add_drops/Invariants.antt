@@ -1,0 +1,6 @@
+use Rattle.std.proofs.Common.{◌≡◌, ◌++◌, map, take}
+use Rattle.ctt_search.specs.Between.{only_in, drop_of}
+use Rattle.ctt_search.proofs.edits_between.add_drops.Given as goal
+
+abbrev pub invariant-loop-lecture : goal.invariant-loop-lecture
+invariant-loop-lecture g l = l.edits.items ≡ l.initial.edits.items ++ map drop_of (only_in (take l.lecture-index l.lectures) (g.S.Rooms.list l.sheet))
