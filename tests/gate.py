@@ -57,7 +57,7 @@ class Gate(SmallTree):
         self.assertEqual(list((self.room / "tmp").iterdir()), [])
 
     def test_order(self):
-        """Tests of the program wait for it, but not for proofs and edits; edits for the proofs."""
+        """Tests of the program wait for it, but not for proofs and edits; edits for all others."""
         self.run_gate()
         order = self.order()
         at = {line.split()[0]: number for number, line in enumerate(order) if " begun" in line}
@@ -68,6 +68,7 @@ class Gate(SmallTree):
             self.assertLess(at["proofs"], at[row[0].name])
             self.assertLess(at[row[0].name], ended)
         self.assertLess(ended, at["edits"])
+        self.assertEqual(max(at, key=lambda name: at[name]), "edits")
 
     def test_copy(self):
         """The copy has neither edits nor what was built, with git and without, and is no part."""

@@ -23,6 +23,8 @@ LOGS = TOP / "out/test"
 PATIENCE = 3.0
 # seconds between two looks at what has ended
 BEAT = 0.1
+# seconds that tests wait for what is to come, as other parts run beside them
+LONG = "120"
 
 
 @dataclasses.dataclass(frozen=True)
@@ -116,7 +118,7 @@ class Run:
         self.proved: set[str] = set()
         self.refused = False
         self.awaited = {need: Awaited() for need in Need}
-        self.told = dict(os.environ)
+        self.told = {"PATIENCE": LONG, **os.environ}
         if self.proves:
             # what is tested is what is proved
             for name in ("PROGRAM", "TRIALS", "TIMEDESK"):
@@ -188,6 +190,8 @@ class Run:
     def run_row(self, row: Sequence[Part]) -> None:
         for part in row:
             lacking = [need for need in part.needs if not self.awaited[need].wait()]
+            if part == EDITS:
+                self.wait_for_others()
             if self.is_stopped:
                 return
             if lacking:
@@ -197,6 +201,12 @@ class Run:
             self.outcomes.append(outcome)
             if outcome.failed:
                 self.say(f"{part.name}: {outcome.failure()}")
+
+    def wait_for_others(self) -> None:
+        """Waits for the other rows: edits take all processors, and no screen is to wait for one."""
+        for thread in self.threads:
+            if thread is not threading.current_thread():
+                thread.join()
 
     def run_part(self, part: Part) -> Outcome:
         """Runs a part; what goes wrong with that has failed, too."""
