@@ -160,7 +160,9 @@ def words() -> argparse.ArgumentParser:
 
 def made_page(kit: Kit, run: Run) -> str:
     """The page that the records make."""
-    return page_of(kit.crates, {it: records.read(run.folder(it)) for it in kit.crates})
+    kept = {it: records.read(run.folder(it)) for it in kit.crates}
+    edits = sum(len(read_all(run.folder(it), it)[0]) for it in kit.crates)
+    return page_of(kit.crates, kept, edits)
 
 
 def is_page_kept(path: str, made: str, write: bool) -> bool:

@@ -107,8 +107,10 @@ def _lines_of(crate: Crate, records: Mapping[str, Record]) -> Tuple[List[str], i
     return lines, count, bare
 
 
-def page_of(crates: Mapping[str, Crate], records: Mapping[str, Mapping[str, Record]]) -> str:
-    """The whole page."""
+def page_of(
+    crates: Mapping[str, Crate], records: Mapping[str, Mapping[str, Record]], edits: int
+) -> str:
+    """The whole page, of so many edits in all."""
     body: List[str] = []
     count = bare = 0
     for name, crate in crates.items():
@@ -117,9 +119,11 @@ def page_of(crates: Mapping[str, Crate], records: Mapping[str, Mapping[str, Reco
         if lines:
             said = f"{clauses} clauses of public calls, {without} bare." if clauses else ""
             body += ["", f"## `{name}`", "", *([said, ""] if said else []), *lines]
-    edits = sum(len(it) for it in records.values())
-    total = (
-        f"\nPublic calls have {count} clauses in all, {bare} of which are bare;"
-        f" {edits} edits have a record."
-    )
+    kept = sum(len(it) for it in records.values())
+    total = f"\nPublic calls have {count} clauses in all, {bare} of which are bare."
+    if kept < edits:
+        total += (
+            f" Of {edits} edits {kept} have a\nrecord; what the others turn is not shown, and each"
+            " test run tries them."
+        )
     return _HEAD + total + "\n" + "\n".join(body) + "\n"
