@@ -49,7 +49,7 @@ def by_unittest(place, names):
     sys.path[:0] = [os.path.join(HERE, "../tools"), HERE, os.path.join(HERE, "client"), folder]
     loader = unittest.TestLoader()
     if place.endswith(".py"):
-        names = [f"{place[:-3]}.{name}" if name else place[:-3] for name in names or [""]]
+        names = [f"__main__.{name}" if name else "__main__" for name in names or [""]]
     suite = loader.loadTestsFromNames(names) if names else loader.discover(folder)
     found = unittest.TextTestRunner(stream=sys.stdout, verbosity=0).run(suite)
     for why, count in sorted(collections.Counter(why for _, why in found.skipped).items()):
