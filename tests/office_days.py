@@ -19,7 +19,7 @@ DAY = [
     (0, "commit", "committed 2"),
     (1, "show cost", "costs 0 10 0 0"),
 ]
-ROW9 = [
+STALE = [
     (0, "open", "opened"),
     (0, "slot 0 2", "lectures 0"),
     (0, "place geo A 0 1", "done"),
@@ -44,7 +44,7 @@ def two_planners():
     """The worked days of two planners, line by line."""
     for name, day, entries, costs in [
         ("the day of two planners", DAY, 2, "costs 0 10 0 0"),
-        ("the day with a stale draft", ROW9, 1, "costs 10 15 0 0"),
+        ("the day with a stale draft", STALE, 1, "costs 10 15 0 0"),
     ]:
         desk = Desk(2)
         for planner, line, answer in day:

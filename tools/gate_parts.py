@@ -47,7 +47,7 @@ ROWS = (
     (test("script.sh"), test("proved.py"), test("gate.py"), test("edits_tool.py")),
     (PROOFS, EDITS),
     (
-        *tests_of_program("runs.sh", "findings.py", "points.py", "peeks.py", "week.py"),
+        *tests_of_program("runs.py", "findings.py", "points.py", "peeks.py", "week.py"),
         *tests_of_program("blocked.py", "slots.py", "page.py", "compare.py", "flags.py"),
         *tests_of_program("completion.sh", "guide.sh", "devices.py", "seats.py", "office.py"),
         test("memory.sh", Need.PROGRAM, Need.TRIALS),
