@@ -6,9 +6,9 @@ import subprocess
 from support import PROGRAM, OfficeTest
 
 from drawn import draw_instance, draw_solution
-from fake_desk import FakeDesk
-from fake_week import FakeWeek
-from plain_instance import file_of_closures, instance_of, lectures_of
+from plain_instance import file_of_closures, lectures_of, text_of
+from plain_rules import Week
+from plain_seats import SeatsDesk
 from rules import Instance as Plain
 
 from office.day.closure import Scope
@@ -38,7 +38,7 @@ class Drawn:
         self.options = ["--barred", self.barred] if barred is not None else []
         self.instance = read_instance(self.words[0], self.barred)
         self.blocked = self.block(test)
-        self.plain = instance_of(self.words[0], self.barred, self.blocked)
+        self.plain = Plain(*map(text_of, (self.words[0], self.barred, self.blocked)))
         run = subprocess.run(
             [PROGRAM, "run", *self.words, os.devnull, "--start", start, *self.options],
             capture_output=True,
@@ -175,7 +175,7 @@ class Scripts(OfficeTest):
         # the program answers the script so far: each line is drawn by what is known after the
         # answers before
         seats = Seats(self, drawn)
-        fake = FakeDesk(drawn.plain, lectures_of(drawn.start), PLANNERS, os.devnull)
+        plain = SeatsDesk(drawn.plain, lectures_of(drawn.start))
         knowns = [KnownState(drawn.instance, start) for _ in range(PLANNERS)]
         logged = [FedState() for _ in range(PLANNERS)]
         for _ in range(60):
@@ -183,7 +183,7 @@ class Scripts(OfficeTest):
             known = knowns[planner]
             line = drawn.line(known)
             answer = seats.ask(planner, line)
-            self.assertEqual(fake.answer(planner, line), answer, (seed, line))
+            self.assertEqual(plain.answer_at(planner, line), answer, (seed, line))
             edits = list(known.made)
             lines += self.lines_of_run(planner, known, line, answer)
             self.assertTrue(known.feed(line, answer), (seed, planner, line, answer, lines))
@@ -217,12 +217,12 @@ class Scripts(OfficeTest):
         self.assertEqual(logged.accepted, known.accepted)
         if logged.is_open:
             timetable = known.timetables.base.copy()
-            week = FakeWeek(drawn.plain, timetable.lectures())
+            week = Week(drawn.plain, timetable.lectures())
             for edit in logged.edits:
                 self.assertIsNone(week.fault(str(edit)))
                 self.assertEqual(str(timetable.make(edit)), week.make(str(edit)))
             self.assertTrue(timetable.same_as(known.draft))
-            self.assertEqual(week.by_course, known.draft.by_course)
+            self.assertEqual(week.by_course(), known.draft.by_course)
 
     def test_drawn(self):
         for seed in range(DRAWS):
