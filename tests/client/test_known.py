@@ -5,6 +5,7 @@ import subprocess
 
 from support import PROGRAM, OfficeTest
 
+from desks import Desk
 from drawn import draw_instance, draw_solution
 from plain_instance import file_of_closures, lectures_of, text_of
 from plain_rules import Week
@@ -132,35 +133,22 @@ class Drawn:
         return self.draw.choice(("status", "undo", "undo", "redo", "redo"))
 
 
-class Seats:
-    """The seats of a desk of the program, in a folder of their own."""
+class Seats(Desk):
+    """The seats of a desk of the program, in a folder of its own."""
 
     def __init__(self, test, drawn):
         folder = test.path("seats")
         os.mkdir(folder)
-        seats = [os.path.join(folder, str(planner)) for planner in range(PLANNERS)]
-        for seat in seats:
-            os.mkfifo(seat + ".in")
-            os.mkfifo(seat + ".out")
-        self.minutes = os.path.join(folder, "minutes")
-        words = [PROGRAM, "desk", *drawn.words, *seats, *drawn.options, "--minutes", self.minutes]
-        self.process = subprocess.Popen(words, stdout=subprocess.DEVNULL)
-        self.ends = []
-        for seat in seats:
-            lines = open(seat + ".in", "wb", buffering=0)
-            self.ends.append((lines, open(seat + ".out", "rb")))
+        super().__init__(PLANNERS, *drawn.options, instance=drawn.words[0], folder=folder)
 
     def ask(self, planner, line):
         """Types a line at a seat, and answers what it is told."""
-        lines, answers = self.ends[planner]
-        lines.write(line.encode() + b"\n")
-        return answers.readline().decode().rstrip("\n")
+        return self.seats[planner].ask(line)
 
     def end(self):
-        for pair in self.ends:
-            for one in pair:
-                one.close()
-        self.process.wait(20)
+        for seat in self.seats:
+            seat.go()
+        super().end()
 
 
 class Scripts(OfficeTest):
