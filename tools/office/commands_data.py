@@ -2,6 +2,7 @@
 from __future__ import annotations
 
 import argparse
+import datetime
 
 from office.arguments import Commands, add_at, add_command
 from office.data.labels import KINDS
@@ -32,7 +33,22 @@ def add_data(commands: Commands) -> None:
     one.add_argument("--follow", action="store_true", help=follow)
     does = "tell whose weeks have changed as JSON, one in a line"
     one.add_argument("--json", action="store_true", help=does)
+    when = one.add_mutually_exclusive_group()
+    does = "changes hold from this date on, as 2026-12-01; else from now on"
+    when.add_argument("--from", metavar="DATE", dest="since", type=date_of, help=does)
+    does = "changes hold for the whole term, also where it is past"
+    when.add_argument("--whole-term", action="store_true", help=does)
     one.set_defaults(do=do_publish)
+
+
+def date_of(text: str) -> datetime.date:
+    """The date of a word."""
+    from office.data.readings import read_date
+
+    found = read_date(text)
+    if found is None:
+        raise argparse.ArgumentTypeError(f"{text} is no date as 2026-12-01")
+    return found
 
 
 def add_output(command: argparse.ArgumentParser, name: str) -> None:
@@ -66,5 +82,7 @@ def do_export(words: argparse.Namespace) -> int:
 
 def do_publish(words: argparse.Namespace) -> int:
     from office.data.publishing import publish
+    from office.data.telling import From
 
-    return publish(Day(words.day), words.folder, words.follow, words.json)
+    since = From(words.since, words.whole_term)
+    return publish(Day(words.day), words.folder, words.follow, words.json, since)

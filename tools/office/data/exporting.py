@@ -3,6 +3,7 @@ from __future__ import annotations
 
 from typing import Iterable, Optional
 
+from office.data import exceptions, plan_book
 from office.data.codes import NO_NAME, Names
 from office.data.label_files import LABELS_COLUMNS, TIMES_COLUMNS, read_labels
 from office.data.labels import KINDS, PLAN, Labels, clock
@@ -131,9 +132,10 @@ def export_day(day: Day, number: Optional[int], folder: str) -> int:
     """Writes the tables of a day into a new folder."""
     at = read_at(day, number)
     files = export_files(at, read_labels(day.path))
-    term = read_bytes(day.file("term.csv"))
-    if term is not None:
-        files["term.csv"] = term
+    for file in ("term.csv", exceptions.FILE, plan_book.FILE):
+        text = read_bytes(day.file(file))
+        if text is not None:
+            files[file] = text
     with new_folder(folder) as made:
         write_files(made, files)
     print(f"{at.title()}: {', '.join(sorted(files))} in {folder}")

@@ -5,6 +5,7 @@ from __future__ import annotations
 import os
 import shlex
 
+from office.data import exceptions, plan_book
 from office.data.codes import NO_NAME
 from office.data.imported import BARRED, CLOSURES, INSTANCE, START
 from office.data.instance_files import BLOCKED, barred_text, instance_text
@@ -45,7 +46,7 @@ def import_files(tables: Tables, instance: Instance) -> dict[str, bytes]:
     if tables.start is not None:
         lines = (f"{lecture.words()}\n" for _, lecture in tables.start)
         files[START] = encoded("".join(lines))
-    for file in ("times.csv", "term.csv"):
+    for file in ("times.csv", "term.csv", exceptions.FILE, plan_book.FILE):
         text = read_bytes(os.path.join(tables.folder, file))
         if text is not None:
             files[file] = text

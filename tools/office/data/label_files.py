@@ -1,18 +1,19 @@
-"""Readers of labels: a folder with `labels.csv`, `times.csv` and `term.csv`, each of which may be
-missing. A day has its own in its folder."""
+"""Readers of labels: a folder with `labels.csv`, `times.csv`, `term.csv` and `exceptions.csv`, each
+of which may be missing. A day has its own in its folder."""
 from __future__ import annotations
 
 import datetime
 import os
-import re
 from typing import Optional
 
-from office.data.labels import KINDS, PLAN, WEEKDAYS, Labels, Name, Term, Time
+from office.data import exceptions
+from office.data.labels import KINDS, PLAN, Labels, Name, Term, Time
+from office.data.readings import read_date, read_minute, read_weekday
 from office.data.tables import Column, Faults, Row, read_table
 from office.day.lecture import Slot
 from office.refused import Refused
 
-FILES = ("labels.csv", "times.csv", "term.csv")
+FILES = ("labels.csv", "times.csv", "term.csv", exceptions.FILE)
 # as many as the desk takes
 SLOTS = 2000
 
@@ -35,40 +36,6 @@ TERM_COLUMNS = (
     Column("to", ("last", "last day"), is_needed=False),
     Column("name", is_needed=False),
 )
-
-
-def read_weekday(text: str) -> Optional[int]:
-    """The weekday of a name or of its first three letters."""
-    for number, weekday in enumerate(WEEKDAYS):
-        if text.lower() in (weekday.lower(), weekday[:3].lower()):
-            return number
-    return None
-
-
-def read_minute(text: str) -> Optional[int]:
-    """The minute of its day that a clock shows."""
-    found = re.fullmatch(r"(\d{1,2}):(\d\d)(?::00)?(?: ?([AaPp])\.?[Mm]\.?)?", text, re.ASCII)
-    if found is None:
-        return None
-    hour, minute, half = int(found[1]), int(found[2]), found[3]
-    if minute > 59 or not (1 <= hour <= 12 if half else hour <= 23):
-        return None
-    if half:
-        hour = hour % 12 + 12 * (half in "Pp")
-    return 60 * hour + minute
-
-
-def read_date(text: str) -> Optional[datetime.date]:
-    """A date as 2026-10-12 or as 12.10.2026; with slashes it could be either of two."""
-    found = re.fullmatch(r"(\d{4})-(\d{1,2})-(\d{1,2})", text, re.ASCII)
-    parts = found.groups() if found else ()
-    if not found:
-        found = re.fullmatch(r"(\d{1,2})\.(\d{1,2})\.(\d{4})", text, re.ASCII)
-        parts = found.groups()[::-1] if found else ()
-    try:
-        return datetime.date(*map(int, parts)) if parts else None
-    except ValueError:
-        return None
 
 
 def take_name(labels: Labels, row: Row) -> None:
@@ -175,6 +142,8 @@ def take_labels(folder: str, faults: Faults) -> tuple[Labels, list[Slot]]:
         take_name(labels, row)
     slots = take_slots(labels, read_table(folder, "times.csv", TIMES_COLUMNS, faults) or [])
     take_dates(labels, read_table(folder, "term.csv", TERM_COLUMNS, faults) or [])
+    rows = read_table(folder, exceptions.FILE, exceptions.COLUMNS, faults) or []
+    labels.single_dates = [one for one in map(exceptions.take_exception, rows) if one is not None]
     return labels, slots
 
 

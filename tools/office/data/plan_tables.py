@@ -4,9 +4,11 @@ from __future__ import annotations
 import os
 from typing import Optional
 
+from office.data import exceptions
 from office.data.codes import Codes, word_of
-from office.data.label_files import SLOTS, TIMES_COLUMNS, read_minute, read_weekday, take_labels
+from office.data.label_files import SLOTS, TIMES_COLUMNS, take_labels
 from office.data.labels import KINDS, PLAN
+from office.data.readings import read_minute, read_weekday
 from office.data.start_faults import find_faults
 from office.data.tables import Column, Faults, Row, read_table
 from office.day.closure import BLOCKABLE as CLOSED, Closure, Scope
@@ -110,6 +112,7 @@ class Tables:
         )
         instance.block(self.closures or [])
         self.take_lectures(instance)
+        self.check_single_dates()
         self.faults.refuse(f"the tables in {self.folder}")
         return instance
 
@@ -272,6 +275,12 @@ class Tables:
                 if name is not None:
                     scope = Scope(kind, name, slot[0], slot[1] if row["period"] else None)
                     self.closures.append(blocked_now(scope, user_name(), None, row["why"]))
+
+    def check_single_dates(self) -> None:
+        """A single date is of a course; where it is held instead may be no room of the plan."""
+        for one in self.labels.single_dates:
+            if not self.codes["course"].names.meant(one.course) and self.codes["course"].is_read:
+                self.faults.add(exceptions.FILE, one.row, f"there is no course {one.course}")
 
     def take_lectures(self, instance: Instance) -> None:
         rows = self.rows("lectures.csv")

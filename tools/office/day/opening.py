@@ -6,6 +6,7 @@ import contextlib
 import os
 from typing import Optional
 
+from office.data import plan_book
 from office.data.label_files import FILES, has_labels, read_labels
 from office.day import mending, processes
 from office.day.closure import Closure
@@ -153,6 +154,7 @@ class Opening:
             raise Refused("there is no program to run a desk with")
         if plan.labels:
             self.copy_labels(plan.labels)
+        self.copy_book([plan.after.path] if plan.after else [], plan.labels)
         if plan.after and os.path.exists(pins_path(plan.after)):
             self.copy(pins_path(plan.after), pins_path(day))
         self.copy(plan.instance, day.instance)
@@ -226,6 +228,13 @@ class Opening:
             if os.path.exists(os.path.join(folder, file)):
                 self.copy(os.path.join(folder, file), self.day.file(file))
 
+    def copy_book(self, before: list[str], labels: Optional[str]) -> None:
+        """Goes on with the identities that calendars have, of the day before or of the plan."""
+        for folder in [*before, *([labels] if labels else [])]:
+            if os.path.exists(os.path.join(folder, plan_book.FILE)):
+                self.copy(os.path.join(folder, plan_book.FILE), self.day.file(plan_book.FILE))
+                return
+
     def check(self) -> None:
         """Has the program read what was copied so far."""
         words = ["run", self.day.instance, os.devnull, *self.part.start_words()]
@@ -266,7 +275,7 @@ class Opening:
             closures_path(day),
             pins_path(day),
             spare_path(day),
-            *map(day.file, FILES),
+            *map(day.file, (*FILES, plan_book.FILE)),
         ]
         for path in [*made, day.office]:
             for ending in ("", ".new"):
