@@ -185,7 +185,8 @@ class ThereAndBack(Tables):
             self.assertEqual(new.teacher(course.teacher), old.teacher(course.teacher))
         for room in instance.rooms:
             self.assertEqual(new.room(room), old.room(room))
-            self.assertEqual(new.short("room", room), old.short("room", room))
+            if old.short("room", room) != room:
+                self.assertEqual(new.short("room", room), old.short("room", room))
 
 
 if __name__ == "__main__":

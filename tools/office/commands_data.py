@@ -13,6 +13,10 @@ FORMS = {
     "csv": "as a table for a spreadsheet",
     "ics": "as a calendar: an event for each lecture in each week of the term",
 }
+TABLES = {
+    "xlsx": "as one workbook with a sheet for each table",
+    "semicolon": "with semicolons between cells",
+}
 
 
 def add_data(commands: Commands) -> None:
@@ -20,12 +24,15 @@ def add_data(commands: Commands) -> None:
     one = commands.add_parser(
         "import", help=does, description=does[0].upper() + does[1:] + ".", allow_abbrev=False
     )
-    one.add_argument("folder", metavar="FOLDER", help="the tables: courses.csv, rooms.csv ..")
+    one.add_argument("folder", metavar="FOLDER", help="the tables: courses.csv, rooms.csv .., or a workbook")
     add_output(one, "DIR")
     one.set_defaults(do=do_import)
     one = add_command(commands, "export", "write the tables of a day, with its timetable")
     add_output(one, "FOLDER")
     add_at(one)
+    forms = one.add_mutually_exclusive_group()
+    for form, does in TABLES.items():
+        forms.add_argument(f"--{form}", dest="form", action="store_const", const=form, help=does)
     one.set_defaults(do=do_export)
     one = add_command(commands, "publish", "write the weeks of a day for a web server")
     one.add_argument("folder", metavar="DIR", help="the folder, a link to its newest version")
@@ -75,9 +82,10 @@ def do_import(words: argparse.Namespace) -> int:
 
 
 def do_export(words: argparse.Namespace) -> int:
-    from office.data.exporting import export_day
+    from office.data.exporting import Form, export_day
 
-    return export_day(Day(words.day), words.at, words.into)
+    form = Form(words.form) if words.form else None
+    return export_day(Day(words.day), words.at, words.into, form)
 
 
 def do_publish(words: argparse.Namespace) -> int:

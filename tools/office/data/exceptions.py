@@ -26,7 +26,7 @@ OFF, MOVED = "off", "moved"
 
 def take_exception(row: Row) -> Optional[SingleDate]:
     """What a row says; None is a fault."""
-    course, typed, what = row.needed("course"), row.needed("date"), row.needed("what").lower()
+    course, typed, what = row.needed("course"), row.needed("date"), row.word("what")
     before = sum(map(len, row.faults.found.values()))
     date, new_date = read_date(typed), read_date(row["new date"])
     for column, found in (("date", date), ("new date", new_date)):

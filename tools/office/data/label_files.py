@@ -9,9 +9,11 @@ from typing import Optional
 from office.data import exceptions
 from office.data.labels import KINDS, PLAN, Labels, Name, Term, Time
 from office.data.readings import read_date, read_minute, read_weekday
-from office.data.tables import Column, Faults, Row, read_table
+from office.data.sources import Source
+from office.data.tables import Column, Faults, Row
+from office.data.time_zones import fault_of_zone
 from office.day.lecture import Slot
-from office.refused import Refused
+from office.refused import CONTENT, Refused
 
 FILES = ("labels.csv", "times.csv", "term.csv", exceptions.FILE)
 # as many as the desk takes
@@ -40,7 +42,7 @@ TERM_COLUMNS = (
 
 def take_name(labels: Labels, row: Row) -> None:
     """Takes up a row of labels.csv."""
-    kind, code = row.needed("kind").lower(), row.needed("code")
+    kind, code = row.word("kind"), row.needed("code")
     if not kind or not code:
         return
     if kind not in (*KINDS, PLAN):
@@ -59,7 +61,7 @@ def take_name(labels: Labels, row: Row) -> None:
 
 def take_weekday(labels: Labels, row: Row, day: int) -> None:
     """Takes up the weekday of a row of times.csv: one for each day."""
-    weekday = read_weekday(row["weekday"])
+    weekday = read_weekday(row["weekday"], row.words)
     if weekday is None:
         row.fault(f"the weekday is not Mon to Sun: {row['weekday']}")
     elif labels.weekdays.setdefault(day, weekday) != weekday:
@@ -104,16 +106,21 @@ def take_slots(labels: Labels, rows: list[Row]) -> list[Slot]:
     return list(slots)
 
 
+def take_zone(labels: Labels, row: Row) -> None:
+    """Takes up the time zone of term.csv."""
+    if labels.zone is not None:
+        row.fault("there is a zone already")
+    labels.zone, labels.zone_row = row.needed("name") or None, row.number
+
+
 def take_dates(labels: Labels, rows: list[Row]) -> None:
     """Takes up term.csv."""
     days_off: list[tuple[datetime.date, datetime.date]] = []
     teaching: list[tuple[datetime.date, datetime.date, str]] = []
     for row in rows:
-        what = row.needed("what").lower()
+        what = row.word("what")
         if what == "zone":
-            if labels.zone is not None:
-                row.fault("there is a zone already")
-            labels.zone = row.needed("name") or None
+            take_zone(labels, row)
         elif what in ("teaching", "off"):
             ends = [read_date(row[column] or row["from"]) for column in ("from", "to")]
             if row.needed("from") and None in ends:
@@ -135,14 +142,14 @@ def take_dates(labels: Labels, rows: list[Row]) -> None:
         labels.term = Term(first, last, days_off, name)
 
 
-def take_labels(folder: str, faults: Faults) -> tuple[Labels, list[Slot]]:
+def take_labels(source: Source, faults: Faults) -> tuple[Labels, list[Slot]]:
     """The labels of a folder, and the slots that its times have."""
     labels = Labels()
-    for row in read_table(folder, "labels.csv", LABELS_COLUMNS, faults) or []:
+    for row in source.rows("labels.csv", LABELS_COLUMNS, faults) or []:
         take_name(labels, row)
-    slots = take_slots(labels, read_table(folder, "times.csv", TIMES_COLUMNS, faults) or [])
-    take_dates(labels, read_table(folder, "term.csv", TERM_COLUMNS, faults) or [])
-    rows = read_table(folder, exceptions.FILE, exceptions.COLUMNS, faults) or []
+    slots = take_slots(labels, source.rows("times.csv", TIMES_COLUMNS, faults) or [])
+    take_dates(labels, source.rows("term.csv", TERM_COLUMNS, faults) or [])
+    rows = source.rows(exceptions.FILE, exceptions.COLUMNS, faults) or []
     labels.single_dates = [one for one in map(exceptions.take_exception, rows) if one is not None]
     return labels, slots
 
@@ -185,9 +192,16 @@ class Watched:
         return True
 
 
+def check_zone(labels: Labels, folder: str) -> None:
+    """Refuses a time zone that nobody knows. Screens need none, and are not kept from opening."""
+    fault = fault_of_zone(labels.zone) if labels.zone else ""
+    if fault:
+        raise Refused(f"the labels in {folder}: term.csv row {labels.zone_row}: {fault}", CONTENT)
+
+
 def read_labels(folder: str) -> Labels:
     """The labels of a folder, without any if it has none. All that is wrong in them is said."""
     faults = Faults()
-    labels, _ = take_labels(folder, faults)
+    labels, _ = take_labels(Source(folder), faults)
     faults.refuse(f"the labels in {folder}")
     return labels

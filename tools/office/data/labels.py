@@ -74,6 +74,8 @@ class Labels:
         self.times: dict[Slot, Time] = {}
         self.term: Optional[Term] = None
         self.zone: Optional[str] = None
+        # of term.csv
+        self.zone_row = 0
         # in the order of their rows
         self.single_dates: list[SingleDate] = []
         # what the whole timetable is called

@@ -12,7 +12,7 @@ import time
 from typing import NamedTuple, Optional
 
 from office.data.changed_weeks import by_view, changes_between
-from office.data.label_files import read_labels
+from office.data.label_files import check_zone, read_labels
 from office.data.plan_book import FILE as BOOK, Book, book_in, book_text, new_book, newer, read_book
 from office.data.site import Published, Site
 from office.data.telling import From, Told, first_book
@@ -157,6 +157,7 @@ def keep_book(day: Day, book: Book) -> str:
 def publish_once(day: Day, folder: Folder, is_json: bool, since: From) -> None:
     """Publishes the newest timetable of a day, and says whose weeks have changed."""
     at, labels = read_at(day), read_labels(day.path)
+    check_zone(labels, day.path)
     now = datetime.datetime.now(datetime.timezone.utc)
     state = read_state(folder.old(STATE))
     book = book_of(day, folder, state, at.instance.name)

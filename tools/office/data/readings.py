@@ -1,24 +1,23 @@
-"""Weekdays, times and dates as people write them in tables."""
+"""Weekdays, times, dates and numbers as people write them in tables."""
 from __future__ import annotations
 
 import datetime
 import re
 from typing import Optional
 
-from office.data.labels import WEEKDAYS
+from office.data.vocabulary import Vocabulary, own_words
+
+CLOCK = r"(\d{1,2})[:.h](\d\d)(?:[:.]00)?(?: ?([AaPp])\.?[Mm]\.?)?(?: ?Uhr)?"
 
 
-def read_weekday(text: str) -> Optional[int]:
-    """The weekday of a name or of its first three letters."""
-    for number, weekday in enumerate(WEEKDAYS):
-        if text.lower() in (weekday.lower(), weekday[:3].lower()):
-            return number
-    return None
+def read_weekday(text: str, words: Optional[Vocabulary] = None) -> Optional[int]:
+    """The weekday of a name or of its first letters."""
+    return (words or own_words()).weekday(text)
 
 
 def read_minute(text: str) -> Optional[int]:
-    """The minute of its day that a clock shows."""
-    found = re.fullmatch(r"(\d{1,2}):(\d\d)(?::00)?(?: ?([AaPp])\.?[Mm]\.?)?", text, re.ASCII)
+    """The minute of its day that a clock shows: `8:15`, `8.15`, `08:15:00`, `8.15 Uhr`."""
+    found = re.fullmatch(CLOCK, text, re.ASCII)
     if found is None:
         return None
     hour, minute, half = int(found[1]), int(found[2]), found[3]
@@ -40,3 +39,9 @@ def read_date(text: str) -> Optional[datetime.date]:
         return datetime.date(*map(int, parts)) if parts else None
     except ValueError:
         return None
+
+
+def read_count(text: str) -> str:
+    """A number without a fraction of zeros, as spreadsheets write whole ones: `30,0`."""
+    found = re.fullmatch(r"(\d+)[.,]0+", text, re.ASCII)
+    return found[1] if found else text
