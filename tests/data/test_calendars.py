@@ -294,7 +294,8 @@ class Kept(Publishing):
         self.publish()
         uids = self.uids("course/geo.ics")
         self.assertEqual(len(uids), before.count(b"UID:"))
-        self.assertIn("UID:geo.1.2026W42@Small.timedesk".encode().lower(), {u.lower() for u in uids})
+        wanted = f"UID:geo.1.2026W42@{read_instance(SMALL).name}.timedesk"
+        self.assertIn(wanted, {uid.decode() for uid in uids})
 
 
 if __name__ == "__main__":

@@ -201,7 +201,8 @@ class Told(Spreadsheets):
     def test_what_lies_there_in_place_of_a_table(self):
         self.tables()
         os.rename(self.path("college/rooms.csv"), self.path("college/halls.csv"))
-        self.assertIn("there are barred.csv, courses.csv, curricula.csv, halls.csv", self.faults()[0])
+        there = "there are barred.csv, courses.csv, curricula.csv, halls.csv"
+        self.assertIn(there, self.faults()[0])
 
     def test_equal_faults_are_summed(self):
         self.tables()
@@ -229,7 +230,7 @@ class Told(Spreadsheets):
 
     def test_near_duplicates(self):
         for file, old, new, kind, name, like in (
-            ("courses.csv", "Analysis,Noether", "Analysis,ada byron", "teacher", "ada byron", "Ada"),
+            ("courses.csv", ",Noether", ",ada byron", "teacher", "ada byron", "Ada"),
             ("rooms.csv", "Cellar,20", "Cellar,20\nhall  2,9", "room", "hall 2", "Hall 2"),
             ("curricula.csv", "Geometers", "Mathematics first year", "curriculum", "", ""),
         ):
@@ -260,8 +261,8 @@ class Told(Spreadsheets):
     def test_a_wrong_time_zone(self):
         self.tables()
         self.change("term.csv", "Europe/Berlin", "Berlin")
-        wanted = "term.csv row 4: this machine knows no time zone Berlin: did you mean Europe/Berlin?"
-        self.assertEqual(self.faults(), [wanted])
+        wanted = "term.csv row 4: this machine knows no time zone Berlin: did you mean "
+        self.assertEqual(self.faults(), [f"{wanted}Europe/Berlin?"])
 
     def test_more_days_than_lectures(self):
         self.tables()
@@ -269,8 +270,9 @@ class Told(Spreadsheets):
         self.assertIn("courses.csv: row 6: 3 lectures on at least 5 days", self.imported())
 
     def test_short_names(self):
-        names = {"a": "Linear Algebra I", "b": "Linear Algebra", "c": "Hörsaal 2", "d": "Databases",
-                 "e": "Weiß, Björn", "f": "Logic", "g": "Large Amplifiers", "h": ""}
+        names = {"a": "Linear Algebra I", "b": "Linear Algebra", "c": "Hörsaal 2"}
+        names.update({"d": "Databases", "e": "Weiß, Björn", "f": "Logic", "g": "Large Amplifiers"})
+        names["h"] = ""
         wanted = {"a": "LA-I", "b": "LA", "c": "Hörsa-2", "d": "Database", "e": "Weiß", "g": "LA/2"}
         self.assertEqual(short_names(names), wanted)
         self.tables()

@@ -195,7 +195,9 @@ def with_separator(text: bytes, separator: str) -> bytes:
     return write_table(cells.rows[0], cells.rows[1:], dialect)
 
 
-def export_day(day: Day, number: Optional[int], folder: str, form: Optional[Form]) -> int:
+def export_day(
+    day: Day, number: Optional[int], folder: str, form: Optional[Form] = None
+) -> int:
     """Writes the tables of a day into a new folder."""
     at = read_at(day, number)
     labels = read_labels(day.path)
