@@ -69,9 +69,9 @@ class Files(Publishing):
         self.labelled()
         printed, said = self.publish()
         self.assertEqual(printed, "")
-        self.assertIn("office: day, at its start: 0 lectures changed, 19 files of 19 written", said)
+        self.assertIn("office: day, at its start: 0 lectures changed, 20 files of 20 written", said)
         instance = instance_of(SMALL)
-        wanted = {"index.html", "changes.html", "published.json"}
+        wanted = {"index.html", "changes.html", "published.json", "plan.json"}
         for kind, codes in (
             ("course", instance.courses),
             ("room", instance.rooms),
@@ -128,7 +128,8 @@ class Changed(Publishing):
         changed = {name for name in after if after[name] != before.get(name)}
         weeks = {"course/geo", "curriculum/q1", "room/A", "teacher/t2"}
         wanted = {f"{week}.{ending}" for week in weeks for ending in ("html", "ics")}
-        self.assertEqual(changed, wanted | {"index.html", "changes.html", "published.json"})
+        others = {"index.html", "changes.html", "published.json", "plan.json"}
+        self.assertEqual(changed, wanted | others)
         # the others are the same files, so that their times are the old ones
         same = {n for n in after if os.stat(self.path(f"site/{n}")).st_ino == times[n]}
         self.assertEqual(same, set(after) - changed)
@@ -229,7 +230,8 @@ class Whole(Publishing):
         # what is blocked is published as what is committed
         self.office("block", day, "room", "B", "1")
         self.assertTrue(wait_until(lambda: os.readlink(site).endswith("/3")))
-        self.assertNotIn("top", self.tree()["room/B.html"].decode().split("<body")[1])
+        page = self.tree()["room/B.html"].decode().split("<body")[1]
+        self.assertNotIn("top", page.split('class="changes"')[0])
         self.sit("day", 0, "open\nplace top A 1 2\ncommit\n")
         self.assertTrue(wait_until(lambda: os.readlink(site).endswith("/4")))
         self.office("close", day, "--wait", "0")

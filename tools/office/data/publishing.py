@@ -12,12 +12,14 @@ import time
 from typing import NamedTuple, Optional
 
 from office.data.changed_weeks import by_view, changes_between
-from office.data.label_files import read_labels
+from office.data.label_files import check_zone, read_labels
+from office.data.plan_book import FILE as BOOK, Book, book_in, book_text, new_book, newer, read_book
 from office.data.site import Published, Site
+from office.data.telling import From, Told, first_book
 from office.day.folder import Day
 from office.day.lecture import Lecture
 from office.day.parts import DayMinutes
-from office.day.safe_files import lock
+from office.day.safe_files import lock, write_whole
 from office.day.shifts import Shift
 from office.past.timetable_at import read_at
 from office.refused import Refused
@@ -46,18 +48,13 @@ def read_state(text: Optional[bytes]) -> Optional[State]:
     history = []
     for one in found["history"]:
         changes = [Shift(*(row and Lecture(*row) for row in pair)) for pair in one["changes"]]
-        history.append(Published(one["time"], changes))
+        history.append(Published(one["time"], changes, one.get("since", "")))
     return State([Lecture(*row) for row in found["lectures"]], history)
 
 
 def state_text(state: State) -> bytes:
-    history = [{"time": one.time, "changes": one.changes} for one in state.history]
+    history = [one._asdict() for one in state.history]
     return (json.dumps({"lectures": state.lectures, "history": history}) + "\n").encode()
-
-
-def without_stamps(text: bytes) -> bytes:
-    """A calendar without when it was made."""
-    return b"\n".join(line for line in text.split(b"\n") if not line.startswith(b"DTSTAMP:"))
 
 
 class Folder:
@@ -96,15 +93,6 @@ class Folder:
                 return file.read()
         except FileNotFoundError:
             return None
-
-    def settled(self, files: dict[str, bytes]) -> dict[str, bytes]:
-        """The files, with the old calendar in place of one that says the same."""
-        found = dict(files)
-        for name, text in files.items():
-            old = self.old(name) if name.endswith(".ics") else None
-            if old is not None and without_stamps(old) == without_stamps(text):
-                found[name] = old
-        return found
 
     def is_as(self, files: dict[str, bytes]) -> bool:
         """Whether the version that is seen has these files and no others."""
@@ -146,21 +134,44 @@ class Folder:
                 shutil.rmtree(self.version(int(name)), ignore_errors=True)
 
 
-def publish_once(day: Day, folder: Folder, is_json: bool) -> None:
+def book_of(day: Day, folder: Folder, state: Optional[State], plan: str) -> Book:
+    """What calendars have told of a plan so far."""
+    text = folder.old(BOOK)
+    published = None if text is None else read_book(text, os.path.join(folder.path, BOOK))
+    if published is None and state is not None:
+        published = first_book(plan, state.lectures)
+    return newer(published, book_in(day.path)) or new_book()
+
+
+def keep_book(day: Day, book: Book) -> str:
+    """Writes the book into the day's folder, so that it goes on with the plan; why not, if it
+    cannot be done."""
+    try:
+        if book_in(day.path) != book:
+            write_whole(day.file(BOOK), book_text(book))
+    except Refused as refused:
+        return f"another folder would begin with new calendars: {refused.reason}"
+    return ""
+
+
+def publish_once(day: Day, folder: Folder, is_json: bool, since: From) -> None:
     """Publishes the newest timetable of a day, and says whose weeks have changed."""
     at, labels = read_at(day), read_labels(day.path)
+    check_zone(labels, day.path)
     now = datetime.datetime.now(datetime.timezone.utc)
     state = read_state(folder.old(STATE))
+    book = book_of(day, folder, state, at.instance.name)
+    told = Told(book, at, labels, since.text(now, labels.zone), f"{now:%Y%m%dT%H%M%SZ}")
+    holds = told.since[:10] if labels.term else ""
     changed = changes_between(state.lectures, at.lectures) if state else []
     history = state.history if state else []
     if changed or not history:
         when = time.strftime("%Y-%m-%d %H:%M", time.localtime(now.timestamp()))
-        history = [*history, Published(when, changed)][-REMEMBERED:]
-    site = Site(at, labels, history, now)
+        history = [*history, Published(when, changed, holds)][-REMEMBERED:]
+    site = Site(at, labels, history, told.book)
     files = site.files()
-    files[STATE] = state_text(State(at.lectures, history))
-    files = folder.settled(files)
-    for note in site.notes:
+    files[STATE], files[BOOK] = state_text(State(at.lectures, history)), book_text(told.book)
+    for note in filter(None, [*told.notes, *site.notes, keep_book(day, told.book)]):
         print("office:", note, file=sys.stderr)
     if folder.is_as(files):
         print("office: nothing has changed", file=sys.stderr)
@@ -176,7 +187,7 @@ def publish_once(day: Day, folder: Folder, is_json: bool) -> None:
             print(json.dumps(person, ensure_ascii=False) if is_json else line, flush=True)
 
 
-def publish(day: Day, path: str, follows: bool, is_json: bool) -> int:
+def publish(day: Day, path: str, follows: bool, is_json: bool, since: From) -> int:
     """Publishes a day; with `follows` again after each accepted draft, until the day is closed."""
     day.facts()
     folder = Folder(path)
@@ -184,7 +195,7 @@ def publish(day: Day, path: str, follows: bool, is_json: bool) -> int:
     while True:
         is_open = follows and day.is_open()
         minutes.read_to_end()
-        publish_once(day, folder, is_json)
+        publish_once(day, folder, is_json, since)
         if not is_open:
             return 0
         time.sleep(PACE)

@@ -6,7 +6,8 @@ import contextlib
 import os
 from typing import Optional
 
-from office.data.label_files import FILES, has_labels, read_labels
+from office.data import given_tables, plan_book
+from office.data.label_files import FILES, check_zone, has_labels, read_labels
 from office.day import mending, processes
 from office.day.closure import Closure
 from office.day.closures_file import (
@@ -153,6 +154,7 @@ class Opening:
             raise Refused("there is no program to run a desk with")
         if plan.labels:
             self.copy_labels(plan.labels)
+        self.copy_along([plan.after.path] if plan.after else [], plan.labels)
         if plan.after and os.path.exists(pins_path(plan.after)):
             self.copy(pins_path(plan.after), pins_path(day))
         self.copy(plan.instance, day.instance)
@@ -221,10 +223,22 @@ class Opening:
     def copy_labels(self, folder: str) -> None:
         if not has_labels(folder):
             raise Refused(f"{folder} has none of {', '.join(FILES)}")
-        read_labels(folder)
+        check_zone(read_labels(folder), folder)
         for file in FILES:
             if os.path.exists(os.path.join(folder, file)):
                 self.copy(os.path.join(folder, file), self.day.file(file))
+
+    def copy_along(self, before: list[str], labels: Optional[str]) -> None:
+        """Goes on with the identities that calendars have, of the day before or of the plan; and
+        with the tables as they were given, of a plan that was imported again or of the day."""
+        plan = [labels] if labels else []
+        for file, folders in (
+            (plan_book.FILE, [*before, *plan]),
+            (given_tables.FILE, [*plan, *before]),
+        ):
+            there = [one for one in folders if os.path.exists(os.path.join(one, file))]
+            if there:
+                self.copy(os.path.join(there[0], file), self.day.file(file))
 
     def check(self) -> None:
         """Has the program read what was copied so far."""
@@ -266,7 +280,7 @@ class Opening:
             closures_path(day),
             pins_path(day),
             spare_path(day),
-            *map(day.file, FILES),
+            *map(day.file, (*FILES, plan_book.FILE, given_tables.FILE)),
         ]
         for path in [*made, day.office]:
             for ending in ("", ".new"):
