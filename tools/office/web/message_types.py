@@ -307,8 +307,7 @@ ReaderTurnData = TypedDict("ReaderTurnData", {"picture": ReaderPictureData})
 
 
 class TurnData(TypedDict, total=False):
-    """What an act is answered. One that leaves the seat has no more than that; one that came at the
-    end of a part of the day was not done, and has nothing."""
+    """What an act is answered. One that came at the end of a part was not done, and has nothing."""
 
     left: Literal[True]
     notice: NoticeData
@@ -329,7 +328,6 @@ class OfficeEventData(TypedDict, total=False):
 
 class ReaderEventData(OfficeEventData, total=False):
     """To who reads."""
-
     names: NamesData
     picture: ReaderPictureData
 
@@ -342,6 +340,8 @@ class EventData(OfficeEventData, total=False):
     people: list[PersonData]
     news: list[NewsData]
     picture: PictureData
+    # in place of a picture, where the week is as it was
+    state: StateData
     question: Optional[QuestionData]
     notice: NoticeData
     left: Literal[True]

@@ -283,8 +283,7 @@ interface PrintData {
 interface ReaderTurnData {
   picture: ReaderPictureData;
 }
-/** What an act is answered. One that leaves the seat has no more than that; one that came at the
- * end of a part of the day was not done, and has nothing. */
+/** What an act is answered. One that came at the end of a part was not done, and has nothing. */
 interface TurnData {
   left?: true;
   notice?: NoticeData;
@@ -315,6 +314,7 @@ interface EventData {
   people?: PersonData[];
   news?: NewsData[];
   picture?: PictureData;
+  state?: StateData;
   question?: QuestionData | null;
   notice?: NoticeData;
   left?: true;

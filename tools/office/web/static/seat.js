@@ -109,6 +109,15 @@ function take(found) {
   if (found.notice) toastNotice(found.notice, acts);
 }
 
+// what it costs is another thing by now, the week is as it was
+/** @type {(state: StateData) => void} */
+function takeState(state) {
+  if (!app.picture) return;
+  app.picture = { ...app.picture, state };
+  drawState();
+  boxes.previewStale(state.draft?.stale_preview || "");
+}
+
 // what is asked
 
 /** @type {Parts["turn"]} */
@@ -138,6 +147,7 @@ function hear(event) {
   if (event.left) leave();
   if (event.news) event.news.forEach(tellNews);
   if (event.picture) take(event);
+  else if (event.state) takeState(event.state);
   if (event.news) side.drawNews(app);
   drawBanner();
 }
