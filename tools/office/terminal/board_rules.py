@@ -57,7 +57,7 @@ class BoardRules:
         """Keeps what was being read or typed."""
         if isinstance(front, CommitBox):
             why = front.why
-            self._kept = lambda: self.board.commit_box(why)
+            self._kept = lambda: self.board.draft.commit_box(why)
         elif front is not None:
             self._kept = lambda: front
 

@@ -94,6 +94,24 @@ class Planning(Reading):
         else:
             self.notice = answer_notice(answer)
 
+    def take_back(self, place: int) -> list[Notice]:
+        """Takes an edit of the draft back, whichever it is. Those after it are made again; answers
+        those that were refused without it, with the reason."""
+        edits, shifts = self.edits(), self.shifts()
+        if place == len(edits) - 1:
+            self.undo()
+            return []
+        for _ in edits[place:]:
+            answer = self.turn(Turn.UNDO)
+            if not isinstance(answer, Undone):
+                break
+        refused = []
+        for number, edit in enumerate(edits[len(self.edits()) :], len(self.edits()) + 1):
+            if number != place + 1 and not self.edit(edit):
+                refused.append(self._left_out(number, edit, self.refused))
+        self.notice = say("taken back", shifts=shifts[place])
+        return refused
+
     def undo_undo(self) -> None:
         """Makes the edit again that was taken back last."""
         undone = self.state.undone
@@ -187,13 +205,14 @@ class Planning(Reading):
             self.notice = answer_notice(answer)
 
     def abandon(self) -> None:
+        """Gives the draft up, or a stale one."""
         count = len(self.edits() or self.ended())
+        code = "given up" if self.is_open else "last given up"
         if not self.is_open:
             self.forget()
-            self.notice = say("last given up", count=count)
         else:
             self.turn(Turn.ABANDON)
-            self.notice = say("given up", count=count)
+        self.notice = say(code, count=count, aside=NOTHING) if count else say("empty given up")
 
     def forget(self) -> None:
         """The edits of the last draft are given up, or made again by another way."""

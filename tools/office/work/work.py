@@ -30,16 +30,17 @@ from office.work.week import Cell, View, all_views, cells_of, lectures_of_view, 
 class Work:
     """A planner's work: whose week he looks at, what he has picked up, and his draft."""
 
-    def __init__(self, planning: Planning) -> None:
+    def __init__(self, planning: Planning, variants: Optional[Variants] = None) -> None:
         self.planning = planning
         self.views = all_views(planning.instance)
         self.view = self.views[0] if self.views else View("course", "")
         self.carry: Optional[Carry] = None
-        self.drafting = Drafting(planning)
+        # what was put aside is put aside at the seat
+        self.variants = variants or Variants(planning)
+        self.drafting = Drafting(planning, self.variants)
         self.history = History(planning)
         self.knowing = Knowing(planning)
         self.blocking = Blocking(planning)
-        self.variants = Variants(planning)
         self.findings = Findings(planning, self.go_to)
         # where to look next, if something was chosen that stands at a slot
         self.goal: Optional[Slot] = None
@@ -97,6 +98,15 @@ class Work:
     def is_over(self) -> bool:
         """Whether the rules change: this part of the day is over."""
         return self.planning.seat.is_over()
+
+    def ask_leave(self) -> Optional[Question]:
+        """Leaves the seat, and asks before where a draft is open."""
+        lines = self.drafting.edit_lines()
+        if not lines:
+            self.leave()
+            return None
+        answers = {"leave now": self.leave}
+        return Question(say("leave"), [*lines, BLANK, say("leave why")], answers)
 
     def leave(self) -> None:
         self.is_done = True
