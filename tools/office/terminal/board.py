@@ -98,6 +98,8 @@ class Board:
             choices = Worded(question.choices, self.wording)
             title = self.wording.notice(question.title)
             self.overlay = Chooser(title, choices, self.choose)
+        elif question is not None and question.reason is not None:
+            self.draft.ask_reason(question.reason)
         elif question is not None:
             self.overlay = Asked(question, self.wording, self.ask)
 
@@ -259,7 +261,7 @@ class Board:
             return None
         question, seen = knowing.ask_unpin(lecture), lecture
         if question is None:
-            meant = self.draft.meant("pin")
+            meant = self.draft.meant("p")
             self.overlay = Typed("Why is it pinned? ", lambda why: knowing.pin(seen, why), meant)
         return question
 

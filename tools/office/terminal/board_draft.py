@@ -9,7 +9,7 @@ from office.terminal.overlays import CommitBox, Typed
 from office.terminal.variant_list import VariantList
 from office.words.actions import BY_NAME
 from office.words.meant import Meant, names_of
-from office.words.notice import say
+from office.words.notice import Reason, say
 
 if TYPE_CHECKING:
     from office.terminal.board import Board
@@ -21,11 +21,20 @@ class BoardDraft:
     def __init__(self, board: Board) -> None:
         self.board = board
 
-    def meant(self, action: str) -> Meant:
-        """Asks about reasons that are typed behind the key of an action."""
+    def meant(self, key: str = "", is_needed: bool = False) -> Meant:
+        """Asks about reasons that are typed, perhaps behind a key of the week."""
         board = self.board
-        key = BY_NAME[action].key
-        return Meant(key, lambda: names_of(board.planning.instance, board.labels.labels))
+        instance = board.planning.instance
+        return Meant(key, lambda: names_of(instance, board.labels.labels), is_needed)
+
+    def ask_reason(self, reason: Reason) -> None:
+        """Asks for a reason that is needed."""
+        board = self.board
+
+        def take(why: str) -> None:
+            board.ask(reason.take(why))
+
+        board.overlay = Typed(board.wording.notice(reason.label), take, self.meant("", True))
 
     def type_line(self) -> None:
         self.board.overlay = Typed(":", self.send_line)
@@ -60,7 +69,7 @@ class BoardDraft:
         box = drafting.box()
         if box is None:
             return None
-        found = CommitBox(box, drafting, board.wording, commit, self.meant("commit"))
+        found = CommitBox(box, drafting, board.wording, commit, self.meant(BY_NAME["commit"].key))
         found.why = why
         return found
 

@@ -9,7 +9,7 @@ from office.terminal.grid import Row
 from office.words.actions import BY_NAME, key_of
 from office.words.folding import folded, searched
 from office.words.meant import Meant
-from office.words.notice import Notice, Question
+from office.words.notice import NOTHING, Notice, Question
 from office.words.text import counted, cut_front, fit, shown, wrap
 from office.words.wording import Wording
 from office.work.drafting import Box, Drafting
@@ -234,12 +234,17 @@ class Typed(Overlay):
 
     def rows(self, height: int, width: int) -> list[Row]:
         prompt = self.prompt
-        if self.meant is not None and self.meant.notice(self.typed):
-            prompt = f"Is that the reason? {ONCE_MORE}. {prompt}"
+        doubt = self.meant.notice(self.typed) if self.meant is not None else NOTHING
+        if doubt:
+            prompt = f"{DOUBTS[doubt.code]} {prompt}"
         return [[(fit(f"{prompt}{shown(self.typed)}_", width), "cursor")]]
 
 
-ONCE_MORE = "Enter once more goes on, Escape goes back"
+# a reason that is asked about, where there is one row for all
+DOUBTS = {
+    "may be meant": "Is that the reason? Enter once more goes on, Escape goes back.",
+    "reason needed": "A reason is needed.",
+}
 
 
 class CommitBox(Overlay):

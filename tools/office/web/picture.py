@@ -8,6 +8,7 @@ from office.day.closure import Closure
 from office.day.edits import Edit
 from office.day.lecture import Lecture, Slot
 from office.day.rules import students_without_seat
+from office.day.shifts import Shift, shifts_of
 from office.seat.answers import Offer, costs_in
 from office.web.frame import Frame
 from office.web.message_types import (
@@ -15,6 +16,7 @@ from office.web.message_types import (
     BlockedData,
     CellData,
     DraftData,
+    EditData,
     HeldData,
     HeldSlotData,
     MissingData,
@@ -80,8 +82,11 @@ class Picture:
         stale = say("box stale", row=row) if row is not None else NOTHING
         return {
             "edits": [
-                {"text": wording.shifts(shifts), "price": self.prices.get(edit)}
+                self.edit(edit, shifts)
                 for edit, shifts in zip(planning.edits(), planning.shifts())
+            ],
+            "taken_back": [
+                self.edit(edit, shifts_of(edit)) for edit in reversed(planning.state.taken_back)
             ],
             "base": planning.base_costs or None,
             "base_total": planning.base_total,
@@ -89,6 +94,11 @@ class Picture:
             "stale_preview": wording.notice(stale),
             "left_out": wording.lines(planning.left_out()),
         }
+
+    def edit(self, edit: Edit, shifts: list[Shift]) -> EditData:
+        """An edit in words and as a line of the desk."""
+        text = self.wording.shifts(shifts)
+        return {"text": text, "edit": str(edit), "price": self.prices.get(edit)}
 
     def missing(self) -> list[MissingData]:
         found = [

@@ -121,14 +121,20 @@ class Office:
 
     async def look(self) -> None:
         """Looks for news at each place at which somebody is. What fails at one is that one's."""
+        if self.day.is_changing():
+            # the desk ends as soon as all seats have left it
+            await asyncio.gather(*(self.look_at(sitter) for sitter in self.sitters))
         for place in self.places():
-            with self.faults.kept(place.called):
-                await place.look()
+            await self.look_at(place)
         people = self.who_sits()
         if people != self.people:
             self.people = people
             for sitter in self.sitters:
                 sitter.tell({"people": people})
+
+    async def look_at(self, place: Any) -> None:
+        with self.faults.kept(place.called):
+            await place.look()
 
     def who_sits(self) -> list[Data]:
         found = []

@@ -176,9 +176,8 @@ class Sitter:
         """What a window has; it begins anew when somebody has sat down anew."""
         assert self.planning is not None
         if window.shown is None or window.shown.planning is not self.planning:
-            window.shown = Shown(self.planning)
-            # what was put aside is put aside at the seat
-            window.shown.work.variants = self.begun.variants
+            wording = self.frame.wording
+            window.shown = Shown(self.planning, self.begun.variants, wording)
         shown: Shown = window.shown
         return shown
 
@@ -254,7 +253,7 @@ class Sitter:
             if question is not None:
                 shown.ask(question)
             return
-        shown.ask(None)
+        shown.close(request.text("why", WHY))
         if verb != "close":
             question = VERBS[verb](WindowTurn(shown, request))
             if question is not None:

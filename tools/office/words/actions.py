@@ -171,6 +171,8 @@ ANSWERS = (
     Action("throw away", "x", "throws it away", ""),
     Action("unpin", "y", "takes it off", ""),
     Action("take back", "t", "takes it back in your draft", ""),
+    Action("lift", "l", "lifts it", ""),
+    Action("put back", "y", "puts them back in your draft", ""),
     Action("seen", "enter", "goes on", ""),
     Action("take over", "y", "goes on with them", ""),
     Action("leave to them", "q", "leaves them", ""),

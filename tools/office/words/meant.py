@@ -51,13 +51,19 @@ class Meant:
     """Asks once more about a reason that is typed. The same one is taken then; another one is asked
     about, too: who types a name goes on to type."""
 
-    def __init__(self, key: str, names: Callable[[], Iterable[str]]) -> None:
-        self.key, self.names = key, names
+    def __init__(
+        self, key: str, names: Callable[[], Iterable[str]], is_needed: bool = False
+    ) -> None:
+        # without the key, if nothing was pressed before what is typed
+        self.key, self.names, self.is_needed = key, names, is_needed
         # what was asked about last
         self.asked: Optional[str] = None
 
     def asks(self, why: str) -> bool:
         """Whether a reason is asked about, before anything is done with it."""
+        if self.is_needed and not why.strip():
+            self.asked = why
+            return True
         if why == self.asked:
             return False
         if self.asked is None and not may_be_meant_otherwise(self.key, why, self.names()):
@@ -67,4 +73,8 @@ class Meant:
 
     def notice(self, why: str) -> Notice:
         """What is asked; nothing, if it is not asked about."""
-        return say("may be meant", name=f"{self.key}{why}") if why == self.asked else NOTHING
+        if why != self.asked:
+            return NOTHING
+        if self.is_needed and not why.strip():
+            return say("reason needed")
+        return say("may be meant", name=f"{self.key}{why}")

@@ -65,6 +65,7 @@ DRAFT = {
     "nothing to undo": "No draft is open: nothing to undo.",
     "taken back": "Taken back: {shifts}.",
     "may be meant": "{name} is a name or a word: is it the reason?",
+    "reason needed": "A reason is needed: all who plan read it.",
     "commit by its key": "A commit is seen before it is made: {key[commit]} shows it.",
     "nothing to commit": "No draft is open: nothing to commit.",
     "no edits": "Your draft has no edits: nothing to commit.",

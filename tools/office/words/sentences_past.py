@@ -2,8 +2,8 @@
 from __future__ import annotations
 
 PAST: dict[str, str] = {
-    "drafts of": "Drafts that have changed {row}, newest first",
-    "never changed": "No draft of today has changed {row}.",
+    "drafts of": "What has changed {row}, newest first",
+    "never changed": "Nothing has changed {row} today.",
     "draft choice": "{number} {who}, {time}: {reasons}{why}",
     "edit words": "{shifts}",
     "and more": "{count} more",

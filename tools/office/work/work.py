@@ -7,6 +7,7 @@ answers what is to be read or asked then, if anything is.
 from __future__ import annotations
 
 import time
+from functools import partial
 from typing import Optional
 
 from office.day.edits import Edit, Kind
@@ -93,7 +94,13 @@ class Work:
         """Goes on in the next part of the day, and makes an open draft again. What was picked up is
         put back."""
         self.carry = None
-        return question_of(step_over(self.planning))
+        stepped = step_over(self.planning)
+        question, closures = question_of(stepped), self.history.closures
+        changed = [one for change in stepped.changes for one in change.closures]
+        if question is None:
+            return closures.offer(changed)
+        # what was lifted is offered when the rest has been read
+        return question._replace(answers={"seen": partial(closures.offer, changed)})
 
     def is_over(self) -> bool:
         """Whether the rules change: this part of the day is over."""
@@ -105,8 +112,8 @@ class Work:
         if not lines:
             self.leave()
             return None
-        answers = {"leave now": self.leave}
-        return Question(say("leave"), [*lines, BLANK, say("leave why")], answers)
+        lines += [BLANK, say("leave why")]
+        return Question(say("leave"), lines, {"leave now": self.leave})
 
     def leave(self) -> None:
         self.is_done = True

@@ -16,9 +16,9 @@ class Acts {
     this.turn = parts.turn;
     this.queue = parts.queue;
     this.search = parts.search;
-    /** @type {(name: string) => any} */
-    this.queued = (name) => {
-      const act = () => this.act(name);
+    /** @type {(name: string, key?: string) => any} */
+    this.queued = (name, key = "") => {
+      const act = () => this.act(name, key);
       return AT_ONCE.includes(name) ? act() : this.queue(act);
     };
     this.toWeek = () => this.week.setCursor(this.week.cursor, true);
@@ -181,9 +181,10 @@ class Acts {
     boxes.askLine((line) => this.queue(() => this.turn("line", { line })));
   }
 
-  // an action by the name that keys have, on what is seen when all before it is done
-  /** @type {(name: string) => any} */
-  act(name) {
+  // an action by the name that keys have, on what is seen when all before it is done; key is what
+  // was pressed for it
+  /** @type {(name: string, key: string) => any} */
+  act(name, key) {
     const slot = this.week.cursor;
     const lecture = this.week.seen(slot);
     const own = {
@@ -201,7 +202,7 @@ class Acts {
       next: () => this.rooms(slot, lecture),
       "lay down": () => this.layDown(),
     }[name];
-    return own ? own() : this.turn("act", { name, lecture, at: slot });
+    return own ? own() : this.turn("act", { name, lecture, at: slot, key });
   }
 }
 
@@ -222,10 +223,12 @@ export function makeActs({ closed, seen, ...parts }) {
     toWeek: raw.toWeek,
     hover: (slot) => look.hover(slot),
     go: (days, periods) => queue(() => look.go(days, periods)),
-    closeQuestion: (question) => {
+    closeQuestion: (question, told) => {
       closed();
-      return queue(() => raw.turn("close", { question }));
+      return queue(() => raw.turn("close", { question, ...told }));
     },
+    takeBack: (place, edit) => queue(() => raw.turn("take_back", { place, edit })),
+    makeOne: (edit) => queue(() => raw.turn("make_one", { edit })),
     more: (slot) => {
       const lecture = raw.week.seen(slot);
       return queue(() => raw.rooms(slot, lecture));

@@ -2,7 +2,7 @@
 // The seat in a browser: what is known, and what is drawn when it changes.
 import { makeActs } from "./acts.js";
 import * as boxes from "./boxes.js";
-import { announce, banner, el, fill, find, name } from "./dom.js";
+import { announce, banner, button, el, fill, find, name } from "./dom.js";
 import { makeHand } from "./hand.js";
 import { listenToKeys } from "./keys.js";
 import { act, ask, Fault, keepListening, takeKey } from "./link.js";
@@ -34,7 +34,7 @@ const app = {
   fault: "",
   waits: "",
 };
-const LEFT = "You have left the seat: load this page anew to sit down.";
+const LEFT = "You have left the seat.";
 /** @type {Week} */ let week;
 /** @type {Acting} */ let acts;
 /** @type {Look} */ let look;
@@ -70,7 +70,9 @@ const hasClosed = () => app.closes !== null && toClose() < 0;
 // a desk that has died is told before the farewell; one that ends in its time has closed
 function drawBanner() {
   const why = (hasClosed() ? "" : app.fault) || (app.isOver ? "" : app.lost);
-  banner(why || app.waits || closing() || app.picture?.state.alarm || "");
+  const text = why || app.waits || closing() || app.picture?.state.alarm || "";
+  const back = button("sit", "Sit down again", () => location.reload(), { cls: "again" });
+  banner(text, text === LEFT ? back : null);
 }
 
 function leave() {

@@ -126,13 +126,23 @@ export function drawDraft({ picture }, acts) {
     const hint = "The first edit opens a draft. Others see it when you commit it.";
     return refill(box, title("Your draft"), el("p", { cls: "hint" }, hint));
   }
-  const { edits, left_out: left, stale_preview: stale } = draft;
-  const undo = act("undo", "Undo", { cls: "link", title: "U" });
+  const { edits, taken_back: gone, left_out: left, stale_preview: stale } = draft;
   const last = edits.length - 1;
+  /** @type {(edit: EditData, at: number) => HTMLElement} */
+  const undo = ({ edit }, at) =>
+    button(`undo ${at}`, "Undo", () => acts.takeBack(at, edit), {
+      cls: "link",
+      title: at === last ? "U or Ctrl-Z" : "takes this edit back",
+    });
+  /** @type {(edit: EditData) => HTMLElement} */
+  const again = ({ edit }) =>
+    button(`again ${edit}`, "Make again", () => acts.makeOne(edit), { cls: "link" });
   refill(
     box,
     title("Your draft", edits.length),
-    el("ol", { cls: "edits" }, edits.map((edit, at) => editItem(edit, at === last ? undo : null))),
+    el("ol", { cls: "edits" }, edits.map((edit, at) => editItem(edit, undo(edit, at)))),
+    gone.length ? el("h3", {}, "Taken back") : null,
+    gone.length ? el("ul", { cls: "gone" }, gone.map((one) => editItem(one, again(one)))) : null,
     left.length ? [el("h3", {}, "Not made again"), el("ul", {}, left.map(told))] : null,
     el(
       "div",
