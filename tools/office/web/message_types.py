@@ -108,6 +108,8 @@ class CourseData(TypedDict):
     said: str
     hue: int
     teacher_said: str
+    # by its names where there is room for more than short ones
+    told: str
     students: int
 
 

@@ -86,6 +86,7 @@ interface CourseData {
   said: string;
   hue: number;
   teacher_said: string;
+  told: string;
   students: number;
 }
 /** A course of which lectures are missing, and where they stood. */
@@ -94,6 +95,7 @@ interface MissingData {
   said: string;
   hue: number;
   teacher_said: string;
+  told: string;
   students: number;
   count: number;
   stood: string[];
@@ -128,6 +130,7 @@ interface LectureData {
   said: string;
   hue: number;
   teacher_said: string;
+  told: string;
   students: number;
   room: string;
   room_said: string;
@@ -179,6 +182,7 @@ interface HeldData {
   said: string;
   hue: number;
   teacher_said: string;
+  told: string;
   students: number;
   kind: "move" | "swap" | "place";
   about: string;

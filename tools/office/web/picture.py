@@ -218,7 +218,7 @@ class Picture:
             "lines": [room, *self.course_lines(lecture.course)],
             # what others have to do with it
             "notices": wording.lines(notices),
-            "weeks": [(view, wording.short(*view)) for view in weeks_of(instance, lecture)],
+            "weeks": [(view, wording.name(*view)) for view in weeks_of(instance, lecture)],
         }
 
     # what is held
@@ -253,7 +253,14 @@ class Picture:
     def offers(self, slot: Slot) -> list[OfferData]:
         """All that a slot offers for what is held, cheapest first."""
         carry = self.work.carry
-        return [self.offer(carry, offer) for offer in carry.at(slot)] if carry else []
+        return [self.offer_told(carry, offer) for offer in carry.at(slot)] if carry else []
+
+    def offer_told(self, carry: Carry, offer: Offer) -> OfferData:
+        """An offer where there is room for a name, and for the seats of a room."""
+        if carry.kind is SWAP:
+            return offer.price, offer.about, self.wording.course(offer.about)
+        seats = counted(self.planning.instance.rooms[offer.about], "seat")
+        return offer.price, offer.about, f"{self.wording.room(offer.about)}, {seats}"
 
     def offer(self, carry: Carry, offer: Offer) -> OfferData:
         kind = "course" if carry.kind is SWAP else "room"

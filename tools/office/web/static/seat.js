@@ -71,9 +71,10 @@ const hasClosed = () => app.closes !== null && toClose() < 0;
 function drawBanner() {
   const why = (hasClosed() ? "" : app.fault) || (app.isOver ? "" : app.lost);
   const text = why || app.waits || closing() || app.picture?.state.alarm || "";
-  const back = button("sit", "Sit down again", () => location.reload(), { cls: "again" });
-  banner(text, text === LEFT ? back : null);
+  banner(text, text === LEFT ? sitAgain() : null);
 }
+
+const sitAgain = () => button("sit", "Sit down again", () => location.reload());
 
 function leave() {
   app.isOver = true;
@@ -112,7 +113,6 @@ function take(found) {
 }
 
 // what is asked
-
 /** @type {Parts["turn"]} */
 async function turn(verb, told = {}) {
   try {
@@ -128,7 +128,6 @@ async function turn(verb, told = {}) {
 }
 
 // what the office says by itself
-
 /** @type {(event: EventData) => void} */
 function hear(event) {
   if (event.names) rename(event);
@@ -186,7 +185,6 @@ function lost(fault) {
 }
 
 // the beginning, and each time that the office has been away
-
 function where() {
   const view = JSON.parse(sessionStorage.getItem(VIEW) || "null");
   const held = app.picture?.held;

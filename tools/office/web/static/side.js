@@ -190,7 +190,8 @@ export function drawMissing({ picture }, acts) {
         cls: "card",
         css: { "--hue": one.hue },
         data: { missing: one.course, id: one.course },
-        "aria-label": `Pick up ${one.said}, ${one.count} missing, ${one.students} students`,
+        title: one.told,
+        "aria-label": `Pick up ${one.told}, ${one.count} missing, ${one.students} students`,
       }
     );
   const rest = missing.length - COURSES;
