@@ -275,7 +275,9 @@ class Board:
     def go_to_best(self) -> None:
         carry = self.work.carry
         best = carry.best() if carry else None
-        if carry is not None and best is not None:
+        if carry is not None and carry.stands_best():
+            self.planning.notice = carry.best_notice()
+        elif carry is not None and best is not None:
             self.set_cursor(best[0])
             carry.choose(*best)
             self.drawn.offer = None

@@ -67,6 +67,9 @@ interface Acting {
   hover: (slot: SlotData) => void;
   go: (days: number, periods: number) => Promise<any>;
   closeQuestion: (question: number, told: object) => Promise<any>;
+  menu: (slot: SlotData) => void;
+  part: (part: string) => Promise<any>;
+  draft: (number: number) => Promise<any>;
   takeBack: (place: number, edit: string) => Promise<any>;
   makeOne: (edit: string) => Promise<any>;
   more: (slot: SlotData) => Promise<any>;

@@ -235,7 +235,7 @@ class Picture:
             "at": carry.slot,
             "room": carry.lecture.room if carry.lecture else None,
             "room_said": self.wording.short("room", carry.lecture.room) if carry.lecture else "",
-            "best": best[0] if best else None,
+            "best": best[0] if best and not carry.stands_best() else None,
             # the place of the cheapest offer in its slot
             "place": carry.cheapest(best[0]).index(best[1]) if best else 0,
             "slots": [self.slot(carry, slot) for slot in self.planning.instance.slots()],

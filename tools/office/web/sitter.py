@@ -9,7 +9,7 @@ from functools import partial
 from typing import Any, Callable, Optional
 
 from office.day.costs import COSTS, MEANINGS
-from office.day.edits import Edit
+from office.day.edits import Edit, Kind
 from office.day.folder import Day
 from office.seat.seat import DeskEnded, NoAnswer, Seat, is_taken, read_sitter
 from office.web.action_names import key_table
@@ -269,9 +269,12 @@ class Sitter:
         planning = self.planning
         assert planning is not None
         found = notice_data(self.frame.wording, planning.notice)
-        if before is not None and planning.notice.code == "done" and planning.edits():
+        edits = planning.edits()
+        # what a lecture costs is not saved by taking it out
+        is_drop = bool(edits) and edits[-1].kind is Kind.DROP
+        if before is not None and planning.notice.code == "done" and edits and not is_drop:
             found["price"] = sum(planning.costs().values()) - before
-            self.prices[planning.edits()[-1]] = found["price"]
+            self.prices[edits[-1]] = found["price"]
         return found
 
     def _others(self, but: Optional[Window] = None) -> list[Window]:

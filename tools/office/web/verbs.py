@@ -4,6 +4,7 @@ from __future__ import annotations
 
 from typing import Any, Callable, Optional
 
+from office.day.costs import COSTS
 from office.day.edits import Edit
 from office.day.instance import Instance
 from office.day.lecture import Lecture, Slot
@@ -165,6 +166,17 @@ class WindowTurn:
             raise Fault(400, "this edit was not taken back")
         self.work.drafting.make_one(edit)
 
+    def part(self) -> Optional[Question]:
+        """What costs points of a part of the cost."""
+        found = self.request.text("part", LINE)
+        if found not in COSTS:
+            raise Fault(400, "no part of the cost")
+        return self.work.findings.of_part(found)
+
+    def draft(self) -> Optional[Question]:
+        """An accepted draft by its number."""
+        return self.work.history.of_number(self.request.number("number"))
+
     def line(self) -> Optional[Question]:
         """A line of the desk that was typed by hand."""
         line = self.request.text("line", LINE)
@@ -227,7 +239,7 @@ VERBS: dict[str, Callable[[WindowTurn], Optional[Question]]] = {
     name: getattr(WindowTurn, name)
     for name in (
         "show next_week pick_up pick_up_missing swap_instead move_instead put_down lay_down "
-        "take_out best missing take_back make_one line act"
+        "take_out best missing take_back make_one part draft line act"
     ).split()
 }
 # after these the other windows of the seat may see something else

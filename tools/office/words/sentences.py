@@ -55,6 +55,7 @@ DESK = {
     "no answer yet": "The desk has not answered for {seconds} s; {key[leave]} leaves.",
     "desk says": "The desk says: {answer}",
     "typed": "{line}: {answer}",
+    "not understood": "{line}: bad line: the desk does not know these words ({answer}).",
     "differs": "The desk answered otherwise than expected: everything was read anew.",
 }
 DRAFT = {
@@ -113,6 +114,7 @@ LECTURES = {
     "offer of several": " ({number} of {of}; {key[next]} for the next)",
     "nowhere else": "It can stand nowhere else now.",
     "cheapest in": "Cheapest: {price} in {room}, {slot}: {key[cheapest]} goes there.",
+    "stands best": "It stands best: no slot is cheaper. Next: {price} in {room}, {slot}.",
     "cheapest with": "Cheapest: {price} with {other}, {slot}: {key[cheapest]} goes there.",
     "other price": "Others have changed it just now: {now}.",
     "cannot stand": "It cannot stand there: {reason}.",
@@ -153,20 +155,22 @@ VARIANTS = {
 FINDINGS = {
     "no findings": "Nothing is known of findings now: {fault}.",
     "findings": "What to mend: {count:finding}, {points} points",
+    "findings of": "{part}: {count:finding}, {points} points ({meaning})",
+    "no findings of": "Nothing costs points for {part} ({meaning}).",
     "see gaps": "gaps in the days of curricula, and the groups that are worst off (no points)",
     "gaps title": "Gaps in days of curricula: {count}; they cost no points",
     "worst off": "worst off: curriculum {curriculum}, {alone} alone on their day, {gaps} in gaps",
     "gaps": "curriculum {curriculum}, {day}: {gaps} free between two lectures",
-    "found lectures": "missing or surplus: {course}, {placed} of {stated} placed",
+    "found lectures": "{placed} of {stated} lectures placed: {course}",
     "found conflict": "conflict: {course} and {other}, {slot}, {cause} {name}",
     "found availability": "unavailable: {course}, {slot}",
     "found occupancy": "room taken: {course} in {room}, {slot}",
     "found barred": "barred: {course} in {room}, {slot}",
     "found blocked": "blocked: {course} in {room}, {slot}",
-    "found capacity": "{points} too small: {course} in {room}, {slot}",
-    "found days": "{points} days: {course} on {days} of {minimum}",
-    "found compactness": "{points} alone: {course} in curriculum {curriculum}, {slot}",
-    "found stability": "{points} rooms: {course} in {rooms} of them",
+    "found capacity": "{points} without a seat: {course} in {room}, {slot}",
+    "found days": "{points} for too few days: {course} on {days} of {minimum}",
+    "found compactness": "{points} for standing alone: {course} in curriculum {curriculum}, {slot}",
+    "found stability": "{points} for more than one room: {course} in {rooms} rooms",
 }
 # titles and lines of what is read or asked
 LINES = {

@@ -27,7 +27,7 @@ KNOWING: dict[str, str] = {
     "nobody": "nobody",
     "sits": "{who}, since {time}",
     "at seat": "seat {planner}: {sitter}{work}",
-    "no draft known": "; no draft known",
+    "no draft known": "; no draft open",
     "draft since": "; a draft of {who} since {time}, {count:edit}: {reasons}",
     "one course": "{course}",
     "at work": "{who} has a draft open on it, since {time}.",

@@ -64,6 +64,16 @@ class History:
         choices = [(notice, act) for _, notice, act in found]
         return Question(say("drafts of", row=row), choices=choices)
 
+    def of_number(self, number: int) -> Optional[Question]:
+        """An accepted draft by its number."""
+        places = [
+            place
+            for place, one in enumerate(self.planning.news.accepted)
+            if one.entry.number == number
+        ]
+        self.shifts()
+        return self.shown(self.draft(places[0])) if places else None
+
     def line(self, draft: Draft, touched: list[Shift]) -> Notice:
         """A draft in a list, with what it did that is asked about, and why."""
         groups = exchanged(touched)

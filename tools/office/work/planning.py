@@ -8,7 +8,17 @@ from office.day.edits import Edit
 from office.day.processes import now
 from office.day.shared_lines import one_line
 from office.day.shifts import shifts_of
-from office.seat.answers import Answer, Committed, NotAllowed, Redone, Said, Stale, Undone, costs_in
+from office.seat.answers import (
+    Answer,
+    BadLine,
+    Committed,
+    NotAllowed,
+    Redone,
+    Said,
+    Stale,
+    Undone,
+    costs_in,
+)
 from office.seat.calls import Turn, read_call
 from office.words.notice import NOTHING, Notice, say
 from office.words.reasons import reason
@@ -275,4 +285,5 @@ class Planning(Reading):
             self._stand_anew()
         if isinstance(answer, Stale) and self.ended():
             self.stale_row = answer.row
-        self.notice = say("typed", line=line, answer=str(answer))
+        code = "not understood" if isinstance(answer, BadLine) else "typed"
+        self.notice = say(code, line=line, answer=str(answer))

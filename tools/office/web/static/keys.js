@@ -3,6 +3,7 @@
 // dictates elsewhere.
 import { find, isTyping } from "./dom.js";
 import { isMenuOpen } from "./menu.js";
+import { slotOf } from "./numbers.js";
 
 /** @type {Record<string, [number, number]>} */
 const STEPS = {
@@ -31,6 +32,11 @@ export function listenToKeys(acts, keys) {
 
   /** @type {(event: KeyboardEvent) => void} */
   function inWeek(event) {
+    const slot = slotOf(/** @type {HTMLElement} */ (event.target).dataset.at || "0,0");
+    if (event.key === "ContextMenu" || (event.shiftKey && event.key === "F10")) {
+      event.preventDefault();
+      acts.menu(slot);
+    }
     if (!isPlain(event) || isMenuOpen() || event.defaultPrevented) return;
     const step = STEPS[event.key];
     const name = names.get(event.key) || names.get(event.key.toLowerCase());

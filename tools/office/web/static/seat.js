@@ -1,12 +1,15 @@
 // @ts-check
 // The seat in a browser: what is known, and what is drawn when it changes.
-import { makeActs } from "./acts.js";
+import { makeActs } from "./acting.js";
+import { drawBar } from "./bar.js";
 import * as boxes from "./boxes.js";
+import { drawCosts } from "./costs.js";
 import { announce, banner, button, el, fill, find, name } from "./dom.js";
 import { makeHand } from "./hand.js";
 import { listenToKeys } from "./keys.js";
 import { act, ask, Fault, keepListening, takeKey } from "./link.js";
 import { Look } from "./look.js";
+import { drawNews } from "./news.js";
 import { keyOf } from "./numbers.js";
 import { makeQueue } from "./queue.js";
 import { makeSearch } from "./search.js";
@@ -41,8 +44,6 @@ const LEFT = "You have left the seat.";
 /** @type {ReturnType<typeof makeSearch>} */ let search;
 /** @type {ReturnType<typeof makeHand>} */ let hand;
 
-// drawing
-
 function drawWeek() {
   const { week: told, held } = app.picture;
   week.draw(told, held, app.recent);
@@ -56,7 +57,7 @@ function drawWeek() {
 }
 
 function drawState() {
-  side.drawCosts(app);
+  drawCosts(app, acts);
   side.drawDraft(app, acts);
   side.drawMissing(app, acts);
   side.drawBlocked(app);
@@ -139,7 +140,7 @@ function hear(event) {
   if (event.left) leave();
   if (event.news) event.news.forEach(tellNews);
   if (event.picture) take(event);
-  if (event.news) side.drawNews(app);
+  if (event.news) drawNews(app, acts);
   drawBanner();
 }
 
@@ -150,7 +151,7 @@ function rename({ names, accepted }) {
   app.news = accepted;
   week.rename(names);
   search.rename(names.named);
-  side.drawNews(app);
+  drawNews(app, acts);
 }
 
 /** @type {(one: NewsData) => void} */
@@ -171,10 +172,9 @@ function newsOf(one) {
   announce(one.text);
   setTimeout(() => {
     app.unseen.delete(one.number);
-    side.drawNews(app);
+    drawNews(app, acts);
   }, NEW);
 }
-
 /** @type {(fault: Fault) => void} */
 function lost(fault) {
   // an office that has closed answers no more
@@ -184,7 +184,6 @@ function lost(fault) {
   drawBanner();
 }
 
-// the beginning, and each time that the office has been away
 function where() {
   const view = JSON.parse(sessionStorage.getItem(VIEW) || "null");
   const held = app.picture?.held;
@@ -212,13 +211,12 @@ async function begin() {
   if (isFirst) build(found);
   else rename({ names: found, accepted: found.news });
   side.drawPeople(found.people, app.day);
-  side.drawNews(app);
+  drawNews(app, acts);
   take(found);
   if (isFirst) look.toFirst();
   if (isFirst && !app.question) acts.toWeek();
   performance.mark("ready");
 }
-
 /** @type {(found: HelloData) => void} */
 function build(found) {
   find("day").textContent = found.day;
@@ -241,6 +239,7 @@ function build(found) {
   look.acts = acts;
   hand = makeHand(week, acts);
   listenToKeys(acts, found.keys);
+  drawBar(found.keys, acts);
   find("search-input").addEventListener("blur", boxes.askLater);
   setInterval(() => (app.closes || app.isOver) && drawBanner(), 1000);
 }
