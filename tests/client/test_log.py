@@ -102,10 +102,10 @@ class Log(Comp07):
         """What has a name may be meant by it."""
         self.write("day/labels.csv", "kind,code,name\ncourse,c0097,Sets\nroom,r12,Hall\n")
         told = self.log("Sets")
-        self.assertIn("Sets (c0097): day 1, period 4, r18 -> day 3, period 4, Hall (r12)", told)
+        self.assertIn("Sets: day 1, period 4, r18 -> day 3, period 4, Hall", told)
         self.assertEqual(self.log("room", "Hall"), told)
         compared = self.told("diff", self.path("day:0"), self.path("day"), "--room", "Hall")
-        self.assertIn("1 lecture differs, of room Hall (r12)", compared)
+        self.assertIn("1 lecture differs, of room Hall", compared)
         self.write("day/labels.csv", "kind,code,name\ncourse,c0097,Sets\ncourse,c0001,Sets\n")
         said = "office: Sets is the name of several: say course c0001 or course c0097\n"
         self.assertEqual(self.command("log", self.path("day"), "Sets"), (1, "", said))

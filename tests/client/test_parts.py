@@ -62,7 +62,7 @@ class Screens(Parts):
         self.assertFalse(anna.planning.seat.state.again)
         # nothing of it was committed, and it can be
         self.assertEqual(len(read_entries(self.day)), 1)
-        self.commit(anna, "room")
+        self.commit(anna, "a room")
         self.assertIn("Committed as draft 2: 1 edit, on the disk. The reason is kept.", text_of(anna))
 
     def test_never_offered(self):

@@ -136,6 +136,9 @@ class Blocked(BrowserTest):
         reader.sees("blocked", cell(BEST))
         self.assertNotIn("heating", reader.run("return document.documentElement.outerHTML"))
         self.choose(ben, "lift: r04")
+        ben.wait("return !!document.getElementById('why')")
+        ben.type("it is warm")
+        ben.press("Enter")
         for one in (anna, ben):
             one.sees("r04 is open again on day 5", "#said")
             one.wait("return document.getElementById('blocked').hidden")

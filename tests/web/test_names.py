@@ -71,7 +71,7 @@ class Seen(BrowserTest):
         self.write("day/labels.csv", HEAD + names + "course,c0014,Optics,Opt\n")
         self.write("day/times.csv", TIMES)
         for one in (anna, reader):
-            one.sees("Linear Algebra (c0109)", "#week-title")
+            one.sees("Linear Algebra", "#week-title")
             one.sees("Mon", ".row.head")
             one.sees("8:15", ".period")
         anna.sees("Great Hall", "#draft")

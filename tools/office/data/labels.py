@@ -3,6 +3,7 @@ is said: days and periods count from 1 for people, and from 0 in the desk's own 
 from __future__ import annotations
 
 import datetime
+from collections import Counter
 from dataclasses import dataclass
 from typing import NamedTuple, Optional
 
@@ -66,7 +67,8 @@ def clock(minute: int) -> str:
 
 
 class Labels:
-    """The labels of a day. Without any, everything is said by codes, and by numbers from 1."""
+    """The labels of a day. Without any, everything is said by codes, and by numbers from 1. What
+    has a name is said by that."""
 
     def __init__(self) -> None:
         self.names: dict[tuple[str, str], Name] = {}
@@ -80,6 +82,9 @@ class Labels:
         self.single_dates: list[SingleDate] = []
         # what the whole timetable is called
         self.title = ""
+        # how many have each name, and of how many names that was counted
+        self._shared: Counter[tuple[str, str]] = Counter()
+        self._counted = 0
 
     # slots
 
@@ -112,14 +117,21 @@ class Labels:
         return found.name or code if found else code
 
     def short(self, kind: str, code: str) -> str:
-        """What there is room for in a narrow cell: the short name, or the code."""
+        """What there is room for in a narrow cell: the short name, or what it is called."""
         found = self.names.get((kind, code))
-        return found.short or code if found else code
+        return found.short or self.said(kind, code) if found else code
 
     def said(self, kind: str, code: str) -> str:
-        """`Linear Algebra (c0109)`, or `c0109`."""
+        """`Linear Algebra`, or `c0109`; `Linear Algebra (c0109)`, if another one has this name."""
         name = self.name(kind, code)
-        return code if name == code else f"{name} ({code})"
+        return f"{name} ({code})" if name != code and self._is_shared(kind, name) else name
+
+    def _is_shared(self, kind: str, name: str) -> bool:
+        """Whether several of a kind are called alike, or another one has this code."""
+        if self._counted != len(self.names):
+            self._counted = len(self.names)
+            self._shared = Counter((key[0], one.name) for key, one in self.names.items())
+        return self._shared[kind, name] > 1 or (kind, name) in self.names
 
     def course(self, code: str) -> str:
         return self.said("course", code)

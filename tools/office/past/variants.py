@@ -6,6 +6,7 @@ import json
 from typing import NamedTuple, Optional
 
 from office.day.edits import Edit
+from office.day.processes import now
 from office.day.timetable import Timetable
 from office.past.drafts import exchanged, row_shifts
 from office.past.earlier_days import days_before
@@ -33,8 +34,12 @@ class Variant(NamedTuple):
     name: str
     edits: list[Edit]
     brings: Optional[Brings]
+    # it was thrown away, and is still there
+    is_thrown: bool = False
 
     def notice(self) -> Notice:
+        if self.is_thrown:
+            return say("variant thrown", name=self.name, count=len(self.edits))
         if self.brings is None:
             return say("variant", name=self.name, count=len(self.edits))
         return say(
@@ -53,12 +58,14 @@ class Variants:
     def __init__(self, planning: Planning) -> None:
         self.planning = planning
         self.kept: dict[str, list[Edit]] = {}
+        # what was thrown away: nothing is lost by a key
+        self.thrown: dict[str, list[Edit]] = {}
 
     def begin(self) -> None:
         """Reads what was put aside at this seat, today or on the last day that has any."""
         seat = self.planning.seat
         past = seat.past
-        self.kept = past.variants
+        self.kept, self.thrown = past.variants, past.thrown
         if past.has_variants:
             return
         for day in days_before(seat.day):
@@ -75,6 +82,25 @@ class Variants:
         self.kept[name] = edits
         text = json.dumps([name, list(map(str, edits))])
         self.planning.seat.log.noted(f"aside {text}", is_kept=True)
+
+    def keep(self, name: str, edits: list[Edit]) -> str:
+        """Keeps edits under a name that no other variant has, and answers it."""
+        name = self.free_name(name)
+        self._keep(name, edits)
+        return name
+
+    def give_up(self) -> None:
+        """Gives the draft up, or a stale one. Its edits are put aside, or those that were taken
+        back if it has no others."""
+        planning = self.planning
+        edits = planning.edits() or planning.ended() or planning.state.taken_back[::-1]
+        if not edits:
+            planning.abandon()
+            return
+        name = self.keep(f"given up {now()[11:16]}", edits)
+        planning.abandon()
+        code = planning.notice.code
+        planning.notice = say(code, count=len(edits), aside=say("given up as", name=name))
 
     def put_aside(self, name: str) -> None:
         """Puts the edits of the draft, or of a stale one, aside under a name, and begins anew."""
@@ -97,12 +123,15 @@ class Variants:
     def free_name(self, name: str) -> str:
         """A name that no other variant has."""
         found, number = name, 2
-        while found in self.kept:
+        while found in self.kept or found in self.thrown:
             found, number = f"{name} {number}", number + 1
         return found
 
     def throw_away(self, name: str) -> None:
-        del self.kept[name]
+        if name in self.thrown:
+            self.planning.notice = say("thrown away", name=name)
+            return
+        self.thrown[name] = self.kept.pop(name)
         self.planning.seat.log.noted(f"unaside {json.dumps(name)}", is_kept=True)
         self.planning.notice = say("thrown away", name=name)
 
@@ -114,11 +143,18 @@ class Variants:
                 "put aside first", count=len(planning.edits() or planning.ended())
             )
             return None
+        if name in self.thrown:
+            self._keep(name, self.thrown.pop(name))
         refused = planning.make_again(self.kept[name])
         return Question(planning.notice, [say("these refused"), *refused]) if refused else None
 
     def listed(self) -> list[Variant]:
-        """All variants, with what each would bring now, by the program."""
+        """All variants, with what each would bring now, by the program, and what was thrown
+        away."""
+        thrown = [Variant(name, edits, None, True) for name, edits in self.thrown.items()]
+        return [*self._listed(), *thrown]
+
+    def _listed(self) -> list[Variant]:
         planning = self.planning
         minutes, newest = planning.minutes, planning.known.newest
         lines = [line for entry in minutes.of_part() for line in draft_lines(entry.edits)]

@@ -132,6 +132,7 @@ class SeatPast:
     # the drafts that were put aside, by their names, and whether any ever was
     variants: dict[str, list[Edit]] = field(default_factory=dict)
     has_variants: bool = False
+    thrown: dict[str, list[Edit]] = field(default_factory=dict)
     # the reason that was given for the commit that is under way, and those of accepted drafts
     why: str = ""
     whys: dict[int, str] = field(default_factory=dict)
@@ -209,8 +210,9 @@ class SeatPast:
             found = json.loads(rest)
             if word == "aside":
                 self.variants[found[0]] = edits_in(found[1])
-            else:
-                self.variants.pop(found, None)
+                self.thrown.pop(found[0], None)
+            elif found in self.variants:
+                self.thrown[found] = self.variants.pop(found)
 
     def begin_part(self, number: int, offset: int) -> None:
         """Another part of the day has begun, after so many accepted drafts of the day: the desk of

@@ -53,6 +53,8 @@ class SeatState:
         self.unread: list[Edit] = []
         # the edits that were taken back one after another, and can be made again
         self.undone: list[Edit] = []
+        # all edits of the draft that were taken back and not made again since
+        self.taken_back: list[Edit] = []
         self.accepted: list[int] = []
         self.has_left = False
         self.is_full = False
@@ -118,9 +120,10 @@ class SeatState:
         assert self.timetables is not None
         self.timetables.stand_on(base)
         made, standing, undone = self.made, self.standing, self.undone
+        taken_back = self.taken_back
         self.made, self.standing, self._rooms = [], [], {}
         fits = all([self._make(edit) for edit in made])
-        self.undone = undone
+        self.undone, self.taken_back = undone, taken_back
         if not fits:
             self.standing = standing
         return fits
@@ -137,6 +140,8 @@ class SeatState:
         else:
             self.standing.append(Standing(edit, back))
         self.undone = self.undone[:-1] if self.undone[-1:] == [edit] else []
+        if edit in self.taken_back:
+            self.taken_back.remove(edit)
         return fits
 
     def _inverse(self, edit: Edit) -> tuple[bool, Edit]:
@@ -171,6 +176,7 @@ class SeatState:
         self.made.append(answer.edit)
         if places:
             self.undone.append(self.standing[places[-1]].edit)
+            self.taken_back += [one.edit for one in reversed(self.standing[places[-1] :])]
             del self.standing[places[-1] :]
         else:
             self.standing.append(Standing(answer.edit, back))
@@ -182,7 +188,8 @@ class SeatState:
         """A draft is open, with these edits."""
         self.is_open = True
         self.made, self.standing, self._rooms = [], [], {}
-        self.ended_made, self.ended_standing, self.left_out, self.undone = [], [], [], []
+        self.ended_made, self.ended_standing, self.left_out = [], [], []
+        self.undone, self.taken_back = [], []
         if self.timetables is not None:
             self.timetables.begin()
         return all([self._make(edit) for edit in made])
@@ -195,7 +202,7 @@ class SeatState:
             self.ended_standing = self.standing if keeps else []
         self.again = self.again if keeps else []
         self.is_open, self.made, self.standing, self._rooms = False, [], [], {}
-        self.left_out, self.undone = [], []
+        self.left_out, self.undone, self.taken_back = [], [], []
         if self.timetables is not None:
             self.timetables.end()
         return was_open

@@ -4,17 +4,15 @@ from __future__ import annotations
 from typing import Callable, Optional
 
 from office.data.label_files import Watched
-from office.day.edits import Edit
 from office.day.lecture import Lecture, Slot
 from office.seat.answers import Offer
-from office.seat.calls import Turn, read_call
+from office.terminal.board_draft import BoardDraft
 from office.terminal.board_rules import BoardRules
 from office.terminal.drawn import Drawn
 from office.terminal.grid import Grid, Row
 from office.terminal.header import Header, key_rows
 from office.terminal.help_page import help_lines
-from office.terminal.overlays import Asked, Chooser, CommitBox, Overlay, Page, Typed, Worded
-from office.terminal.variant_list import VariantList
+from office.terminal.overlays import Asked, Chooser, Overlay, Page, Typed, Worded
 from office.words.actions import WEEK_KEYS, KeyNames
 from office.words.notice import NOTHING, Question, say
 from office.words.text import fit, wrap
@@ -27,6 +25,8 @@ from office.work.work import Work
 
 # rows above the grid, and below it
 ABOVE, BELOW = 3, 7
+# keys by which other programs take something back
+UNDOING = {"ctrl-z": "u", "ctrl-y": "U"}
 STEPS = {"left": (-1, 0), "right": (1, 0), "up": (0, -1), "down": (0, 1)}
 
 
@@ -41,7 +41,7 @@ class Board:
         self.cursor: Slot = (0, 0)
         self.overlay: Optional[Overlay] = None
         self.drawn = Drawn()
-        self.rules = BoardRules(self)
+        self.rules, self.draft = BoardRules(self), BoardDraft(self)
         # the desk has ended: nothing more can be done
         self.is_dead = False
         # the window is too small to see what a key does
@@ -64,18 +64,18 @@ class Board:
             "who": self.work.knowing.who_is_where,
             "undo": lambda: self.free(drafting.undo),
             "edits": drafting.edits,
-            "commit": lambda: self.free(self.show_box),
+            "commit": lambda: self.free(self.draft.show_box),
             "refresh": lambda: self.free(drafting.refresh),
             "redo": lambda: self.free(drafting.redo),
             "abandon": drafting.ask_abandon,
             "undo undo": lambda: self.free(drafting.undo_undo),
-            "put aside": self.put_aside,
-            "variants": self.list_variants,
+            "put aside": self.draft.put_aside,
+            "variants": self.draft.list_variants,
             "findings": self.work.findings.question,
             "print": self.print_week,
-            "line": self.type_line,
+            "line": self.draft.type_line,
             "help": self.show_help,
-            "leave": self.work.leave,
+            "leave": self.work.ask_leave,
             "next": self.next_lecture,
             "lay down": self.work.lay_down,
             "cheapest": self.go_to_best,
@@ -98,6 +98,8 @@ class Board:
             choices = Worded(question.choices, self.wording)
             title = self.wording.notice(question.title)
             self.overlay = Chooser(title, choices, self.choose)
+        elif question is not None and question.reason is not None:
+            self.draft.ask_reason(question.reason)
         elif question is not None:
             self.overlay = Asked(question, self.wording, self.ask)
 
@@ -171,6 +173,8 @@ class Board:
             self.planning.notice = NOTHING
         if not self.work.renew():
             return
+        if self.overlay is None:
+            key = UNDOING.get(key, key)
         if self.overlay is not None:
             front = self.overlay
             if front.press(key) and self.overlay is front:
@@ -257,7 +261,8 @@ class Board:
             return None
         question, seen = knowing.ask_unpin(lecture), lecture
         if question is None:
-            self.overlay = Typed("Why is it pinned? ", lambda why: knowing.pin(seen, why))
+            meant = self.draft.meant("p")
+            self.overlay = Typed("Why is it pinned? ", lambda why: knowing.pin(seen, why), meant)
         return question
 
     def begin_carry(self, question: Optional[Question]) -> Optional[Question]:
@@ -270,7 +275,9 @@ class Board:
     def go_to_best(self) -> None:
         carry = self.work.carry
         best = carry.best() if carry else None
-        if carry is not None and best is not None:
+        if carry is not None and carry.stands_best():
+            self.planning.notice = carry.best_notice()
+        elif carry is not None and best is not None:
             self.set_cursor(best[0])
             carry.choose(*best)
             self.drawn.offer = None
@@ -291,54 +298,9 @@ class Board:
         self.show_view(View("course", course))
         self.ask(self.begin_carry(self.work.pick_up_missing(course)))
 
-    def type_line(self) -> None:
-        self.overlay = Typed(":", self.send_line)
-
-    def send_line(self, line: str) -> None:
-        call, line = read_call(line), " ".join(line.split())
-        if call is Turn.LEAVE:
-            self.work.leave()
-        elif call is Turn.COMMIT:
-            self.ask(self.free(self.show_box))
-        elif line:
-            self.ask(self.free(lambda: self.work.drafting.type_line(line)))
-
-    def show_box(self) -> None:
-        """Shows what a commit would publish, if there is anything to commit."""
-        self.overlay = self.commit_box() or self.overlay
-
-    def commit_box(self, why: str = "") -> Optional[CommitBox]:
-        """What a commit would publish, with a reason that was begun; None if it is nothing."""
-        drafting = self.work.drafting
-
-        def commit(edits: list[Edit], why: str) -> None:
-            self.overlay = None
-            self.ask(drafting.commit(edits, why))
-
-        box = drafting.box()
-        if box is None:
-            return None
-        names = self.planning.instance.names()
-        found = CommitBox(box, drafting.renewed, self.wording, commit, names)
-        found.why = why
-        return found
-
     def step_over(self) -> None:
         """Goes on in the next part of the day."""
         self.rules.step_over()
-
-    def put_aside(self) -> None:
-        self.work.carry = None
-        prompt = self.wording.notice(say("variant name"))
-        self.overlay = Typed(prompt, self.work.variants.put_aside)
-
-    def list_variants(self) -> None:
-        """Lists what was put aside."""
-        self.work.carry = None
-        if self.work.variants.kept:
-            self.overlay = VariantList(self.work.variants, self.wording, self.ask)
-        else:
-            self.planning.notice = say("no variants")
 
     def show_help(self) -> None:
         self.overlay = Page("Keys", help_lines())

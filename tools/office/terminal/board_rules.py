@@ -5,7 +5,7 @@ from __future__ import annotations
 from typing import Callable, Optional, TYPE_CHECKING
 
 from office.terminal.drawn import Drawn
-from office.terminal.overlays import Chooser, CommitBox, Overlay, Typed
+from office.terminal.overlays import Chooser, CommitBox, Overlay
 from office.words.notice import say
 from office.work.closures_here import ClosureChoice
 
@@ -33,13 +33,8 @@ class BoardRules:
         board.overlay = Chooser(title, choices, self.choose)
 
     def choose(self, choice: ClosureChoice) -> None:
-        """Lifts what was chosen, or asks why it is to be blocked."""
-        board, blocking = self.board, self.board.work.blocking
-        if choice.lifts is not None:
-            blocking.lift(choice.scope)
-        else:
-            prompt = board.wording.notice(say("why block"))
-            board.overlay = Typed(prompt, lambda why: blocking.block(choice.scope, why))
+        """Asks why what was chosen is to be blocked, or to be lifted."""
+        self.board.ask(self.board.work.blocking.question(choice))
 
     def step_over(self) -> None:
         """Goes on in the next part of the day, says what has happened, and shows what is to be read
@@ -57,7 +52,7 @@ class BoardRules:
         """Keeps what was being read or typed."""
         if isinstance(front, CommitBox):
             why = front.why
-            self._kept = lambda: self.board.commit_box(why)
+            self._kept = lambda: self.board.draft.commit_box(why)
         elif front is not None:
             self._kept = lambda: front
 

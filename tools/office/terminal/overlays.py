@@ -2,17 +2,21 @@
 line to type."""
 from __future__ import annotations
 
-from typing import Any, Callable, Container, Generic, Mapping, Optional, Sequence, TypeVar
+from typing import Any, Callable, Generic, Mapping, Optional, Sequence, TypeVar
 
 from office.day.edits import Edit
 from office.terminal.grid import Row
 from office.words.actions import BY_NAME, key_of
-from office.words.notice import Notice, Question
+from office.words.folding import folded, searched
+from office.words.meant import Meant
+from office.words.notice import NOTHING, Notice, Question
 from office.words.text import counted, cut_front, fit, shown, wrap
 from office.words.wording import Wording
-from office.work.drafting import Box
+from office.work.drafting import Box, Drafting
 
 Choice = TypeVar("Choice")
+# so many letters that are no answer are the beginning of a word
+WORD = 2
 
 
 class Overlay:
@@ -55,15 +59,17 @@ class Chooser(Overlay, Generic[Choice]):
 
     def found(self) -> Sequence[tuple[str, Choice]]:
         """The choices that have each word that was typed; those that begin with them come first."""
-        words = self.typed.lower().split()
+        words = folded(self.typed).split()
         if not words:
             return self.choices
-        found = [one for one in self.choices if all(word in one[0].lower() for word in words)]
-        return sorted(found, key=lambda one: not all(self.begins(one[0], word) for word in words))
+        texts = ((one, searched(one[0])) for one in self.choices)
+        found = [pair for pair in texts if all(word in pair[1] for word in words)]
+        found.sort(key=lambda pair: not all(self.begins(pair[1], word) for word in words))
+        return [one for one, _ in found]
 
     @staticmethod
     def begins(text: str, word: str) -> bool:
-        return any(part.startswith(word) for part in text.lower().split())
+        return any(part.startswith(word) for part in text.split())
 
     def press(self, key: str) -> bool:
         found = self.found()
@@ -170,7 +176,8 @@ class Page(Overlay):
 
 
 class Asked(Page):
-    """A question of the model, with the keys of its answers."""
+    """A question of the model, with the keys of its answers. A letter behind several others is no
+    answer: who types a name that was looked for answers nothing."""
 
     def __init__(
         self,
@@ -179,6 +186,8 @@ class Asked(Page):
         ask: Callable[[Optional[Question]], None],
     ) -> None:
         self.can_wait = question.can_wait
+        # how many letters were typed that are no answer
+        self.typed = 0
         keys = [f"{key_of(name)} {BY_NAME[name].short}" for name in question.answers]
         keys += ["Escape goes back"] if keys and question.can_wait else []
         super().__init__(
@@ -192,17 +201,29 @@ class Asked(Page):
         )
 
     def press(self, key: str) -> bool:
+        if self.answers and len(key) == 1 and (self.typed >= WORD or key not in self.answers):
+            self.typed += 1
+            return False
+        was_typed, self.typed = self.typed > 0, 0
+        if key == "enter" and was_typed and key not in self.answers:
+            # the end of what was typed
+            return self.can_wait
         return False if key == "escape" and not self.can_wait else super().press(key)
 
 
 class Typed(Overlay):
-    """A line that is typed at the bottom; what stands above it stays."""
+    """A line that is typed at the bottom; what stands above it stays. A reason is asked about, if
+    it may be meant otherwise."""
 
-    def __init__(self, prompt: str, send: Callable[[str], None]) -> None:
-        self.prompt, self.send, self.typed = prompt, send, ""
+    def __init__(
+        self, prompt: str, send: Callable[[str], None], meant: Optional[Meant] = None
+    ) -> None:
+        self.prompt, self.send, self.typed, self.meant = prompt, send, "", meant
 
     def press(self, key: str) -> bool:
         if key == "enter":
+            if self.meant is not None and self.meant.asks(self.typed):
+                return False
             self.send(self.typed)
             return True
         if key == "backspace":
@@ -212,7 +233,18 @@ class Typed(Overlay):
         return key == "escape"
 
     def rows(self, height: int, width: int) -> list[Row]:
-        return [[(fit(f"{self.prompt}{shown(self.typed)}_", width), "cursor")]]
+        prompt = self.prompt
+        doubt = self.meant.notice(self.typed) if self.meant is not None else NOTHING
+        if doubt:
+            prompt = f"{DOUBTS[doubt.code]} {prompt}"
+        return [[(fit(f"{prompt}{shown(self.typed)}_", width), "cursor")]]
+
+
+# a reason that is asked about, where there is one row for all
+DOUBTS = {
+    "may be meant": "Is that the reason? Enter once more goes on, Escape goes back.",
+    "reason needed": "A reason is needed.",
+}
 
 
 class CommitBox(Overlay):
@@ -221,36 +253,33 @@ class CommitBox(Overlay):
     def __init__(
         self,
         box: Box,
-        renewed: Callable[[Box], Box],
+        drafting: Drafting,
         wording: Wording,
         commit: Callable[[list[Edit], str], None],
-        names: Container[str],
+        meant: Meant,
     ) -> None:
-        self.box, self.renewed, self.wording, self.commit = box, renewed, wording, commit
-        self.names = names
+        self.box, self.drafting, self.wording, self.commit = box, drafting, wording, commit
+        self.meant = meant
         self.why = ""
-        # whether a name that was typed is asked about
-        self.is_asking = False
-
-    def typed(self) -> str:
-        """What was typed, with the key that opened the box: perhaps a name that was looked for."""
-        return key_of("commit") + self.why
+        # what was begun before is replaced by what is typed
+        self.is_begun = False
 
     def press(self, key: str) -> bool:
         if key == "enter":
-            if self.typed() in self.names and not self.is_asking:
-                self.is_asking = True
+            if self.meant.asks(self.why):
                 return False
             self.commit(self.box.edits, self.why)
         elif key == "backspace":
             self.why = self.why[:-1]
         elif len(key) == 1:
-            self.why += key
-        self.is_asking = False
+            self.why = key if self.is_begun else self.why + key
+        elif key == "escape" and self.meant.asked is None:
+            self.drafting.why = self.why
+        self.is_begun = False
         return key in ("enter", "escape")
 
     def rows(self, height: int, width: int) -> list[Row]:
-        box = self.renewed(self.box)
+        box = self.drafting.renewed(self.box)
         lines = self.wording.lines(box.lines())
         lines = [row for line in lines for row in wrap(shown(line), max(10, width - 2))]
         room = max(1, height - 5)
@@ -263,6 +292,7 @@ class CommitBox(Overlay):
         rows += [[("", "")]] * (height - len(rows) - 2)
         rows.append([(fit(f" Why? {why}_", width), "cursor")])
         keys = "letters say why (it may stay empty)   Enter commits, Escape goes back"
-        if self.is_asking:
-            keys = f"{self.typed()} is a name. Commit? Enter once more commits, Escape goes back"
+        doubt = self.meant.notice(self.why)
+        if doubt:
+            keys = f"{self.wording.notice(doubt)} Enter once more commits"
         return rows + [[(fit(f" {keys}", width), "head")]]

@@ -7,6 +7,7 @@ import locale
 import os
 import signal
 import sys
+import termios
 import time
 from typing import Any, Optional
 
@@ -42,6 +43,8 @@ NAMES = {
     curses.KEY_NPAGE: "pagedown",
     curses.KEY_DC: "x",
     curses.KEY_RESIZE: "resize",
+    "\x1a": "ctrl-z",
+    "\x19": "ctrl-y",
 }
 COLOURS = {
     "mine": curses.COLOR_CYAN,
@@ -84,6 +87,14 @@ def styles() -> dict[str, int]:
     return found
 
 
+def take_key_of_stopping() -> None:
+    """Ctrl-Z takes an edit back; it does not stop the client."""
+    with contextlib.suppress(OSError, termios.error):
+        settings = termios.tcgetattr(sys.stdin)
+        settings[6][termios.VSUSP] = b"\0"
+        termios.tcsetattr(sys.stdin, termios.TCSANOW, settings)
+
+
 class Closed(Exception):
     """The office has closed."""
 
@@ -97,6 +108,7 @@ class Screen:
         with contextlib.suppress(curses.error):
             curses.curs_set(0)
         window.keypad(True)
+        take_key_of_stopping()
         window.timeout(TICK)
         board.planning.seat.waits = self.wait
 

@@ -34,6 +34,8 @@ BUTTONS = {
     "make earlier": "Make them again",
     "decline": "Never ask again",
     "give up": "Give them up",
+    "leave now": "Leave the seat",
+    "take edit back": "Take it back",
     "commit": "Commit",
     "make again": "Make my edits again",
     "take back": "Take it back in my draft",
@@ -43,12 +45,18 @@ BUTTONS = {
     "put aside": "Put them aside",
     "take up": "Make it my draft",
     "throw away": "Throw it away",
+    "lift": "Lift it",
+    "put back": "Put them back in my draft",
     "compare": "Compare with…",
     "go on": "Go on all the same",
     "unpin": "Take the pin off",
     "block": "Block it",
     "seen": "Go on",
 }
+
+
+# answers that one has to choose: Enter alone goes back
+CAREFUL = ("give up", "leave now", "go on", "unpin")
 
 
 class BrowserKeyNames(dict[str, str]):

@@ -85,12 +85,16 @@ class Frame:
             "said": self.wording.short("course", code),
             "hue": self.hues[code],
             "teacher_said": self.wording.short("teacher", course.teacher),
+            "told": self.told(("course", code), ("teacher", course.teacher)),
             "students": course.students,
         }
 
     def lecture(self, lecture: Lecture, seats: Optional[int], signs: Signs) -> LectureData:
+        teacher = self.instance.courses[lecture.course].teacher
+        named = ("course", lecture.course), ("room", lecture.room), ("teacher", teacher)
         found: dict[str, object] = {
             **self.course(lecture.course),
+            "told": self.told(*named),
             "room": lecture.room,
             "room_said": self.wording.short("room", lecture.room),
             "seats": seats,
@@ -98,6 +102,10 @@ class Frame:
             "alone": signs.alone,
         }
         return cast(LectureData, found)
+
+    def told(self, *named: tuple[str, str]) -> str:
+        """What has short names in a cell, by its names."""
+        return ", ".join(self.wording.name(*one) for one in named)
 
     def brief(self, lecture: Lecture) -> str:
         """A lecture in two words."""

@@ -78,16 +78,10 @@ class AnswerData(TypedDict):
     key: str
 
 
-class CostRowData(TypedDict):
-    """A cost before and after a commit."""
-
-    label: str
-    was: Optional[int]
-    now: int
-
-
-# what a line that is to be typed is called
-WhyData = TypedDict("WhyData", {"label": str})
+# a cost before and after a commit
+CostRowData = TypedDict("CostRowData", {"label": str, "was": Optional[int], "now": int})
+# what a line that is to be typed is called, what was typed before, and what is asked about that
+WhyData = TypedDict("WhyData", {"label": str, "text": str, "doubt": str})
 QuestionMore = TypedDict("QuestionMore", {"why": WhyData, "costs": list[CostRowData]}, total=False)
 
 
@@ -100,6 +94,8 @@ class QuestionData(QuestionMore):
     answers: list[AnswerData]
     choices: list[str]
     canWait: bool
+    # it is not answered by Enter alone
+    isCareful: bool
 
 
 # the draft
@@ -112,6 +108,8 @@ class CourseData(TypedDict):
     said: str
     hue: int
     teacher_said: str
+    # by its names where there is room for more than short ones
+    told: str
     students: int
 
 
@@ -122,14 +120,15 @@ class MissingData(CourseData):
     stood: list[str]
 
 
-# an edit, and by how much it has changed the cost, as far as that is known
-EditData = TypedDict("EditData", {"text": str, "price": Optional[int]})
+# an edit in words and as a line, and by how much it has changed the cost, as far as that is known
+EditData = TypedDict("EditData", {"text": str, "edit": str, "price": Optional[int]})
 
 
 class DraftData(TypedDict):
     """The draft that is open, and what has become of what it stands on."""
 
     edits: list[EditData]
+    taken_back: list[EditData]
     base: Optional[dict[str, int]]
     base_total: Optional[int]
     since: int

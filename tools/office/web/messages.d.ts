@@ -54,7 +54,6 @@ interface AnswerData {
   said: string;
   key: string;
 }
-/** A cost before and after a commit. */
 interface CostRowData {
   label: string;
   was: number | null;
@@ -62,6 +61,8 @@ interface CostRowData {
 }
 interface WhyData {
   label: string;
+  text: string;
+  doubt: string;
 }
 interface QuestionMore {
   why?: WhyData;
@@ -77,6 +78,7 @@ interface QuestionData {
   answers: AnswerData[];
   choices: string[];
   canWait: boolean;
+  isCareful: boolean;
 }
 /** A course, and its colour. */
 interface CourseData {
@@ -84,6 +86,7 @@ interface CourseData {
   said: string;
   hue: number;
   teacher_said: string;
+  told: string;
   students: number;
 }
 /** A course of which lectures are missing, and where they stood. */
@@ -92,17 +95,20 @@ interface MissingData {
   said: string;
   hue: number;
   teacher_said: string;
+  told: string;
   students: number;
   count: number;
   stood: string[];
 }
 interface EditData {
   text: string;
+  edit: string;
   price: number | null;
 }
 /** The draft that is open, and what has become of what it stands on. */
 interface DraftData {
   edits: EditData[];
+  taken_back: EditData[];
   base: Record<string, number> | null;
   base_total: number | null;
   since: number;
@@ -124,6 +130,7 @@ interface LectureData {
   said: string;
   hue: number;
   teacher_said: string;
+  told: string;
   students: number;
   room: string;
   room_said: string;
@@ -175,6 +182,7 @@ interface HeldData {
   said: string;
   hue: number;
   teacher_said: string;
+  told: string;
   students: number;
   kind: "move" | "swap" | "place";
   about: string;

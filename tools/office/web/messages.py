@@ -4,10 +4,10 @@ from __future__ import annotations
 from typing import Optional
 
 from office.day.costs import COSTS
-from office.web.action_names import button, letter
+from office.web.action_names import CAREFUL, button, letter
 from office.web.message_types import CostRowData, NewsData, NoticeData, QuestionData
 from office.web.questions import Shown
-from office.words.notice import Notice
+from office.words.notice import NOTHING, Notice
 from office.words.text import counted
 from office.words.wording import Wording
 from office.work.drafting import Box
@@ -42,9 +42,11 @@ def question_data(wording: Wording, shown: Shown) -> Optional[QuestionData]:
         ],
         "choices": wording.lines([one for one, _ in question.choices]),
         "canWait": question.can_wait,
+        "isCareful": line is None and any(name in CAREFUL for name in answers),
     }
     if line is not None:
-        found["why"] = {"label": line.label}
+        doubt = line.meant.notice(line.text) if line.meant else NOTHING
+        found["why"] = {"label": line.label, "text": line.text, "doubt": wording.notice(doubt)}
     if line is not None and line.box is not None:
         found["title"] = f"Commit {counted(len(line.box.edits), 'edit')}?"
         found["costs"] = cost_rows(line.box)

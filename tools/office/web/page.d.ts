@@ -62,11 +62,16 @@ interface Parts {
 interface Acting {
   isHolding: () => boolean;
   told: (slot: SlotData) => [string, string];
-  act: (name: string) => any;
+  act: (name: string, key?: string) => any;
   toWeek: () => void;
   hover: (slot: SlotData) => void;
   go: (days: number, periods: number) => Promise<any>;
-  closeQuestion: (question: number) => Promise<any>;
+  closeQuestion: (question: number, told: object) => Promise<any>;
+  menu: (slot: SlotData) => void;
+  part: (part: string) => Promise<any>;
+  draft: (number: number) => Promise<any>;
+  takeBack: (place: number, edit: string) => Promise<any>;
+  makeOne: (edit: string) => Promise<any>;
   more: (slot: SlotData) => Promise<any>;
   tap: (slot: SlotData) => void;
   show: (view: PairData) => Promise<any>;

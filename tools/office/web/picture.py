@@ -8,6 +8,7 @@ from office.day.closure import Closure
 from office.day.edits import Edit
 from office.day.lecture import Lecture, Slot
 from office.day.rules import students_without_seat
+from office.day.shifts import Shift, shifts_of
 from office.seat.answers import Offer, costs_in
 from office.web.frame import Frame
 from office.web.message_types import (
@@ -15,6 +16,7 @@ from office.web.message_types import (
     BlockedData,
     CellData,
     DraftData,
+    EditData,
     HeldData,
     HeldSlotData,
     MissingData,
@@ -89,8 +91,11 @@ class Picture:
         stale = say("box stale", row=row) if row is not None else NOTHING
         return {
             "edits": [
-                {"text": wording.shifts(shifts), "price": self.prices.get(edit)}
+                self.edit(edit, shifts)
                 for edit, shifts in zip(planning.edits(), planning.shifts())
+            ],
+            "taken_back": [
+                self.edit(edit, shifts_of(edit)) for edit in reversed(planning.state.taken_back)
             ],
             "base": planning.base_costs or None,
             "base_total": planning.base_total,
@@ -98,6 +103,11 @@ class Picture:
             "stale_preview": wording.notice(stale),
             "left_out": wording.lines(planning.left_out()),
         }
+
+    def edit(self, edit: Edit, shifts: list[Shift]) -> EditData:
+        """An edit in words and as a line of the desk."""
+        text = self.wording.shifts(shifts)
+        return {"text": text, "edit": str(edit), "price": self.prices.get(edit)}
 
     def missing(self) -> list[MissingData]:
         found = [
@@ -217,7 +227,7 @@ class Picture:
             "lines": [room, *self.course_lines(lecture.course)],
             # what others have to do with it
             "notices": wording.lines(notices),
-            "weeks": [(view, wording.short(*view)) for view in weeks_of(instance, lecture)],
+            "weeks": [(view, wording.name(*view)) for view in weeks_of(instance, lecture)],
         }
 
     # what is held
@@ -234,7 +244,7 @@ class Picture:
             "at": carry.slot,
             "room": carry.lecture.room if carry.lecture else None,
             "room_said": self.wording.short("room", carry.lecture.room) if carry.lecture else "",
-            "best": best[0] if best else None,
+            "best": best[0] if best and not carry.stands_best() else None,
             # the place of the cheapest offer in its slot
             "place": carry.cheapest(best[0]).index(best[1]) if best else 0,
             "slots": [self.slot(carry, slot) for slot in self.planning.instance.slots()],
@@ -252,7 +262,14 @@ class Picture:
     def offers(self, slot: Slot) -> list[OfferData]:
         """All that a slot offers for what is held, cheapest first."""
         carry = self.work.carry
-        return [self.offer(carry, offer) for offer in carry.at(slot)] if carry else []
+        return [self.offer_told(carry, offer) for offer in carry.at(slot)] if carry else []
+
+    def offer_told(self, carry: Carry, offer: Offer) -> OfferData:
+        """An offer where there is room for a name, and for the seats of a room."""
+        if carry.kind is SWAP:
+            return offer.price, offer.about, self.wording.course(offer.about)
+        seats = counted(self.planning.instance.rooms[offer.about], "seat")
+        return offer.price, offer.about, f"{self.wording.room(offer.about)}, {seats}"
 
     def offer(self, carry: Carry, offer: Offer) -> OfferData:
         kind = "course" if carry.kind is SWAP else "room"

@@ -6,10 +6,11 @@ from typing import Any, Callable, NamedTuple, Optional
 
 from office.day.lecture import Lecture, Slot
 from office.day.shifts import shifts_of
-from office.past.variants import Variant
+from office.past.variants import Variant, Variants
 from office.web.guard import Fault
-from office.words.notice import Notice, Question, say
-from office.work.closures_here import ClosureChoice as Blocked
+from office.words.meant import Meant, names_of
+from office.words.notice import Notice, Question, Reason, say
+from office.words.wording import Wording
 from office.work.drafting import Box
 from office.work.planning import Planning
 from office.work.work import Work
@@ -28,14 +29,17 @@ class Line(NamedTuple):
     answer: str
     take: Callable[[str], Optional[Question]]
     box: Optional[Box] = None
+    # whether it is asked once more about what was typed, and what was typed before
+    meant: Optional[Meant] = None
+    text: str = ""
 
 
 class Shown:
     """What a window has of a planner's work: a week, what is held, and what is asked."""
 
-    def __init__(self, planning: Planning) -> None:
-        self.planning = planning
-        self.work = Work(planning)
+    def __init__(self, planning: Planning, variants: Variants, wording: Wording) -> None:
+        self.planning, self.wording = planning, wording
+        self.work = Work(planning, variants)
         # what is asked, and what is to be typed for it, and the number under which it is
         self.question: Optional[Question] = None
         self.line: Optional[Line] = None
@@ -44,6 +48,8 @@ class Shown:
 
     def ask(self, question: Optional[Question], line: Optional[Line] = None) -> None:
         """Keeps what is asked now, or that nothing is."""
+        if question is not None and question.reason is not None and line is None:
+            line = self.line_of(question.reason)
         self.question, self.line = question, line
         self.asked += 1
 
@@ -52,6 +58,9 @@ class Shown:
         question, line = self.question, self.line
         if question is None or number != self.asked:
             raise Fault(409, "this was asked before: look again")
+        if line is not None and name == line.answer and line.meant and line.meant.asks(typed):
+            self.ask(question, line._replace(text=typed))
+            return None
         if line is not None and name == line.answer:
             act: Act = partial(line.take, typed)
         elif isinstance(name, str) and name in question.answers:
@@ -64,11 +73,32 @@ class Shown:
         return act()
 
 
-class Asking:
-    """Questions for which a browser has a box of its own."""
+    def line_of(self, reason: Reason) -> Line:
+        """The line for a reason that is needed."""
+        meant = Asking(self).meant(True)
+        label = self.wording.notice(reason.label)
+        return Line(label, reason.answer, reason.take, meant=meant)
 
-    def __init__(self, shown: Shown) -> None:
-        self.shown, self.work = shown, shown.work
+    def close(self, typed: str) -> None:
+        """What is asked is not answered. A reason that was begun for a commit is kept."""
+        line = self.line
+        if line is not None and line.box is not None and line.meant and line.meant.asked is None:
+            self.work.drafting.why = typed
+        self.ask(None)
+
+
+class Asking:
+    """Questions for which a browser has a box of its own. `key` is what was pressed in the week, if
+    it was."""
+
+    def __init__(self, shown: Shown, key: str = "") -> None:
+        self.shown, self.work, self.key = shown, shown.work, key
+
+    def meant(self, is_needed: bool = False) -> Meant:
+        """Asks about what is typed behind the key."""
+        shown = self.shown
+        instance, wording = shown.planning.instance, shown.wording
+        return Meant(self.key, lambda: names_of(instance, wording.labels), is_needed)
 
     def show_box(self) -> None:
         """Shows what a commit would publish, if there is anything to commit."""
@@ -77,7 +107,11 @@ class Asking:
         if box is not None:
             label = "Why? (the others see it; it may stay empty)"
             edits = box.edits
-            line = Line(label, "commit", lambda why: drafting.commit(edits, why), box)
+
+            def take(why: str) -> Optional[Question]:
+                return drafting.commit(edits, why)
+
+            line = Line(label, "commit", take, box, self.meant(), drafting.why)
             self.shown.ask(Question(say("blank"), box.lines()), line)
 
     def pin(self, lecture: Optional[Lecture]) -> Optional[Question]:
@@ -94,7 +128,8 @@ class Asking:
                 knowing.pin(pinned, why)
 
             title = say("one course", course=lecture.course)
-            self.shown.ask(Question(title), Line("Why is it pinned?", "pin", take))
+            line = Line("Why is it pinned?", "pin", take, meant=self.meant())
+            self.shown.ask(Question(title), line)
         return question
 
     def block(self, lecture: Optional[Lecture], slot: Slot) -> Optional[Question]:
@@ -103,21 +138,9 @@ class Asking:
         if not found:
             self.work.notice = say("nothing to block")
             return None
-        choices: list[Choice] = [(one.notice, partial(self.take_block, one)) for one in found]
-        return Question(say("what to block"), choices=choices)
-
-    def take_block(self, one: Blocked) -> None:
-        """Lifts what was chosen, or asks why it is to be blocked."""
         blocking = self.work.blocking
-        if one.lifts is not None:
-            blocking.lift(one.scope)
-            return
-
-        def take(why: str) -> None:
-            blocking.block(one.scope, why)
-
-        line = Line("Why? (all who plan see it)", "block", take)
-        self.shown.ask(Question(one.notice), line)
+        choices: list[Choice] = [(one.notice, partial(blocking.question, one)) for one in found]
+        return Question(say("what to block"), choices=choices)
 
     def put_aside(self) -> None:
         """Puts the edits of the draft aside under a name."""
@@ -137,7 +160,7 @@ class Asking:
     def list_variants(self) -> Optional[Question]:
         """What was put aside, to be chosen from."""
         variants = self.work.variants
-        if not variants.kept:
+        if not variants.kept and not variants.thrown:
             self.work.notice = say("no variants")
             return None
         found = variants.listed()

@@ -149,14 +149,20 @@ class Office:
         stamp, loop = None, asyncio.get_running_loop()
         with self.faults.kept("the day"):
             stamp = await loop.run_in_executor(None, self.see)
+        if self.day.is_changing():
+            # the desk ends as soon as all seats have left it
+            await asyncio.gather(*(self.look_at(sitter, stamp) for sitter in self.sitters))
         for place in sorted(self.places(), key=asked_at, reverse=True):
-            with self.faults.kept(place.called):
-                await place.look(stamp)
+            await self.look_at(place, stamp)
         people = await loop.run_in_executor(None, self.who_sits)
         if people != self.people:
             self.people = people
             for sitter in self.sitters:
                 sitter.tell({"people": people})
+
+    async def look_at(self, place: Any, stamp: Any) -> None:
+        with self.faults.kept(place.called):
+            await place.look(stamp)
 
     def who_sits(self) -> list[PersonData]:
         found: list[Optional[PersonData]] = []

@@ -9,7 +9,7 @@ from functools import partial
 from typing import Any, Callable, Optional
 
 from office.day.costs import COSTS, MEANINGS
-from office.day.edits import Edit
+from office.day.edits import Edit, Kind
 from office.day.folder import Day
 from office.seat.seat import DeskEnded, NoAnswer, Seat, read_sitter
 from office.web.action_names import key_table
@@ -179,9 +179,8 @@ class Sitter:
         """What a window has; it begins anew when somebody has sat down anew."""
         assert self.planning is not None
         if window.shown is None or window.shown.planning is not self.planning:
-            window.shown = Shown(self.planning)
-            # what was put aside is put aside at the seat
-            window.shown.work.variants = self.begun.variants
+            wording = self.frame.wording
+            window.shown = Shown(self.planning, self.begun.variants, wording)
         shown: Shown = window.shown
         return shown
 
@@ -251,7 +250,7 @@ class Sitter:
             if question is not None:
                 shown.ask(question)
             return
-        shown.ask(None)
+        shown.close(request.text("why", WHY))
         if verb != "close":
             question = VERBS[verb](WindowTurn(shown, request))
             if question is not None:
@@ -267,9 +266,12 @@ class Sitter:
         planning = self.planning
         assert planning is not None
         found = notice_data(self.frame.wording, planning.notice)
-        if before is not None and planning.notice.code == "done" and planning.edits():
+        edits = planning.edits()
+        # what a lecture costs is not saved by taking it out
+        is_drop = bool(edits) and edits[-1].kind is Kind.DROP
+        if before is not None and planning.notice.code == "done" and edits and not is_drop:
             found["price"] = sum(planning.costs().values()) - before
-            self.prices[planning.edits()[-1]] = found["price"]
+            self.prices[edits[-1]] = found["price"]
         return found
 
     def _others(self, but: Optional[Window] = None) -> list[Window]:

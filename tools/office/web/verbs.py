@@ -4,6 +4,8 @@ from __future__ import annotations
 
 from typing import Any, Callable, Optional
 
+from office.day.costs import COSTS
+from office.day.edits import Edit
 from office.day.instance import Instance
 from office.day.lecture import Lecture, Slot
 from office.seat.calls import Turn, read_call
@@ -144,6 +146,37 @@ class WindowTurn:
     def missing(self) -> None:
         self.work.missing()
 
+    def edit(self) -> Edit:
+        """An edit that was seen, as a line of the desk."""
+        found = Edit.parse(self.request.text("edit", LINE))
+        if found is None:
+            raise Fault(400, "no edit")
+        return found
+
+    def take_back(self) -> Optional[Question]:
+        """Takes an edit of the draft back, whichever it is."""
+        self.work.carry = None
+        return self.work.drafting.take_back(self.request.number("place"), self.edit())
+
+    def make_one(self) -> None:
+        """Makes an edit again that was taken back."""
+        self.work.carry = None
+        edit = self.edit()
+        if edit not in self.work.planning.state.taken_back:
+            raise Fault(400, "this edit was not taken back")
+        self.work.drafting.make_one(edit)
+
+    def part(self) -> Optional[Question]:
+        """What costs points of a part of the cost."""
+        found = self.request.text("part", LINE)
+        if found not in COSTS:
+            raise Fault(400, "no part of the cost")
+        return self.work.findings.of_part(found)
+
+    def draft(self) -> Optional[Question]:
+        """An accepted draft by its number."""
+        return self.work.history.of_number(self.request.number("number"))
+
     def line(self) -> Optional[Question]:
         """A line of the desk that was typed by hand."""
         line = self.request.text("line", LINE)
@@ -152,8 +185,8 @@ class WindowTurn:
         self.work.carry = None
         call = read_call(line)
         if call is Turn.LEAVE:
-            self.work.leave()
-        elif call is Turn.COMMIT:
+            return self.work.ask_leave()
+        if call is Turn.COMMIT:
             Asking(self.shown).show_box()
         else:
             return self.work.drafting.type_line(line)
@@ -161,7 +194,7 @@ class WindowTurn:
 
     def acts(self) -> dict[str, Callable[[], Optional[Question]]]:
         """The actions that ask nothing but their name, and perhaps a lecture."""
-        drafting, asking = self.work.drafting, Asking(self.shown)
+        drafting, asking = self.work.drafting, Asking(self.shown, self.request.text("key", 1))
         return {
             "undo": drafting.undo,
             "history": lambda: self.work.drafts_of(self.request.lecture()),
@@ -177,7 +210,7 @@ class WindowTurn:
             "refresh": drafting.refresh,
             "redo": drafting.redo,
             "abandon": drafting.ask_abandon,
-            "leave": self.work.leave,
+            "leave": self.work.ask_leave,
         }
 
     def act(self) -> Optional[Question]:
@@ -206,8 +239,8 @@ VERBS: dict[str, Callable[[WindowTurn], Optional[Question]]] = {
     name: getattr(WindowTurn, name)
     for name in (
         "show next_week pick_up pick_up_missing swap_instead move_instead put_down lay_down "
-        "take_out best missing line act"
+        "take_out best missing take_back make_one part draft line act"
     ).split()
 }
 # after these the other windows of the seat may see something else
-CHANGES: list[str] = ["put_down", "take_out", "line", "act", "answer"]
+CHANGES: list[str] = ["put_down", "take_out", "take_back", "make_one", "line", "act", "answer"]

@@ -88,7 +88,8 @@ ACTIONS = (
         "edits",
         "e",
         "edits",
-        "lists the edits of the draft, and those that a redo could not make again.",
+        "lists the edits of the draft, each to be taken back, those that were taken back, and "
+        "those that a redo could not make again.",
     ),
     Action(
         "commit",
@@ -109,7 +110,12 @@ ACTIONS = (
         "redo",
         "makes the edits of a stale draft again on the newest timetable, and commits nothing.",
     ),
-    Action("abandon", "a", "abandon", "gives the draft up, when you have said yes."),
+    Action(
+        "abandon",
+        "a",
+        "abandon",
+        "gives the draft up, when you have said yes; its edits are put aside.",
+    ),
     Action("undo undo", "U", "", "makes an edit again that was taken back."),
     Action(
         "put aside",
@@ -144,7 +150,8 @@ ACTIONS = (
         "leave",
         "q",
         "go",
-        "goes away for a while: an open draft stays, and you find it when you sit down again.",
+        "goes away for a while, and asks before if a draft is open: it stays, and you find it "
+        "when you sit down again.",
     ),
     Action("next", "tab", "", ""),
     Action("last", "backtab", "", ""),
@@ -155,6 +162,8 @@ ANSWERS = (
     Action("make earlier", "y", "makes them again in a draft", ""),
     Action("decline", "n", "never asks again", ""),
     Action("give up", "y", "gives them up", ""),
+    Action("leave now", "y", "leaves", ""),
+    Action("take edit back", "t", "takes it back", ""),
     Action("make again", "r", "makes them again", ""),
     Action("go on", "y", "goes on all the same", ""),
     Action("take up", "enter", "makes it the draft", ""),
@@ -162,6 +171,8 @@ ANSWERS = (
     Action("throw away", "x", "throws it away", ""),
     Action("unpin", "y", "takes it off", ""),
     Action("take back", "t", "takes it back in your draft", ""),
+    Action("lift", "l", "lifts it", ""),
+    Action("put back", "y", "puts them back in your draft", ""),
     Action("seen", "enter", "goes on", ""),
     Action("take over", "y", "goes on with them", ""),
     Action("leave to them", "q", "leaves them", ""),

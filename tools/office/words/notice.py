@@ -38,14 +38,24 @@ def say(code: str, **data: Any) -> Notice:
     return Notice(code, data)
 
 
+class Reason(NamedTuple):
+    """A reason that is typed for a question: what it is called, the answer with which it goes, and
+    what is done with it."""
+
+    label: Notice
+    answer: str
+    take: Callable[[str], Optional["Question"]]
+
+
 class Question(NamedTuple):
     """What is to be read, or to be answered. The answers are named as actions are; one without any
     is read alone. An answer may lead to the next question. Choices are a list that narrows as one
     types; the one that is chosen leads on, too. A question that cannot wait has to be answered
-    before anything else is done."""
+    before anything else is done. One with a reason is answered by that."""
 
     title: Notice
     lines: list[Notice] = []
     answers: dict[str, Callable[[], Optional["Question"]]] = {}
     choices: list[tuple[Notice, Callable[[], Optional["Question"]]]] = []
     can_wait: bool = True
+    reason: Optional[Reason] = None

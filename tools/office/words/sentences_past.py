@@ -2,8 +2,8 @@
 from __future__ import annotations
 
 PAST: dict[str, str] = {
-    "drafts of": "Drafts that have changed {row}, newest first",
-    "never changed": "No draft of today has changed {row}.",
+    "drafts of": "What has changed {row}, newest first",
+    "never changed": "Nothing has changed {row} today.",
     "draft choice": "{number} {who}, {time}: {reasons}{why}",
     "edit words": "{shifts}",
     "and more": "{count} more",
@@ -27,7 +27,7 @@ KNOWING: dict[str, str] = {
     "nobody": "nobody",
     "sits": "{who}, since {time}",
     "at seat": "seat {planner}: {sitter}{work}",
-    "no draft known": "; no draft known",
+    "no draft known": "; no draft open",
     "draft since": "; a draft of {who} since {time}, {count:edit}: {reasons}",
     "one course": "{course}",
     "at work": "{who} has a draft open on it, since {time}.",

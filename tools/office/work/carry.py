@@ -146,6 +146,11 @@ class Carry:
         ]
         return min(found, key=lambda one: one[1].price) if found else None
 
+    def stands_best(self) -> bool:
+        """Whether what is moved stands where nothing else that is offered is cheaper."""
+        best = self.best()
+        return self.kind is MOVE and best is not None and best[1].price >= 0
+
     def is_idle(self, slot: Slot, offer: Optional[Offer]) -> bool:
         """Whether an offer leaves everything as it is."""
         return bool(
@@ -243,4 +248,5 @@ class Carry:
         slot, offer = best
         if self.kind is SWAP:
             return say("cheapest with", price=offer.price, other=offer.about, slot=slot)
-        return say("cheapest in", price=offer.price, room=offer.about, slot=slot)
+        code = "stands best" if self.stands_best() else "cheapest in"
+        return say(code, price=offer.price, room=offer.about, slot=slot)

@@ -8,7 +8,7 @@ from office.day.closure import Closure, Scope
 from office.day.closures_file import add_closure, blocked_now, lifted_now, read_closures, standing
 from office.day.lecture import Lecture, Slot
 from office.words.closure_notices import closure_notice
-from office.words.notice import Notice, say
+from office.words.notice import Notice, Question, Reason, say
 from office.work.planning import Planning
 from office.work.week import View
 
@@ -68,6 +68,23 @@ class Blocking:
     def is_blocked(self, scope: Scope) -> bool:
         closures = standing(read_closures(self.planning.seat.day))
         return any(closure.scope.covers(scope) for closure in closures)
+
+    def question(self, choice: ClosureChoice) -> Question:
+        """Asks for the reason for which something is blocked, or is lifted."""
+        return self.ask_lift(choice.lifts) if choice.lifts else self.ask_block(choice)
+
+    def ask_block(self, choice: ClosureChoice) -> Question:
+        def take(why: str) -> None:
+            self.block(choice.scope, why)
+
+        return Question(choice.notice, reason=Reason(say("why block"), "block", take))
+
+    def ask_lift(self, closure: Closure) -> Question:
+        def take(why: str) -> None:
+            self.lift(closure.scope, why)
+
+        title = say("lift", closure=closure_notice(closure))
+        return Question(title, reason=Reason(say("why lift"), "lift", take))
 
     def block(self, scope: Scope, why: str) -> None:
         """Has the office block it."""

@@ -1,12 +1,14 @@
 """What is done with the draft. Each act answers what is to be read or asked then, if anything."""
 from __future__ import annotations
 
-from typing import NamedTuple, Optional, Sequence
+from functools import partial
+from typing import Callable, NamedTuple, Optional, Sequence
 
 from office.day.costs import Costs
 from office.day.edits import Edit, edits_in
 from office.day.shifts import Shift, shifts_of
 from office.past.earlier_days import Earlier
+from office.past.variants import Variants
 from office.seat.answers import Row
 from office.seat.calls import Turn, read_call
 from office.seat.seat_log import settle
@@ -14,6 +16,7 @@ from office.words.notice import NOTHING, Notice, Question, say
 from office.work.planning import Planning
 
 BLANK = say("blank")
+Choice = tuple[Notice, Callable[[], Optional[Question]]]
 
 
 class Box(NamedTuple):
@@ -60,8 +63,10 @@ def edit_notices(edits: Sequence[Edit]) -> list[Notice]:
 class Drafting:
     """The acts of a draft."""
 
-    def __init__(self, planning: Planning) -> None:
-        self.planning = planning
+    def __init__(self, planning: Planning, variants: Variants) -> None:
+        self.planning, self.variants = planning, variants
+        # the reason that was begun for a commit that was not made
+        self.why = ""
 
     def offer_earlier(self) -> Optional[Question]:
         """Offers the edits of an earlier day that were not accepted."""
@@ -72,8 +77,17 @@ class Drafting:
         return Question(
             title,
             edit_notices(earlier.edits),
-            {"make earlier": lambda: self.take_up(earlier), "decline": earlier.decline},
+            {
+                "make earlier": lambda: self.take_up(earlier),
+                "decline": lambda: self.decline(earlier),
+            },
         )
+
+    def decline(self, earlier: Earlier) -> None:
+        """What an earlier day has left is not offered any more; it is put aside."""
+        name = self.variants.keep(earlier.name, earlier.edits)
+        earlier.decline()
+        self.planning.notice = say("not offered again", name=name)
 
     def take_up(self, earlier: Earlier) -> Optional[Question]:
         return self._refused(earlier.take_up())
@@ -101,7 +115,39 @@ class Drafting:
         title = say("edits of draft", count=len(lines))
         if left_out:
             lines += [BLANK, say("left out before"), *left_out]
-        return Question(title, lines)
+        gone = planning.state.taken_back
+        if not planning.edits() and not gone:
+            return Question(title, lines)
+        choices: list[Choice] = [
+            (line, partial(self.ask_take_back, place, planning.edits()[place]))
+            for place, line in enumerate(lines[: len(planning.edits())])
+        ]
+        choices += [(line, lambda: None) for line in left_out]
+        choices += [
+            (say("was taken back", shifts=shifts_of(edit)), partial(self.make_one, edit))
+            for edit in reversed(gone)
+        ]
+        return Question(title, choices=choices)
+
+    def make_one(self, edit: Edit) -> None:
+        """Makes an edit again that was taken back."""
+        self.planning.edit(edit)
+
+    def ask_take_back(self, place: int, edit: Edit) -> Optional[Question]:
+        """Asks whether an edit of the draft that was seen is to be taken back."""
+        if self.planning.edits()[place : place + 1] != [edit]:
+            self.planning.notice = say("not these edits")
+            return None
+        lines = [say("edit line", shifts=self.planning.shifts()[place])]
+        act = partial(self.take_back, place, edit)
+        return Question(say("take edit back"), lines, {"take edit back": act})
+
+    def take_back(self, place: int, edit: Edit) -> Optional[Question]:
+        """Takes an edit of the draft back that was seen, whichever it is."""
+        if self.planning.edits()[place : place + 1] != [edit]:
+            self.planning.notice = say("not these edits")
+            return None
+        return self._refused(self.planning.take_back(place))
 
     def box(self) -> Optional[Box]:
         """What a commit would publish; None if there is nothing to commit, which is said."""
@@ -177,21 +223,27 @@ class Drafting:
     def redo(self) -> Optional[Question]:
         return self._refused(self.planning.redo())
 
+    def edit_lines(self) -> list[Notice]:
+        """The edits of the draft, or of a stale one."""
+        lines = [say("edit line", shifts=shifts) for shifts in self.planning.shifts()]
+        return lines or edit_notices(self.planning.ended())
+
     def ask_abandon(self) -> Optional[Question]:
+        """Asks whether the draft is given up. Its edits are put aside by it: no key loses any."""
         planning = self.planning
         if not planning.is_open and not planning.ended():
             planning.notice = say("no draft")
             return None
-        lines = [say("edit line", shifts=shifts) for shifts in planning.shifts()]
-        return Question(
-            say("give up"), lines or edit_notices(planning.ended()), {"give up": self.abandon}
-        )
-
-    def abandon(self) -> None:
-        self.planning.abandon()
+        lines = self.edit_lines()
+        if lines:
+            lines += [BLANK, say("give up why")]
+        return Question(say("give up"), lines, {"give up": self.variants.give_up})
 
     def type_line(self, line: str) -> Optional[Question]:
-        """Sends a line of the desk. A commit has its box in each face."""
+        """Sends a line of the desk. A commit has its box in each face, and a draft is given up as
+        it is by its key."""
+        if read_call(line) is Turn.ABANDON:
+            return self.ask_abandon()
         if read_call(line) is Turn.COMMIT:
             self.planning.notice = say("commit by its key")
             return None

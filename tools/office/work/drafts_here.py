@@ -13,6 +13,7 @@ from office.past.timetable_at import costs_around
 from office.refused import Refused
 from office.seat.answers import Row
 from office.words.notice import NOTHING, Notice, Question, say
+from office.work.closures_past import ClosuresPast
 from office.work.planning import Planning
 
 Act = Callable[[], Optional[Question]]
@@ -24,7 +25,7 @@ class History:
     """The accepted drafts of a day, as a planner's client knows them."""
 
     def __init__(self, planning: Planning) -> None:
-        self.planning = planning
+        self.planning, self.closures = planning, ClosuresPast(planning)
         self._shifts: list[list[Shift]] = []
 
     def shifts(self) -> list[list[Shift]]:
@@ -47,16 +48,31 @@ class History:
     def of(self, what: Subject) -> Optional[Question]:
         """The drafts that have changed something, newest first, to be chosen from."""
         instance, row = self.planning.instance, Row(*what)
-        choices: list[tuple[Notice, Act]] = []
+        found: list[tuple[str, Notice, Act]] = []
         for place, shifts in reversed(list(enumerate(self.shifts()))):
             touched = [one for one in shifts if what.is_touched(instance, one)]
             if touched:
                 draft = self.draft(place)
-                choices.append((self.line(draft, touched), partial(self.shown, draft)))
-        if not choices:
+                found.append((draft.time, self.line(draft, touched), partial(self.shown, draft)))
+        for event in reversed(self.closures.of(what)):
+            act = partial(self.closures.shown, event)
+            found.append((event.closure.time, event.line(), act))
+        if not found:
             self.planning.notice = say("never changed", row=row)
             return None
+        found.sort(key=lambda one: one[0], reverse=True)
+        choices = [(notice, act) for _, notice, act in found]
         return Question(say("drafts of", row=row), choices=choices)
+
+    def of_number(self, number: int) -> Optional[Question]:
+        """An accepted draft by its number."""
+        places = [
+            place
+            for place, one in enumerate(self.planning.news.accepted)
+            if one.entry.number == number
+        ]
+        self.shifts()
+        return self.shown(self.draft(places[0])) if places else None
 
     def line(self, draft: Draft, touched: list[Shift]) -> Notice:
         """A draft in a list, with what it did that is asked about, and why."""

@@ -6,6 +6,7 @@ import json
 from functools import partial
 from typing import Any, Callable, NamedTuple, Optional
 
+from office.day.costs import MEANINGS
 from office.day.desk_words import encoded
 from office.day.lecture import Slot
 from office.day.program import Left
@@ -122,21 +123,40 @@ class Findings:
             pass
         raise Refused("the program does not tell what it finds")
 
-    def question(self) -> Optional[Question]:
-        """The findings by groups, the worst first, to be chosen from."""
+    def sorted(self) -> Optional[list[dict[str, Any]]]:
+        """The findings by groups, the worst first; says so if they are not known."""
         try:
             found = self.read()
         except Refused as fault:
             self.planning.notice = say("no findings", fault=fault.reason)
             return None
-        found.sort(key=lambda one: (GROUPS.index(one["kind"]), -one.get("points", 0)))
+        return sorted(found, key=lambda one: (GROUPS.index(one["kind"]), -one.get("points", 0)))
+
+    def _choices(self, found: list[dict[str, Any]]) -> list[Choice]:
         timetable = self.planning.known.present()
-        choices: list[Choice] = [
-            (finding_notice(one), partial(self._see, one, timetable)) for one in found
-        ]
-        choices.append((say("see gaps"), self.gaps))
+        return [(finding_notice(one), partial(self._see, one, timetable)) for one in found]
+
+    def question(self) -> Optional[Question]:
+        """All findings, to be chosen from."""
+        found = self.sorted()
+        if found is None:
+            return None
+        choices = [*self._choices(found), (say("see gaps"), self.gaps)]
         points = sum(one.get("points", 0) for one in found)
         return Question(say("findings", count=len(found), points=points), choices=choices)
+
+    def of_part(self, part: str) -> Optional[Question]:
+        """What costs points of one part, with what that part counts."""
+        found = self.sorted()
+        if found is None:
+            return None
+        found = [one for one in found if one["kind"] == part]
+        points = sum(one["points"] for one in found)
+        data = {"part": part, "count": len(found), "points": points, "meaning": MEANINGS[part]}
+        if not found:
+            self.planning.notice = say("no findings of", **data)
+            return None
+        return Question(say("findings of", **data), choices=self._choices(found))
 
     def _see(self, finding: dict[str, Any], timetable: Timetable) -> None:
         self.go(*place_of(finding, timetable))

@@ -8,7 +8,17 @@ from office.day.edits import Edit
 from office.day.processes import now
 from office.day.shared_lines import one_line
 from office.day.shifts import shifts_of
-from office.seat.answers import Answer, Committed, NotAllowed, Redone, Said, Stale, Undone, costs_in
+from office.seat.answers import (
+    Answer,
+    BadLine,
+    Committed,
+    NotAllowed,
+    Redone,
+    Said,
+    Stale,
+    Undone,
+    costs_in,
+)
 from office.seat.calls import Turn, read_call
 from office.words.notice import NOTHING, Notice, say
 from office.words.reasons import reason
@@ -93,6 +103,24 @@ class Planning(Reading):
             self.notice = say("taken back", shifts=last[0])
         else:
             self.notice = answer_notice(answer)
+
+    def take_back(self, place: int) -> list[Notice]:
+        """Takes an edit of the draft back, whichever it is. Those after it are made again; answers
+        those that were refused without it, with the reason."""
+        edits, shifts = self.edits(), self.shifts()
+        if place == len(edits) - 1:
+            self.undo()
+            return []
+        for _ in edits[place:]:
+            answer = self.turn(Turn.UNDO)
+            if not isinstance(answer, Undone):
+                break
+        refused = []
+        for number, edit in enumerate(edits[len(self.edits()) :], len(self.edits()) + 1):
+            if number != place + 1 and not self.edit(edit):
+                refused.append(self._left_out(number, edit, self.refused))
+        self.notice = say("taken back", shifts=shifts[place])
+        return refused
 
     def undo_undo(self) -> None:
         """Makes the edit again that was taken back last."""
@@ -187,13 +215,14 @@ class Planning(Reading):
             self.notice = answer_notice(answer)
 
     def abandon(self) -> None:
+        """Gives the draft up, or a stale one."""
         count = len(self.edits() or self.ended())
+        code = "given up" if self.is_open else "last given up"
         if not self.is_open:
             self.forget()
-            self.notice = say("last given up", count=count)
         else:
             self.turn(Turn.ABANDON)
-            self.notice = say("given up", count=count)
+        self.notice = say(code, count=count, aside=NOTHING) if count else say("empty given up")
 
     def forget(self) -> None:
         """The edits of the last draft are given up, or made again by another way."""
@@ -256,4 +285,5 @@ class Planning(Reading):
             self._stand_anew()
         if isinstance(answer, Stale) and self.ended():
             self.stale_row = answer.row
-        self.notice = say("typed", line=line, answer=str(answer))
+        code = "not understood" if isinstance(answer, BadLine) else "typed"
+        self.notice = say(code, line=line, answer=str(answer))

@@ -7,6 +7,7 @@ answers what is to be read or asked then, if anything is.
 from __future__ import annotations
 
 import time
+from functools import partial
 from typing import Optional
 
 from office.day.edits import Edit, Kind
@@ -30,16 +31,17 @@ from office.work.week import Cell, View, all_views, cells_of, lectures_of_view, 
 class Work:
     """A planner's work: whose week he looks at, what he has picked up, and his draft."""
 
-    def __init__(self, planning: Planning) -> None:
+    def __init__(self, planning: Planning, variants: Optional[Variants] = None) -> None:
         self.planning = planning
         self.views = all_views(planning.instance)
         self.view = self.views[0] if self.views else View("course", "")
         self.carry: Optional[Carry] = None
-        self.drafting = Drafting(planning)
+        # what was put aside is put aside at the seat
+        self.variants = variants or Variants(planning)
+        self.drafting = Drafting(planning, self.variants)
         self.history = History(planning)
         self.knowing = Knowing(planning)
         self.blocking = Blocking(planning)
-        self.variants = Variants(planning)
         self.findings = Findings(planning, self.go_to)
         # where to look next, if something was chosen that stands at a slot
         self.goal: Optional[Slot] = None
@@ -92,11 +94,26 @@ class Work:
         """Goes on in the next part of the day, and makes an open draft again. What was picked up is
         put back."""
         self.carry = None
-        return question_of(step_over(self.planning))
+        stepped = step_over(self.planning)
+        question, closures = question_of(stepped), self.history.closures
+        changed = [one for change in stepped.changes for one in change.closures]
+        if question is None:
+            return closures.offer(changed)
+        # what was lifted is offered when the rest has been read
+        return question._replace(answers={"seen": partial(closures.offer, changed)})
 
     def is_over(self) -> bool:
         """Whether the rules change: this part of the day is over."""
         return self.planning.seat.is_over()
+
+    def ask_leave(self) -> Optional[Question]:
+        """Leaves the seat, and asks before where a draft is open."""
+        lines = self.drafting.edit_lines()
+        if not lines:
+            self.leave()
+            return None
+        lines += [BLANK, say("leave why")]
+        return Question(say("leave"), lines, {"leave now": self.leave})
 
     def leave(self) -> None:
         self.is_done = True

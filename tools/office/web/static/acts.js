@@ -4,11 +4,14 @@ import * as boxes from "./boxes.js";
 import { announce, find, isTyping, save } from "./dom.js";
 import { chosen, heldSaid, heldShort } from "./held.js";
 import { help } from "./help.js";
-import { openMenu } from "./menu.js";
+import { offerRow, openMenu } from "./menu.js";
 import { same } from "./numbers.js";
 import { toast } from "./toasts.js";
 
-class Acts {
+// these wait for nothing: what is typed after them is text
+const AT_ONCE = ["view", "line", "help"];
+
+export class Acts {
   constructor(/** @type {Parts} */ parts) {
     this.app = parts.app;
     this.week = parts.week;
@@ -16,9 +19,9 @@ class Acts {
     this.turn = parts.turn;
     this.queue = parts.queue;
     this.search = parts.search;
-    /** @type {(name: string) => any} */
-    this.queued = (name) => {
-      const act = () => this.act(name);
+    /** @type {(name: string, key?: string) => any} */
+    this.queued = (name, key = "") => {
+      const act = () => this.act(name, key);
       return AT_ONCE.includes(name) ? act() : this.queue(act);
     };
     this.toWeek = () => this.week.setCursor(this.week.cursor, true);
@@ -125,8 +128,9 @@ class Acts {
   }
 
   best() {
+    if (this.held && !this.held.best) return toast("said", this.held.hint);
     if (this.held?.best) this.look.goTo(this.held.best, this.held.place);
-    else if (!this.held) return this.turn("best");
+    else return this.turn("best");
     return null;
   }
 
@@ -149,7 +153,7 @@ class Acts {
     const label = `${held.said}, ${week.said(slot)}: ${what}`;
     /** @type {(at: number) => Promise<void>} */
     const take = (at) => this.queue(() => this.putDown(slot, offers[at]));
-    openMenu(week.cell(slot), label, offers, take, this.toWeek);
+    openMenu(week.cell(slot), label, offers.map(offerRow), take, this.toWeek);
   }
 
   /** @type {(lecture: ?Seen) => Promise<Found>} */
@@ -181,9 +185,10 @@ class Acts {
     boxes.askLine((line) => this.queue(() => this.turn("line", { line })));
   }
 
-  // an action by the name that keys have, on what is seen when all before it is done
-  /** @type {(name: string) => any} */
-  act(name) {
+  // an action by the name that keys have, on what is seen when all before it is done; key is what
+  // was pressed for it
+  /** @type {(name: string, key: string) => any} */
+  act(name, key) {
     const slot = this.week.cursor;
     const lecture = this.week.seen(slot);
     const own = {
@@ -201,45 +206,6 @@ class Acts {
       next: () => this.rooms(slot, lecture),
       "lay down": () => this.layDown(),
     }[name];
-    return own ? own() : this.turn("act", { name, lecture, at: slot });
+    return own ? own() : this.turn("act", { name, lecture, at: slot, key });
   }
-}
-
-// these wait for nothing: what is typed after them is text
-const AT_ONCE = ["view", "line", "help"];
-
-// the acts, each after those that were asked for before it
-/** @type {(parts: Parts) => Acting} */
-export function makeActs({ closed, seen, ...parts }) {
-  const raw = new Acts({ closed, seen, ...parts });
-  const { queue, look } = raw;
-  /** @type {(slot: SlotData) => Promise<void>} */
-  const drop = (slot) => queue(() => raw.drop(slot));
-  return {
-    isHolding: () => raw.isHolding(),
-    told: (slot) => raw.told(slot),
-    act: raw.queued,
-    toWeek: raw.toWeek,
-    hover: (slot) => look.hover(slot),
-    go: (days, periods) => queue(() => look.go(days, periods)),
-    closeQuestion: (question) => {
-      closed();
-      return queue(() => raw.turn("close", { question }));
-    },
-    more: (slot) => {
-      const lecture = raw.week.seen(slot);
-      return queue(() => raw.rooms(slot, lecture));
-    },
-    tap: (slot) => {
-      seen();
-      if (raw.isHolding()) drop(slot);
-      else look.goTo(slot);
-    },
-    show: (view) => queue(() => raw.show(view)),
-    pickUp: (slot) => queue(() => raw.pickUp(slot)),
-    place: (course) => queue(() => raw.place(course)),
-    drop,
-    layDown: () => queue(() => raw.layDown()),
-    answer: (question, answer, more) => queue(() => raw.answer(question, answer, more)),
-  };
 }

@@ -1,5 +1,6 @@
 // @ts-check
 // Boxes in front of the week: what is to be read or answered.
+import { choiceList } from "./choices.js";
 import { costTable } from "./costs.js";
 import { button, el, find, key, name, weekCell } from "./dom.js";
 
@@ -10,6 +11,14 @@ let before = null;
 let isAsked = false;
 /** @type {?() => void} */
 let later = null;
+// so many letters that are no answer are the beginning of a word, which answers nothing
+const WORD = 2;
+let typed = 0;
+
+// a letter was pressed before the box was seen
+export function typedAhead() {
+  typed += 1;
+}
 
 // where the keyboard goes when a box is closed
 /** @type {(element: ?HTMLElement) => void} */
@@ -37,13 +46,17 @@ export function open(title, parts, { cls = "", cancel = null, letters = {} } = {
     if (cancel) cancel();
     else box.showModal();
   };
+  typed = 0;
   box.onkeydown = (event) => {
     const act = letters[event.key.toLowerCase()];
     const isInput = event.target instanceof HTMLInputElement;
-    const isTyped = event.ctrlKey || event.metaKey || event.altKey || isInput;
-    if (!act || isTyped || event.repeat) return;
-    event.preventDefault();
-    act();
+    const isKey = event.ctrlKey || event.metaKey || event.altKey || isInput;
+    if (isKey || event.repeat) return;
+    if (event.key.length === 1 && event.key !== " " && (!act || typed >= WORD)) typed += 1;
+    else if (act) {
+      event.preventDefault();
+      act();
+    } else typed = 0;
   };
   box.replaceChildren(el("h2", { id: "box-title" }, name(title)), ...parts.filter(Boolean));
   if (!box.open) box.showModal();
@@ -147,36 +160,13 @@ function linePart({ code, text }) {
   return el("p", { cls: `line-${code.replace(/ /g, "-")}` }, name(text.trim()));
 }
 
-/** @type {Record<string, number>} */
-const STEPS = { ArrowDown: 1, ArrowUp: -1 };
-
-// what can be chosen from, which narrows as one types
-/** @type {(choices: string[], choose: (at: number) => void) => HTMLElement} */
-function choiceList(choices, choose) {
-  const items = choices.map((text, at) => ({
-    text: text.toLowerCase(),
-    item: el("li", {}, button(`choice-${at}`, name(text), () => choose(at), { cls: "choice" })),
-  }));
-  const list = el("ul", { cls: "choices" }, items.map((one) => one.item));
-  const label = "Letters narrow the list";
-  const input = el("input", { type: "text", autofocus: true, "aria-label": label });
-  input.addEventListener("input", () => {
-    const words = input.value.toLowerCase().split(/\s+/);
-    for (const { text, item } of items) item.hidden = !words.every((word) => text.includes(word));
-  });
-  /** @type {() => NodeListOf<HTMLElement>} */
-  const shown = () => list.querySelectorAll("li:not([hidden]) button");
-  /** @type {(event: KeyboardEvent) => void} */
-  const walk = (event) => {
-    const all = [input, ...shown()];
-    const at = all.indexOf(/** @type {HTMLElement} */ (document.activeElement));
-    const step = STEPS[event.key];
-    if (step) all[Math.max(0, Math.min(all.length - 1, at + step))].focus();
-    else if (event.key === "Enter" && at === 0) shown()[0]?.click();
-    else return;
-    event.preventDefault();
-  };
-  return el("div", { on: { keydown: walk } }, choices.length > 6 ? input : null, list);
+// a line for a reason, and what is asked about it; what was typed on since then stays
+/** @type {(why: WhyData, go: () => void) => (?HTMLElement)[]} */
+function reasonParts({ label, text, doubt }, go) {
+  const begun = doubt && isAsked ? find("why")?.value : null;
+  const more = { maxlength: "200", autofocus: true, value: begun ?? text };
+  const asked = doubt ? el("p", { cls: "warn", role: "alert" }, name(doubt), ONCE_MORE) : null;
+  return [...field("why", label, more, go), asked];
 }
 
 // a question of the office: its title and lines, perhaps costs, a list, a line to type, and a
@@ -189,14 +179,15 @@ export function ask(question, acts) {
     later = () => ask(question, acts);
     return;
   }
-  const { number: id, title, lines, answers, choices, costs, why, canWait } = question;
+  const { number: id, title, lines, answers, choices, costs, why, canWait, isCareful } = question;
+  const told = () => (why ? { why: find("why").value.trim() } : {});
   const back = () => {
+    const more = told();
     close();
-    acts.closeQuestion(id);
+    acts.closeQuestion(id, more);
   };
-  const typed = () => (why ? { why: find("why").value.trim() } : {});
   /** @type {(answer: string) => () => void} */
-  const go = (answer) => () => acts.answer(id, answer, typed());
+  const go = (answer) => () => acts.answer(id, answer, told());
   /** @type {(choice: number) => Promise<any>} */
   const choose = (choice) => acts.answer(id, null, { choice });
   const first = answers.length ? go(answers[0].name) : back;
@@ -204,19 +195,20 @@ export function ask(question, acts) {
   const made = answers.map((one, at) =>
     button(one.name, [one.said, one.key ? [" ", key(one.key.toUpperCase())] : null], go(one.name), {
       cls: at === 0 ? "primary" : "",
-      autofocus: at === 0 && !why,
+      autofocus: at === 0 && !why && !isCareful,
     })
   );
   const keyed = answers.filter((one) => one.key);
   const shown = el("div", { cls: "lines" }, lines.map(linePart));
-  const backButton = button("back", isRead ? "Go on" : "Back", back, { autofocus: isRead });
+  const isFirst = isRead || isCareful;
+  const backButton = button("back", isRead ? "Go on" : "Back", back, { autofocus: isFirst });
   open(
     title,
     [
       costs ? el("div", { cls: "two" }, shown, costTable(costs)) : shown,
       el("p", { id: "stale-preview", cls: "warn", hidden: true }),
-      choices.length ? choiceList(choices, choose) : null,
-      ...(why ? field("why", why.label, { maxlength: "200", autofocus: true }, first) : []),
+      choices.length ? choiceList(title.split(":")[0], choices, choose) : null,
+      ...(why ? reasonParts(why, first) : []),
       buttons(canWait ? backButton : null, made.reverse()),
     ],
     {
@@ -224,8 +216,11 @@ export function ask(question, acts) {
       letters: Object.fromEntries(keyed.map((one) => [one.key, go(one.name)])),
     }
   );
+  if (why?.doubt) find("why").setSelectionRange(-1, -1);
   isAsked = true;
 }
+
+const ONCE_MORE = " Enter once more goes on.";
 
 // what has become of the draft while its box is in front
 /** @type {(text: string) => void} */

@@ -23,7 +23,7 @@ const line = (cls, ...parts) => el("div", { cls: `line ${cls}` }, ...parts);
 
 const pencil = () => el("span", { cls: "pencil", "aria-hidden": "true" }, "✎");
 
-// what the week's title says already is dim
+// what the week's title says already is left out
 /**
  * @param {LectureData} lecture
  * @param {PairData} view
@@ -35,12 +35,12 @@ export function card(lecture, [kind], canMove, isMine) {
   const people = `${lecture.students}/${lecture.seats}`;
   return el(
     "div",
-    { cls: "card", css: { "--hue": lecture.hue } },
+    { cls: "card", css: { "--hue": lecture.hue }, title: lecture.told },
     line("", name(lecture.said, "course"), isMine ? pencil() : null, canMove ? grip : null),
     line(
       "place",
-      name(lecture.room_said, kind === "room" ? "room dim" : "room"),
-      name(lecture.teacher_said, kind === "teacher" ? "teacher dim" : "teacher")
+      kind === "room" ? null : name(lecture.room_said, "room"),
+      kind === "teacher" ? null : name(lecture.teacher_said, "teacher")
     ),
     line(
       "foot",
@@ -52,7 +52,7 @@ export function card(lecture, [kind], canMove, isMine) {
 
 /** @type {(lecture: LectureData) => string} */
 export function cardSaid(lecture) {
-  const found = [`${lecture.said} in ${lecture.room_said}, teacher ${lecture.teacher_said}`];
+  const found = [lecture.told];
   if (lecture.seats) found.push(`${lecture.students} students, ${lecture.seats} seats`);
   if (lecture.short) found.push(`${counted(lecture.short, "student")} without a seat`);
   if (lecture.alone) found.push(`alone on its day, ${counted(lecture.alone, "point")}`);

@@ -93,9 +93,10 @@ export function announce(text) {
   find("said").textContent = text;
 }
 
-/** @type {(text: string) => void} */
-export function banner(text) {
+/** @type {(text: string, more?: ?HTMLElement) => void} */
+export function banner(text, more = null) {
   const box = find("banner");
   box.hidden = !text;
-  if (box.textContent !== (text || "")) box.textContent = text || "";
+  if (box.dataset.text !== (text || "")) fill(box, text || "", more);
+  box.dataset.text = text || "";
 }

@@ -5,6 +5,9 @@ import { keyOf } from "./numbers.js";
 
 // so many pixels are no drag yet
 const NEAR = 6;
+// so long a finger rests that wants the menu, and what ends that
+const RESTS = 550;
+const ENDS = ["pointermove", "pointerup", "pointercancel", "contextmenu"];
 
 /**
  * @typedef {{ card: HTMLElement, slot: ?SlotData, missing?: string, x: number, y: number,
@@ -38,6 +41,7 @@ class Hand {
     const target = elementOf(event);
     /** @type {?HTMLElement} */
     const card = target?.closest(".card");
+    if (event.pointerType === "touch") this.waitForMenu(event);
     if (event.button !== 0 || !card || this.pressed || this.acts.isHolding()) return;
     // a finger scrolls, unless it takes the grip
     if (event.pointerType === "touch" && !target.closest(".grip")) return;
@@ -52,6 +56,29 @@ class Hand {
       id: event.pointerId,
       isDragging: false,
     };
+  }
+
+  // a finger that rests for a while asks for the menu, also where the browser does not say so
+  /** @type {(event: PointerEvent) => void} */
+  waitForMenu(event) {
+    const slot = this.week.slotAt(event.target);
+    const { clientX: x, clientY: y } = event;
+    const timer = setTimeout(() => done(true), RESTS);
+    /** @type {(has: boolean) => void} */
+    const done = (has) => {
+      clearTimeout(timer);
+      for (const one of ENDS) document.removeEventListener(one, leave, true);
+      if (!has || !slot || this.pressed?.isDragging) return;
+      this.stop();
+      this.acts.menu(slot);
+      swallowClick(RESTS * 4);
+    };
+    /** @type {(event: Event) => void} */
+    const leave = (next) => {
+      const { clientX, clientY, type } = /** @type {PointerEvent} */ (next);
+      if (type !== "pointermove" || Math.hypot(clientX - x, clientY - y) > NEAR) done(false);
+    };
+    for (const one of ENDS) document.addEventListener(one, leave, true);
   }
 
   /** @type {(event: PointerEvent) => void} */
@@ -156,14 +183,14 @@ class Hand {
 }
 
 // the click that follows a drag means nothing
-function swallowClick() {
+function swallowClick(during = 50) {
   /** @type {(event: Event) => void} */
   const eat = (event) => {
     event.stopPropagation();
     event.preventDefault();
   };
   window.addEventListener("click", eat, { capture: true, once: true });
-  setTimeout(() => window.removeEventListener("click", eat, { capture: true }), 50);
+  setTimeout(() => window.removeEventListener("click", eat, { capture: true }), during);
 }
 
 /** @type {(event: Event) => ?Element} */
@@ -184,6 +211,14 @@ export function makeHand(week, acts) {
     if (!slot) return;
     if (elementOf(event).closest("button.more")) acts.more(slot);
     else acts.tap(slot);
+  });
+  // by the right button, and by a finger that rests
+  grid.addEventListener("contextmenu", (event) => {
+    const slot = week.slotAt(event.target);
+    if (!slot) return;
+    event.preventDefault();
+    hand.stop();
+    acts.menu(slot);
   });
   grid.addEventListener("dblclick", (event) => {
     const slot = week.slotAt(event.target);

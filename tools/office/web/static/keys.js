@@ -3,6 +3,7 @@
 // dictates elsewhere.
 import { find, isTyping } from "./dom.js";
 import { isMenuOpen } from "./menu.js";
+import { slotOf } from "./numbers.js";
 
 /** @type {Record<string, [number, number]>} */
 const STEPS = {
@@ -17,25 +18,43 @@ const STEPS = {
 /** @type {(event: KeyboardEvent) => boolean} */
 const isPlain = (event) => !event.ctrlKey && !event.metaKey && !event.altKey;
 
+// what other programs take back, and make again, by these keys
+/** @type {(event: KeyboardEvent) => string} */
+function undoingOf({ ctrlKey, metaKey, altKey, shiftKey, key }) {
+  const letter = key.toLowerCase();
+  if (!(ctrlKey || metaKey) || altKey || !["z", "y"].includes(letter)) return "";
+  return letter === "y" || shiftKey ? "undo undo" : "undo";
+}
+
 /** @type {(acts: Acting, keys: KeyData[]) => void} */
 export function listenToKeys(acts, keys) {
   const names = new Map(keys.flatMap((one) => one.keys.map((key) => [key, one.name])));
 
   /** @type {(event: KeyboardEvent) => void} */
   function inWeek(event) {
+    const slot = slotOf(/** @type {HTMLElement} */ (event.target).dataset.at || "0,0");
+    if (event.key === "ContextMenu" || (event.shiftKey && event.key === "F10")) {
+      event.preventDefault();
+      acts.menu(slot);
+    }
     if (!isPlain(event) || isMenuOpen() || event.defaultPrevented) return;
     const step = STEPS[event.key];
     const name = names.get(event.key) || names.get(event.key.toLowerCase());
     if (step) acts.go(...step);
-    else if (name) acts.act(name);
+    else if (name) acts.act(name, event.key);
     else return;
     event.preventDefault();
   }
 
   /** @type {(event: KeyboardEvent) => void} */
   function anywhere(event) {
-    if (event.defaultPrevented || !isPlain(event) || isTyping()) return;
-    if (isMenuOpen() || find("box").open) return;
+    if (event.defaultPrevented || isTyping() || isMenuOpen() || find("box").open) return;
+    const undoing = undoingOf(event);
+    if (undoing) {
+      event.preventDefault();
+      acts.act(undoing);
+    }
+    if (!isPlain(event)) return;
     if (event.key === "Escape" && acts.isHolding()) acts.act("lay down");
     else if (event.key === "/") acts.act("view");
     else if (event.key === "?") acts.act("help");

@@ -1,7 +1,11 @@
 // @ts-check
-// A short list beside a slot: rooms, or partners of a swap, by price.
+// A short list beside a slot: rooms, or partners of a swap, by price, or what can be done there.
 import { el, name } from "./dom.js";
-import { kindOf, signed } from "./numbers.js";
+import { delta } from "./numbers.js";
+
+// an offer as a row of a list
+/** @type {(offer: OfferData) => HTMLElement[]} */
+export const offerRow = ([price, , said]) => [delta(price), name(said, "strong")];
 
 /** @type {?{ box: HTMLElement, back: () => void }} */
 let shown = null;
@@ -39,15 +43,15 @@ function put(box, anchor) {
 /**
  * @param {HTMLElement} anchor
  * @param {string} label
- * @param {OfferData[]} offers
+ * @param {any[][]} rows
  * @param {(place: number) => void} choose
  * @param {() => void} back
  */
-export function openMenu(anchor, label, offers, choose, back) {
+export function openMenu(anchor, label, rows, choose, back) {
   closeMenu();
   const list = el("ul", { role: "listbox", tabindex: "0", "aria-label": label, cls: "menu" });
   let at = 0;
-  const items = offers.map(([price, , said], place) =>
+  const items = rows.map((parts, place) =>
     el(
       "li",
       {
@@ -55,8 +59,7 @@ export function openMenu(anchor, label, offers, choose, back) {
         id: `offer-${place}`,
         on: { click: () => take(place), pointermove: () => go(place) },
       },
-      el("span", { cls: `delta ${kindOf(price)}` }, signed(price)),
-      name(said, "strong")
+      ...parts
     )
   );
   list.append(...items);

@@ -1,5 +1,6 @@
 // @ts-check
 // Numbers, prices and slots as they are read.
+import { el } from "./dom.js";
 
 /** @type {(n: number) => string} */
 export const number = (n) => n.toLocaleString("en-GB");
@@ -9,6 +10,8 @@ export const signed = (n) => (n > 0 ? `+${number(n)}` : n < 0 ? `−${number(-n)
 export const counted = (n, noun) => `${number(n)} ${noun}${n === 1 ? "" : "s"}`;
 /** @type {(price: number) => "good" | "dear" | "same"} */
 export const kindOf = (price) => (price < 0 ? "good" : price > 0 ? "dear" : "same");
+/** @type {(price: number) => HTMLElement} */
+export const delta = (price) => el("span", { cls: `delta ${kindOf(price)}` }, signed(price));
 /** @type {(numbers: number[]) => number} */
 export const sum = (numbers) => numbers.reduce((all, one) => all + one, 0);
 /** @type {(slot: SlotData) => string} */

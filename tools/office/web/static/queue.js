@@ -1,7 +1,7 @@
 // @ts-check
 // Acts one after another: what was pressed before has its effect first, and a key that was meant
 // for the week does nothing after a box or a list that has come up meanwhile.
-import { hasLater } from "./boxes.js";
+import { hasLater, typedAhead } from "./boxes.js";
 import { menuInFront } from "./menu.js";
 import { toast } from "./toasts.js";
 
@@ -28,7 +28,7 @@ export function makeQueue(app) {
     const [question, menu] = [hasLater() ? null : app.question, menuInFront()];
     const isFree = () => app.question === question && (!menuInFront() || menuInFront() === menu);
     tell(1);
-    const done = last.then(() => (isFree() ? act() : null));
+    const done = last.then(() => (isFree() ? act() : typedAhead()));
     // those after one that fails have their turn all the same
     last = done.catch(failed).then(() => tell(-1));
     return done;

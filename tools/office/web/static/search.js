@@ -1,6 +1,7 @@
 // @ts-check
 // The box in which one types whose week is to be seen.
 import { el, find, name } from "./dom.js";
+import { folded, searched } from "./folding.js";
 
 const MOST = 40;
 /** @type {Record<string, number>} */
@@ -38,7 +39,7 @@ class Search {
   /** @type {(named: NamesData["named"]) => void} */
   rename(named) {
     this.all = Object.entries(named).flatMap(([kind, names]) =>
-      names.map(([code, said]) => ({ kind, code, said, text: `${said} ${code}`.toLowerCase() }))
+      names.map(([code, said]) => ({ kind, code, said, text: searched(`${said} ${code}`) }))
     );
   }
 
@@ -47,7 +48,7 @@ class Search {
   }
 
   matches() {
-    const words = this.input.value.toLowerCase().split(/\s+/).filter(Boolean);
+    const words = folded(this.input.value).split(/\s+/).filter(Boolean);
     /** @type {(one: Hit, word: string) => boolean} */
     const isIn = (one, word) => one.text.includes(word) || one.kind.startsWith(word);
     /** @type {(one: Hit) => boolean} */

@@ -1,12 +1,15 @@
 // @ts-check
 // The seat in a browser: what is known, and what is drawn when it changes.
-import { makeActs } from "./acts.js";
+import { makeActs } from "./acting.js";
+import { drawBar } from "./bar.js";
 import * as boxes from "./boxes.js";
-import { announce, banner, el, fill, find, name } from "./dom.js";
+import { drawCosts } from "./costs.js";
+import { announce, banner, button, el, fill, find, name } from "./dom.js";
 import { makeHand } from "./hand.js";
 import { listenToKeys } from "./keys.js";
 import { act, ask, Fault, keepListening, takeKey } from "./link.js";
 import { Look } from "./look.js";
+import { drawNews } from "./news.js";
 import { keyOf } from "./numbers.js";
 import { makeQueue } from "./queue.js";
 import { makeSearch } from "./search.js";
@@ -34,14 +37,12 @@ const app = {
   fault: "",
   waits: "",
 };
-const LEFT = "You have left the seat: load this page anew to sit down.";
+const LEFT = "You have left the seat.";
 /** @type {Week} */ let week;
 /** @type {Acting} */ let acts;
 /** @type {Look} */ let look;
 /** @type {ReturnType<typeof makeSearch>} */ let search;
 /** @type {ReturnType<typeof makeHand>} */ let hand;
-
-// drawing
 
 function drawWeek() {
   const { week: told, held } = app.picture;
@@ -56,7 +57,7 @@ function drawWeek() {
 }
 
 function drawState() {
-  side.drawCosts(app);
+  drawCosts(app, acts);
   side.drawDraft(app, acts);
   side.drawMissing(app, acts);
   side.drawBlocked(app);
@@ -70,8 +71,11 @@ const hasClosed = () => app.closes !== null && toClose() < 0;
 // a desk that has died is told before the farewell; one that ends in its time has closed
 function drawBanner() {
   const why = (hasClosed() ? "" : app.fault) || (app.isOver ? "" : app.lost);
-  banner(why || app.waits || closing() || app.picture?.state.alarm || "");
+  const text = why || app.waits || closing() || app.picture?.state.alarm || "";
+  banner(text, text === LEFT ? sitAgain() : null);
 }
+
+const sitAgain = () => button("sit", "Sit down again", () => location.reload());
 
 function leave() {
   app.isOver = true;
@@ -119,7 +123,6 @@ function takeState(state) {
 }
 
 // what is asked
-
 /** @type {Parts["turn"]} */
 async function turn(verb, told = {}) {
   try {
@@ -135,7 +138,6 @@ async function turn(verb, told = {}) {
 }
 
 // what the office says by itself
-
 /** @type {(event: EventData) => void} */
 function hear(event) {
   if (event.names) rename(event);
@@ -148,7 +150,7 @@ function hear(event) {
   if (event.news) event.news.forEach(tellNews);
   if (event.picture) take(event);
   else if (event.state) takeState(event.state);
-  if (event.news) side.drawNews(app);
+  if (event.news) drawNews(app, acts);
   drawBanner();
 }
 
@@ -159,7 +161,7 @@ function rename({ names, accepted }) {
   app.news = accepted;
   week.rename(names);
   search.rename(names.named);
-  side.drawNews(app);
+  drawNews(app, acts);
 }
 
 /** @type {(one: NewsData) => void} */
@@ -180,10 +182,9 @@ function newsOf(one) {
   announce(one.text);
   setTimeout(() => {
     app.unseen.delete(one.number);
-    side.drawNews(app);
+    drawNews(app, acts);
   }, NEW);
 }
-
 /** @type {(fault: Fault) => void} */
 function lost(fault) {
   // an office that has closed answers no more
@@ -192,8 +193,6 @@ function lost(fault) {
   document.body.classList.add("lost");
   drawBanner();
 }
-
-// the beginning, and each time that the office has been away
 
 function where() {
   const view = JSON.parse(sessionStorage.getItem(VIEW) || "null");
@@ -222,13 +221,12 @@ async function begin() {
   if (isFirst) build(found);
   else rename({ names: found, accepted: found.news });
   side.drawPeople(found.people, app.day);
-  side.drawNews(app);
+  drawNews(app, acts);
   take(found);
   if (isFirst) look.toFirst();
   if (isFirst && !app.question) acts.toWeek();
   performance.mark("ready");
 }
-
 /** @type {(found: HelloData) => void} */
 function build(found) {
   find("day").textContent = found.day;
@@ -251,6 +249,7 @@ function build(found) {
   look.acts = acts;
   hand = makeHand(week, acts);
   listenToKeys(acts, found.keys);
+  drawBar(found.keys, acts);
   find("search-input").addEventListener("blur", boxes.askLater);
   setInterval(() => (app.closes || app.isOver) && drawBanner(), 1000);
 }

@@ -1,64 +1,14 @@
 // @ts-check
-// The cost above the week, and the panels beside it: the draft, what is missing, what others did.
+// The panels beside the week: the draft, what is missing, what is blocked; and who sits.
 import { button, el, find, key, name, refill } from "./dom.js";
-import { counted, kindOf, number, signed, sum } from "./numbers.js";
+import { counted, delta, sum } from "./numbers.js";
 
-// so many courses and drafts are listed
+// so many courses are listed
 const COURSES = 60;
-const DRAFTS = 30;
 
 /** @type {(text: string, count?: number) => HTMLElement} */
-const title = (text, count) =>
+export const title = (text, count) =>
   el("h2", {}, text, count === undefined ? null : el("span", { cls: "count" }, String(count)));
-
-/** @type {(n: number) => ?HTMLElement} */
-const delta = (n) => (n ? el("span", { cls: `delta ${kindOf(n)}` }, signed(n)) : null);
-
-// what the timetable costs, with its parts, and how the draft changes them
-/** @type {(app: Known) => void} */
-export function drawCosts({ picture, day }) {
-  const { costs, draft, missing, ended } = picture.state;
-  const all = Object.values(costs);
-  const base = draft?.base || null;
-  const saved = draft && draft.base_total !== null ? sum(all) - draft.base_total : 0;
-  const parts = day.parts.map((part) =>
-    el(
-      "div",
-      { cls: "part", title: day.meanings[part] },
-      el("span", { cls: "label" }, part),
-      el("span", { cls: "value" }, number(costs[part] ?? 0)),
-      base ? delta((costs[part] ?? 0) - base[part]) : null
-    )
-  );
-  const value = el("span", { cls: "value" }, number(sum(all)));
-  const total = [el("span", { cls: "label" }, "Cost"), value];
-  const count = sum(missing.map((one) => one.count));
-  refill(
-    find("costs"),
-    el("div", { cls: "total" }, total, delta(saved)),
-    parts,
-    el(
-      "div",
-      { cls: `part missing ${count ? "some" : ""}` },
-      el("span", { cls: "label" }, "missing"),
-      el("span", { cls: "value" }, number(count))
-    ),
-    el("div", { cls: "state" }, draftSaid(draft, ended))
-  );
-}
-
-/** @type {(draft: ?DraftData, ended: string[]) => any} */
-function draftSaid(draft, ended) {
-  /** @type {(text: string, cls?: string) => HTMLElement} */
-  const pill = (text, cls = "") => el("span", { cls: `pill ${cls}` }, name(text));
-  if (ended.length) return pill("draft not accepted", "bad");
-  if (!draft) return pill("no draft open");
-  return [
-    draft.stale_preview ? pill("stale by now", "bad") : null,
-    pill(`your draft: ${counted(draft.edits.length, "edit")}`, "open"),
-    draft.since ? pill(`${draft.since} accepted since`) : null,
-  ];
-}
 
 // who sits
 
@@ -74,7 +24,7 @@ const initials = (text) =>
     .toUpperCase();
 
 /** @type {(seat: number, who: string, cls?: string) => HTMLElement} */
-function face(seat, who, cls = "") {
+export function face(seat, who, cls = "") {
   const css = { "--hue": hueOf(seat) };
   return el("span", { cls: `face ${cls}`, "aria-hidden": "true", css }, initials(who) || "?");
 }
@@ -98,7 +48,7 @@ export function drawPeople(people, day) {
 /** @type {(edit: { text: string, price?: ?number }, more?: ?HTMLElement) => HTMLElement} */
 const editItem = (edit, more) => {
   const price = edit.price ?? null;
-  const told = price === null ? null : el("span", { cls: `delta ${kindOf(price)}` }, signed(price));
+  const told = price === null ? null : delta(price);
   return el("li", {}, name(edit.text), told, more);
 };
 
@@ -126,13 +76,23 @@ export function drawDraft({ picture }, acts) {
     const hint = "The first edit opens a draft. Others see it when you commit it.";
     return refill(box, title("Your draft"), el("p", { cls: "hint" }, hint));
   }
-  const { edits, left_out: left, stale_preview: stale } = draft;
-  const undo = act("undo", "Undo", { cls: "link", title: "U" });
+  const { edits, taken_back: gone, left_out: left, stale_preview: stale } = draft;
   const last = edits.length - 1;
+  /** @type {(edit: EditData, at: number) => HTMLElement} */
+  const undo = ({ edit }, at) =>
+    button(`undo ${at}`, "Undo", () => acts.takeBack(at, edit), {
+      cls: "link",
+      title: at === last ? "U or Ctrl-Z" : "takes this edit back",
+    });
+  /** @type {(edit: EditData) => HTMLElement} */
+  const again = ({ edit }) =>
+    button(`again ${edit}`, "Make again", () => acts.makeOne(edit), { cls: "link" });
   refill(
     box,
     title("Your draft", edits.length),
-    el("ol", { cls: "edits" }, edits.map((edit, at) => editItem(edit, at === last ? undo : null))),
+    el("ol", { cls: "edits" }, edits.map((edit, at) => editItem(edit, undo(edit, at)))),
+    gone.length ? el("h3", {}, "Taken back") : null,
+    gone.length ? el("ul", { cls: "gone" }, gone.map((one) => editItem(one, again(one)))) : null,
     left.length ? [el("h3", {}, "Not made again"), el("ul", {}, left.map(told))] : null,
     el(
       "div",
@@ -148,7 +108,7 @@ export function drawDraft({ picture }, acts) {
 
 const STANDS = "Nothing that it stands on has changed.";
 /** @type {(text: string) => HTMLElement} */
-const told = (text) => el("li", {}, name(text));
+export const told = (text) => el("li", {}, name(text));
 
 // what is missing
 
@@ -180,7 +140,8 @@ export function drawMissing({ picture }, acts) {
         cls: "card",
         css: { "--hue": one.hue },
         data: { missing: one.course, id: one.course },
-        "aria-label": `Pick up ${one.said}, ${one.count} missing, ${one.students} students`,
+        title: one.told,
+        "aria-label": `Pick up ${one.told}, ${one.count} missing, ${one.students} students`,
       }
     );
   const rest = missing.length - COURSES;
@@ -200,33 +161,4 @@ export function drawBlocked({ picture }) {
   const box = find("blocked");
   box.hidden = blocked.length === 0;
   refill(box, title("Blocked", blocked.length), el("ul", {}, blocked.map(told)));
-}
-
-// what was accepted
-
-/** @type {(app: Known) => void} */
-export function drawNews({ news, day, unseen }) {
-  /** @type {(one: NewsData) => HTMLElement} */
-  const item = (one) =>
-    el(
-      "li",
-      { cls: unseen.has(one.number) ? "fresh" : "" },
-      el(
-        "div",
-        { cls: "by" },
-        face(one.seat, one.who, "small"),
-        name(one.who, "strong"),
-        one.seat === day.seat ? " (you)" : null,
-        el("span", { cls: "when" }, `draft ${one.number} · ${one.when}`)
-      ),
-      one.why ? el("p", { cls: "reason" }, "“", name(one.why), "”") : null,
-      el("ul", {}, one.edits.map(told))
-    );
-  const hint = "Nothing yet. What others commit appears here at once.";
-  const list = [...news].reverse().slice(0, DRAFTS).map(item);
-  refill(
-    find("news"),
-    title("Accepted today", news.length || undefined),
-    news.length ? el("ol", { cls: "drafts" }, list) : el("p", { cls: "hint" }, hint)
-  );
 }

@@ -22,7 +22,7 @@ export function toast(kind, text, more = []) {
 }
 
 // what is seen beside the week already is heard alone
-const SEEN = ["cheapest in", "cheapest with", "stays"];
+const SEEN = ["cheapest in", "cheapest with", "stands best", "stays"];
 
 /** @type {(notice: NoticeData, acts: Acting) => void} */
 export function toastNotice({ code, text, isBad, price }, acts) {
@@ -33,9 +33,7 @@ export function toastNotice({ code, text, isBad, price }, acts) {
     acts.toWeek();
     acts.act("undo");
   };
-  const more = [
-    el("span", { cls: `delta ${kindOf(price)}` }, signed(price ?? 0)),
-    button("undo", "Undo", undo, { cls: "link" }),
-  ];
-  toast(isBad ? "bad" : "said", text, price === undefined ? [] : more);
+  const told = el("span", { cls: `delta ${kindOf(price)}` }, signed(price ?? 0));
+  const more = [price === undefined ? null : told, button("undo", "Undo", undo, { cls: "link" })];
+  toast(isBad ? "bad" : "said", text, code === "done" ? more.filter(Boolean) : []);
 }
