@@ -32,6 +32,8 @@ def add_data(commands: Commands) -> None:
     one.add_argument("--follow", action="store_true", help=follow)
     does = "tell whose weeks have changed as JSON, one in a line"
     one.add_argument("--json", action="store_true", help=does)
+    does = "add a page in which a visitor checks the timetable, with the whole instance in it"
+    one.add_argument("--with-check", dest="with_check", action="store_true", help=does)
     one.set_defaults(do=do_publish)
 
 
@@ -65,6 +67,8 @@ def do_export(words: argparse.Namespace) -> int:
 
 
 def do_publish(words: argparse.Namespace) -> int:
-    from office.data.publishing import publish
+    from office.data.own_check import read_page
+    from office.data.publishing import Wanted, publish
 
-    return publish(Day(words.day), words.folder, words.follow, words.json)
+    wanted = Wanted(words.json, read_page() if words.with_check else None)
+    return publish(Day(words.day), words.folder, words.follow, wanted)

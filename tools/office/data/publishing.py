@@ -13,7 +13,8 @@ from typing import NamedTuple, Optional
 
 from office.data.changed_weeks import by_view, changes_between
 from office.data.label_files import read_labels
-from office.data.site import Published, Site
+from office.data.own_check import SHOWN, check_of
+from office.data.site import CHECK, Published, Site
 from office.day.folder import Day
 from office.day.lecture import Lecture
 from office.day.parts import DayMinutes
@@ -146,7 +147,16 @@ class Folder:
                 shutil.rmtree(self.version(int(name)), ignore_errors=True)
 
 
-def publish_once(day: Day, folder: Folder, is_json: bool) -> None:
+class Wanted(NamedTuple):
+    """What is asked of a publishing beside the weeks."""
+
+    # to tell of changes in a form for programs
+    is_json: bool = False
+    # the page in which visitors check the timetable, before files are in it
+    check: Optional[str] = None
+
+
+def publish_once(day: Day, folder: Folder, wanted: Wanted) -> None:
     """Publishes the newest timetable of a day, and says whose weeks have changed."""
     at, labels = read_at(day), read_labels(day.path)
     now = datetime.datetime.now(datetime.timezone.utc)
@@ -156,8 +166,10 @@ def publish_once(day: Day, folder: Folder, is_json: bool) -> None:
     if changed or not history:
         when = time.strftime("%Y-%m-%d %H:%M", time.localtime(now.timestamp()))
         history = [*history, Published(when, changed)][-REMEMBERED:]
-    site = Site(at, labels, history, now)
+    site = Site(at, labels, history, now, has_check=wanted.check is not None)
     files = site.files()
+    if wanted.check is not None:
+        files[CHECK] = check_of(wanted.check, at, labels).encode()
     files[STATE] = state_text(State(at.lectures, history))
     files = folder.settled(files)
     for note in site.notes:
@@ -173,18 +185,21 @@ def publish_once(day: Day, folder: Folder, is_json: bool) -> None:
         if view.kind in PEOPLE:
             person = site.person(view, shifts, files)
             line = f"{site.wording.view(*view)}: {'; '.join(person['changes'])}"
-            print(json.dumps(person, ensure_ascii=False) if is_json else line, flush=True)
+            told = json.dumps(person, ensure_ascii=False) if wanted.is_json else line
+            print(told, flush=True)
 
 
-def publish(day: Day, path: str, follows: bool, is_json: bool) -> int:
+def publish(day: Day, path: str, follows: bool, wanted: Wanted) -> int:
     """Publishes a day; with `follows` again after each accepted draft, until the day is closed."""
     day.facts()
     folder = Folder(path)
+    if wanted.check is not None:
+        print(f"office: {SHOWN}", file=sys.stderr, flush=True)
     minutes = DayMinutes(day)
     while True:
         is_open = follows and day.is_open()
         minutes.read_to_end()
-        publish_once(day, folder, is_json)
+        publish_once(day, folder, wanted)
         if not is_open:
             return 0
         time.sleep(PACE)
