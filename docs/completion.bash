@@ -64,7 +64,7 @@ _timedesk_known() {
 # end of words
 # the words of office, by tools/flags.py
 _office_commands=(open sit web status close block unblock blocks log show diff revert import export publish)
-_office_bare='--costs --csv --follow --help --html --ics --json --links --plain --unproved --web'
+_office_bare='--costs --csv --follow --help --html --ics --json --links --plain --unproved --web --with-check'
 _office_known() {
     case $1 in
     '') options='--help --unproved' ;;
@@ -82,7 +82,7 @@ _office_known() {
     revert) options='--help --name --seat' ;;
     import) options='--help --output' ;;
     export) options='--at --help --output' ;;
-    publish) options='--follow --help --json' ;;
+    publish) options='--follow --help --json --with-check' ;;
     *) options=--help ;;
     esac
 }

@@ -35,9 +35,8 @@ def words() -> argparse.ArgumentParser:
         metavar=("INSTANCE", "SOLUTION"),
         help="put these files into it, which it checks as it opens",
     )
-    parser.add_argument(
-        "--tree", default=TOP, help="a copy of these sources in which `rt ci` has built libraries"
-    )
+    does = "a copy of these sources in which `rt ci` has built the libraries"
+    parser.add_argument("--tree", metavar="FOLDER", help=does)
     parser.add_argument("--module", metavar="FILE", help="write the module alone to this file, too")
     return parser
 
@@ -53,11 +52,13 @@ def commit() -> str:
     return head.stdout.strip() + (", with changes" if other.stdout else "")
 
 
-def build_below(tree: str) -> None:
-    """Has `rt` prove and build what the crate stands on, if it has not yet."""
-    made = os.path.join(tree, "crates", CRATE, "out", f"lib{CRATE}.a")
-    if not os.path.exists(made):
-        run(["rt", "lib"], os.path.join(tree, "crates", CRATE))
+def tree_of(asked: argparse.Namespace) -> str:
+    """The sources whose libraries are built: a copy that is named, or these, whose libraries `rt`
+    proves and builds now if it has not yet."""
+    if asked.tree:
+        return str(os.path.abspath(asked.tree))
+    run(["rt", "lib"], os.path.join(TOP, "crates", CRATE))
+    return TOP
 
 
 def read(path: str) -> bytes:
@@ -93,9 +94,7 @@ def tell(path: str, page: bytes, modules: Modules) -> None:
 
 def make(asked: argparse.Namespace) -> None:
     files = given(asked.pair) if asked.pair else []
-    kit, tree = find_kit(), os.path.abspath(asked.tree)
-    build_below(tree)
-    modules = make_modules(kit, tree)
+    modules = make_modules(find_kit(), tree_of(asked))
     page = make_page(modules, commit())
     write(KEPT, page.encode())
     if files:

@@ -55,6 +55,7 @@ fn behind(bytes: &[u8], start: usize) -> &[u8]
 }
 
 /// Returns a part of the bytes.
+#[tactic(auto, unfolding(crate::specs::Asked::part_of))]
 pub(crate) fn bytes_at(bytes: &[u8], part: Part) -> &[u8]
     ensures { result.now ≡ part_of bytes.now part }
 {

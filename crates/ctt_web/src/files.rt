@@ -26,6 +26,7 @@ impl<'a> PageFiles<'a> {
 }
 
 /// Returns the text of the file of this name.
+#[tactic(auto, unfolding(crate::specs::Asked::text_of))]
 fn text_of<'a>(bytes: &'a [u8], asked: &Asked, name: &[u8]) -> Option<&'a [u8]>
     ensures { option_map (λ text. text.now) result ≡ held_of bytes.now asked.now name.now }
 {
