@@ -8,7 +8,7 @@ from typing import FrozenSet, Iterable, List, Optional, Set, Tuple
 
 CRATES = pathlib.Path(__file__).resolve().parent.parent / "crates"
 LAWS = re.compile(r"laws$")
-HEAD = re.compile(r"^ *(pub(?:\([a-z]+\))? )?(?:const )?fn ([a-z_0-9]+)")
+HEAD = re.compile(r"^ *(pub(?:\([a-z]+\))? )?(?:const |extern .C. )?fn ([a-z_0-9]+)")
 CLAUSE = re.compile(r"^ *ensures (?:([a-z_0-9]+) )?\{")
 TYPE = re.compile(r"^(?:pub(?:\([a-z]+\))? )?(?:struct|enum|trait|type) (\w+)")
 TRAIT = re.compile(r"^(?:pub(?:\([a-z]+\))? )?trait (\w+)")
