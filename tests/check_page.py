@@ -18,8 +18,10 @@ import sys
 import tempfile
 
 sys.dont_write_bytecode = True
+sys.path.insert(0, os.path.join(os.path.dirname(os.path.abspath(__file__)), "check_page"))
 from drawn import draw_blocked, draw_instance, draw_solution  # noqa: E402
 from points import WAYS, break_text  # noqa: E402
+from opened import open_page  # noqa: E402
 from program import HERE, PROGRAM, check, end  # noqa: E402
 from rules import Instance  # noqa: E402
 
@@ -159,6 +161,7 @@ def main():
         made = make_modules(folder)
         if made:
             compare_modules(folder, *made[:2])
+            open_page(made[2], folder, skip)
     end()
 
 

@@ -91,7 +91,8 @@ def functions_of(crate: str, path: pathlib.Path, exported: FrozenSet[str]) -> It
             of = owners or module
             # a method of a trait is as public as the trait
             is_open = head.group(1) == "pub " or is_trait
-            heads.append((head.group(2), of, is_open and bool(exported & (of or {head.group(2)}))))
+            is_given = bool(exported & (of or {head.group(2)})) or " extern " in line
+            heads.append((head.group(2), of, is_open and is_given))
             clauses.append([])
         elif clause and clauses:
             clauses[-1].append(clause.group(1) or "")

@@ -23,6 +23,7 @@ from office.refused import Refused
 
 HERE = os.path.dirname(os.path.abspath(__file__))
 CRATE = "ctt_web"
+KEPT = "out/incremental"
 TARGET = "wasm64-unknown-unknown"
 EXPORTS = tuple(f"timedesk_{name}" for name in ("report", "sentences", "row", "findings", "page"))
 FLAGS = f"""--target={TARGET} -mcpu=lime1 -mllvm -expand-div-rem-bits=64 -mllvm
@@ -57,11 +58,14 @@ def crate_words(kit: Kit, tree: str) -> list[str]:
         del sys.path[0]
     was = os.getcwd()
     os.chdir(folder)
+    # what `rt` has proved of the same files is not proved again
+    os.makedirs(KEPT, exist_ok=True)
     try:
         with contextlib.redirect_stdout(io.StringIO()):
-            return list(rtlib.Crate(folder, tree, {}).words(["--jobs", "1"]))
+            words = rtlib.Crate(folder, tree, {}).words(["--jobs", "1"])
     finally:
         os.chdir(was)
+    return [*words, "--incremental", KEPT]
 
 
 def lay_toolchain(kit: Kit, room: str) -> str:

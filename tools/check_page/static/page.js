@@ -63,7 +63,7 @@ function refuse(question, said) {
   const fault = faultOf(said, those.map((file) => file.name));
   const file = those.find((one) => one.name === fault.file);
   open("refused", ...(questions.length > 1 ? ["ranking"] : []));
-  byId("code").textContent = fault.line;
+  byId("said").textContent = said;
   byId("excerpt").replaceChildren();
   if (file) {
     showFault(fault, file.text);

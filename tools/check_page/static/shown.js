@@ -113,5 +113,4 @@ export function showFault(fault, text) {
     return made("div", {}, label, ...(Array.isArray(inside) ? inside : [inside]));
   });
   byId("excerpt").replaceChildren(...lines);
-  byId("code").textContent = `timedesk says: ${fault.line}`;
 }
