@@ -45,6 +45,8 @@ def add_data(commands: Commands) -> None:
     when.add_argument("--from", metavar="DATE", dest="since", type=date_of, help=does)
     does = "changes hold for the whole term, also where it is past"
     when.add_argument("--whole-term", action="store_true", help=does)
+    does = "add a page in which a visitor checks the timetable, with the whole instance in it"
+    one.add_argument("--with-check", dest="with_check", action="store_true", help=does)
     one.set_defaults(do=do_publish)
 
 
@@ -89,8 +91,10 @@ def do_export(words: argparse.Namespace) -> int:
 
 
 def do_publish(words: argparse.Namespace) -> int:
-    from office.data.publishing import publish
+    from office.data.own_check import read_page
+    from office.data.publishing import Wanted, publish
     from office.data.telling import From
 
     since = From(words.since, words.whole_term)
-    return publish(Day(words.day), words.folder, words.follow, words.json, since)
+    wanted = Wanted(since, words.json, read_page() if words.with_check else None)
+    return publish(Day(words.day), words.folder, words.follow, wanted)

@@ -13,8 +13,9 @@ from typing import NamedTuple, Optional
 
 from office.data.changed_weeks import by_view, changes_between
 from office.data.label_files import check_zone, read_labels
+from office.data.own_check import SHOWN, check_of
 from office.data.plan_book import FILE as BOOK, Book, book_in, book_text, new_book, newer, read_book
-from office.data.site import Published, Site
+from office.data.site import CHECK, Published, Site
 from office.data.telling import From, Told, first_book
 from office.day.folder import Day
 from office.day.lecture import Lecture
@@ -134,6 +135,17 @@ class Folder:
                 shutil.rmtree(self.version(int(name)), ignore_errors=True)
 
 
+class Wanted(NamedTuple):
+    """What is asked of a publishing beside the weeks."""
+
+    # the date from which on it holds
+    since: From
+    # to tell of changes in a form for programs
+    is_json: bool = False
+    # the page in which visitors check the timetable, before files are in it
+    check: Optional[str] = None
+
+
 def book_of(day: Day, folder: Folder, state: Optional[State], plan: str) -> Book:
     """What calendars have told of a plan so far."""
     text = folder.old(BOOK)
@@ -154,22 +166,24 @@ def keep_book(day: Day, book: Book) -> str:
     return ""
 
 
-def publish_once(day: Day, folder: Folder, is_json: bool, since: From) -> None:
+def publish_once(day: Day, folder: Folder, wanted: Wanted) -> None:
     """Publishes the newest timetable of a day, and says whose weeks have changed."""
     at, labels = read_at(day), read_labels(day.path)
     check_zone(labels, day.path)
     now = datetime.datetime.now(datetime.timezone.utc)
     state = read_state(folder.old(STATE))
     book = book_of(day, folder, state, at.instance.name)
-    told = Told(book, at, labels, since.text(now, labels.zone), f"{now:%Y%m%dT%H%M%SZ}")
+    told = Told(book, at, labels, wanted.since.text(now, labels.zone), f"{now:%Y%m%dT%H%M%SZ}")
     holds = told.since[:10] if labels.term else ""
     changed = changes_between(state.lectures, at.lectures) if state else []
     history = state.history if state else []
     if changed or not history:
         when = time.strftime("%Y-%m-%d %H:%M", time.localtime(now.timestamp()))
         history = [*history, Published(when, changed, holds)][-REMEMBERED:]
-    site = Site(at, labels, history, told.book)
+    site = Site(at, labels, history, told.book, has_check=wanted.check is not None)
     files = site.files()
+    if wanted.check is not None:
+        files[CHECK] = check_of(wanted.check, at, labels).encode()
     files[STATE], files[BOOK] = state_text(State(at.lectures, history)), book_text(told.book)
     for note in filter(None, [*told.notes, *site.notes, keep_book(day, told.book)]):
         print("office:", note, file=sys.stderr)
@@ -184,18 +198,20 @@ def publish_once(day: Day, folder: Folder, is_json: bool, since: From) -> None:
         if view.kind in PEOPLE:
             person = site.person(view, shifts, files)
             line = f"{site.wording.view(*view)}: {'; '.join(person['changes'])}"
-            print(json.dumps(person, ensure_ascii=False) if is_json else line, flush=True)
+            print(json.dumps(person, ensure_ascii=False) if wanted.is_json else line, flush=True)
 
 
-def publish(day: Day, path: str, follows: bool, is_json: bool, since: From) -> int:
+def publish(day: Day, path: str, follows: bool, wanted: Wanted) -> int:
     """Publishes a day; with `follows` again after each accepted draft, until the day is closed."""
     day.facts()
     folder = Folder(path)
+    if wanted.check is not None:
+        print(f"office: {SHOWN}", file=sys.stderr, flush=True)
     minutes = DayMinutes(day)
     while True:
         is_open = follows and day.is_open()
         minutes.read_to_end()
-        publish_once(day, folder, is_json, since)
+        publish_once(day, folder, wanted)
         if not is_open:
             return 0
         time.sleep(PACE)

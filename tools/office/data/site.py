@@ -21,7 +21,7 @@ from office.words.text import counted, shown
 from office.words.wording import Wording
 from office.work.week import View, all_views
 
-INDEX, CHANGES = "index.html", "changes.html"
+INDEX, CHANGES, CHECK = "index.html", "changes.html", "check.html"
 TITLES = {"teacher": "Teachers", "curriculum": "Curricula", "room": "Rooms", "course": "Courses"}
 LONGEST = 60
 # how many publishings with changes in a week are told on its page
@@ -80,13 +80,17 @@ def leading_page(path: str) -> str:
 class Site:
     """The files of a timetable, by their paths."""
 
-    def __init__(self, at: At, labels: Labels, history: list[Published], book: Book) -> None:
+    def __init__(
+        self, at: At, labels: Labels, history: list[Published], book: Book, has_check: bool = False
+    ) -> None:
         self.at = at
         self.labels = labels
         # the newest last
         self.history = history
         self.book = book
         self.events = Events(book)
+        # whether a page stands beside the weeks in which a visitor checks them
+        self.has_check = has_check
         self.wording = Wording({}, labels)
         # what was changed in each week, the newest first
         self.changed: dict[View, list[tuple[Published, list[Shift]]]] = {}
@@ -169,7 +173,10 @@ class Site:
             dates = f"{name}{self.labels.term.first} to {self.labels.term.last}"
             parts.append(f"<p>{escape(dates)}</p>\n")
         count = f"{counted(len(newest.changes), 'lecture')} changed" if newest.changes else "new"
-        parts.append(f"<p>{newest.time}: {link(CHANGES, count)}</p>\n</header>\n<main>\n")
+        parts.append(f"<p>{newest.time}: {link(CHANGES, count)}</p>\n")
+        if self.has_check:
+            parts.append(f"<p>{link(CHECK, 'Check this timetable yourself')}</p>\n")
+        parts.append("</header>\n<main>\n")
         views = all_views(self.at.instance)
         for kind, title in TITLES.items():
             of_kind = [view for view in views if view.kind == kind]
