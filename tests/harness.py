@@ -81,7 +81,7 @@ def add_sub_test(self, _, part, fault):
     """A part of a test, `with self.subTest(..)`, has ended; behind a bad one the others go on."""
     if fault is None:
         return
-    if not self._excinfo:
+    if not self.__dict__.get("_excinfo"):
         self.addFailure(part, fault)
     text = "".join(traceback.format_exception(*fault))
     self.add_report_section("call", "part", f"{part.id()}\n{text}")
@@ -136,7 +136,8 @@ class Ends:
         yield
         for item in session.items:
             if name_of(item.nodeid) in self.failed:
-                item._excinfo = None
+                # (what is left of the first run would be taken for a fault of the second)
+                item.__dict__.pop("_excinfo", None)
                 self.again[name_of(item.nodeid)] = runtestprotocol(item, log=False)
 
     def pytest_terminal_summary(self, terminalreporter):

@@ -27,19 +27,18 @@ def run_part(place):
         has_pytest = [PYTHON, "-c", "import pytest"]
         if not os.path.exists(PYTHON) or subprocess.run(has_pytest, capture_output=True).returncode:
             sys.exit(by_unittest(place, names))
-        os.execv(PYTHON, [PYTHON, "-B", os.path.join(HERE, sys.argv[0]), *words])
+        os.execv(PYTHON, [PYTHON, "-B", os.path.abspath(sys.argv[0]), *words])
     import pytest
 
-    os.chdir(HERE)
     sys.exit(pytest.main([*(path_of(place, name) for name in names or [""]), *options]))
 
 
 def path_of(place, name):
-    """A test as pytest names it: `client/test_day.py::Day::test_cut`."""
+    """A test as pytest names it: a path, `::Day` and `::test_cut`."""
     parts = name.split(".") if name else []
     if not place.endswith(".py") and parts:
         place = os.path.join(place, parts.pop(0) + ".py")
-    return "::".join([place, *parts])
+    return "::".join([os.path.join(HERE, place), *parts])
 
 
 def by_unittest(place, names):

@@ -78,6 +78,7 @@ class Runner(unittest.TestCase):
         name = "test_drawn.One.test_"
         for fault in ("the first fault", "fault 1", "fault 2"):
             self.assertIn(fault, printed)
+        self.assertNotIn("During handling", printed)
         self.assertIn("1 skipped: lacking", lines)
         self.assertIn(f"FAILED: {name}bad: AssertionError: fault 1", lines)
         self.assertIn(f"the second run of {name}bad: failed", lines)
