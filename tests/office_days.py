@@ -4,7 +4,7 @@ import os
 import subprocess
 
 from desks import NO_MINUTES, PATIENCE, SMALL, SPRING, SPRING_SOL, Desk, Seat, audit, call, room, with_threads
-from program import PROGRAM, check
+from program import EXAMPLES, PROGRAM, check
 
 DAY = [
     (0, "open", "opened"),
@@ -19,15 +19,23 @@ DAY = [
     (0, "commit", "committed 2"),
     (1, "show cost", "costs 0 10 0 0"),
 ]
+# the answers to the lines of the example, in which a look is stale at the end
+PHANTOM = (
+    *("opened", "lectures 0", "done", "opened", "done", "committed 1", "stale slot 0 2"),
+    "costs 10 15 0 0",
+)
+
+
+def example():
+    """The example, each line at the seat of its planner, with its answer."""
+    with open(os.path.join(EXAMPLES, "phantom.txt")) as file:
+        for line, answer in zip(file.read().splitlines(), PHANTOM):
+            planner, rest = ("0", line) if line.startswith("show") else line.split(" ", 1)
+            yield int(planner), rest, answer
+
+
 STALE = [
-    (0, "open", "opened"),
-    (0, "slot 0 2", "lectures 0"),
-    (0, "place geo A 0 1", "done"),
-    (1, "open", "opened"),
-    (1, "place top B 0 2", "done"),
-    (1, "commit", "committed 1"),
-    (0, "commit", "stale slot 0 2"),
-    (0, "show cost", "costs 10 15 0 0"),
+    *example(),
     (0, "commit", "no draft"),
     (0, "abandon", "no draft"),
     (1, "open", "opened"),
