@@ -5,8 +5,9 @@ A block `console` is typed into a shell: a line with `$ ` is a command, the line
 it prints, those with `! ` what it says on standard error, `< NAME` what a file holds, and `[N]` is
 its status, else 0. A block `console each` is played for each row of the table below it, and a block
 `console each NAME` for each `text` below it, or for each number of a range; what a row has is a
-variable of the shell, and of what is wanted. A block `day` is a script with its answers, and the
-words behind it are options; its journal is compared and audited, and a block `journal` has it.
+variable of the shell, and of what is wanted. A block `day` is a script, each line with its answer,
+and the words behind it are options; its journal is compared and audited, and a block `journal` has
+it.
 
 PROGRAM names another program. The last line is 'N passed, M failed'.
 """
@@ -86,7 +87,7 @@ class Room:
 
     def day(self, name, options, block):
         """Plays a script, compares its answers and its journal, and audits that."""
-        pairs = [line.split(" -> ") for line in block.splitlines()]
+        pairs = [pair.split(" -> ") for pair in re.split("; |\n", block.rstrip("\n"))]
         pathlib.Path(self.folder, "script").write_text("".join(line + "\n" for line, _ in pairs))
         pathlib.Path(self.folder, "journal").unlink(missing_ok=True)
         words = f"timedesk run small.ctt script {options} --journal journal"
