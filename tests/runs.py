@@ -21,10 +21,10 @@ import sys
 import tempfile
 
 sys.dont_write_bytecode = True
+from pages import blocks_of, lines_of  # noqa: E402
 from program import EXAMPLES, HERE, PROGRAM, check, end  # noqa: E402
 
 PAGES = pathlib.Path(HERE, "tests/runs")
-BLOCK = re.compile(r"```(\w+)(.*)\n((?:.*\n)*?)```\n")
 RANGE = re.compile(r" each (\w+) (\d+)\.\.(\d+)")
 MARKED = re.compile(r"`([^`]*)`")
 NUMBER = re.compile(r"\{(\d+)n\+(\d+)\}")
@@ -87,7 +87,7 @@ class Room:
 
     def day(self, name, options, block):
         """Plays a script, compares its answers and its journal, and audits that."""
-        pairs = [pair.split(" -> ") for pair in re.split("; |\n", block.rstrip("\n"))]
+        pairs = [pair.split(" -> ") for pair in lines_of(block)]
         pathlib.Path(self.folder, "script").write_text("".join(line + "\n" for line, _ in pairs))
         pathlib.Path(self.folder, "journal").unlink(missing_ok=True)
         words = f"timedesk run small.ctt script {options} --journal journal"
@@ -140,20 +140,17 @@ def value_of(cell):
 
 def play_page(page, room):
     """Plays the blocks of a page, one after another."""
-    text = page.read_text()
-    for block in BLOCK.finditer(text):
-        kind, info, lines = block.groups()
-        title = re.findall(r"^#+ (.*)", text[: block.start()], re.MULTILINE)[-1]
-        name = f"{page.stem}: {title}"
-        if kind == "day":
-            room.day(name, info, many_of(lines))
-        elif kind == "journal":
-            check(f"{name}: the journal in full", room.text("journal"), lines)
-        elif kind == "text":
-            pathlib.Path(room.folder, info.strip()).write_text(lines)
+    for block in blocks_of(page):
+        name = f"{page.stem}: {block.title}"
+        if block.kind == "day":
+            room.day(name, block.info, many_of(block.text))
+        elif block.kind == "journal":
+            check(f"{name}: the journal in full", room.text("journal"), block.text)
+        elif block.kind == "text":
+            pathlib.Path(room.folder, block.info.strip()).write_text(block.text)
         else:
-            for row in rows_of(info, text[block.end() :]):
-                room.play(name, lines, row)
+            for row in rows_of(block.info, block.below):
+                room.play(name, block.text, row)
 
 
 def many_of(lines):
