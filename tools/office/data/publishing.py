@@ -109,8 +109,10 @@ class Folder:
         number = self.newest() + 1
         version = self.version(number)
         shutil.rmtree(version, ignore_errors=True)
-        for folder in {os.path.dirname(name) for name in files}:
+        for folder in ["", *sorted({os.path.dirname(name) for name in files} - {""})]:
             os.makedirs(os.path.join(version, folder), exist_ok=True)
+            os.chmod(os.path.join(version, folder), 0o755)
+        os.chmod(self.versions, 0o755)
         for name, text in files.items():
             new = os.path.join(version, name)
             if self.old(name) == text:
@@ -118,6 +120,8 @@ class Folder:
                     os.link(os.path.join(self.path, name), new)
                     continue
             with open(new, "wb") as file:
+                # a site is for all, whatever is asked of other files
+                os.fchmod(file.fileno(), 0o644)
                 file.write(text)
                 file.flush()
                 os.fsync(file.fileno())

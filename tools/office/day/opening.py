@@ -27,7 +27,14 @@ from office.day.open_office import Running, keep
 from office.day.parts import FIRST, Part, last_part
 from office.day.pins import pins_path
 from office.day.processes import Signals, Stopped
-from office.day.program import build_words, program_words, run_on_files
+from office.day.program import (
+    build_words,
+    day_program,
+    named_words,
+    program_words,
+    run_on_files,
+    version_of,
+)
 from office.day.safe_files import lock, must_be_own, open_or_make, sync, write_whole
 from office.day.spare import keep_room, spare_path
 from office.refused import Refused, Silent, sentence
@@ -78,7 +85,7 @@ def plan_after(
     plan = Plan(
         day, planners or facts["planners"], instance or before.instance, before.end, barred or kept
     )
-    plan.after, plan.program = before, facts["program"]
+    plan.after, plan.program = before, day_program(facts)
     plan.labels = before.path if has_labels(before.path) else None
     plan.closures = standing(read_closures(before))
     # what was blocked when the day ended may not have come to its rules any more
@@ -183,7 +190,8 @@ class Opening:
         self.day.write_facts(
             {
                 "planners": plan.planners,
-                "program": plan.program,
+                "program": named_words(plan.program),
+                "version": version_of(plan.program),
                 "opened": processes.now(),
                 "instance": os.path.abspath(plan.instance),
                 "start": os.path.abspath(plan.start) if plan.start else None,
