@@ -26,7 +26,9 @@ from program import HERE, PROGRAM, check, end  # noqa: E402
 from rules import Instance  # noqa: E402
 
 PAIRS = int(os.environ.get("PAIRS", "10000"))
-BORDER = os.path.join(HERE, "tools/check_page/static/border.js")
+PACKAGE = os.path.join(HERE, "tools/check_page")
+STATIC = os.path.join(PACKAGE, "static")
+BORDER = os.path.join(STATIC, "border.js")
 RUN = os.path.join(HERE, "tests/check_page/module.mjs")
 # what a page can ask for, and the words of the program for it
 WANTED = {
@@ -156,8 +158,43 @@ def compare_modules(folder, wide, narrow):
             check(f"{wanted} with status {status} was drawn", cases.seen[wanted, status] > 0, True)
 
 
+def run_tool(name, package, words, **how):
+    """Runs a tool over the sources of the page, if it is there."""
+    if not shutil.which(name):
+        skip(f"{name} is not installed (Debian's {package}): it did not look at the page's sources")
+        return
+    done = subprocess.run([name, *words], stdout=subprocess.PIPE, stderr=subprocess.STDOUT, text=True, **how)
+    if done.returncode:
+        print(done.stdout[-2000:])
+    check(f"{name} finds nothing", done.returncode, 0)
+
+
+def check_sources(folder):
+    """The types and the form of the page's sources, and its modules that need no browser."""
+    scripts = [os.path.join(STATIC, name) for name in sorted(os.listdir(STATIC)) if name.endswith(".js")]
+    tools = {**os.environ, "NODE_PATH": "/usr/share/nodejs"}
+    config = os.path.join(PACKAGE, "eslint.json")
+    run_tool("eslint", "eslint", ["--no-eslintrc", "-c", config, "-f", "unix", *scripts], env=tools)
+    run_tool("tsc", "node-typescript", ["-p", PACKAGE])
+    types = ["--strict", "--python-version", "3.9", "--cache-dir", os.devnull, "-p", "check_page"]
+    run_tool("mypy", "mypy", types, cwd=os.path.join(HERE, "tools"))
+    modules = os.path.join(folder, "modules")
+    shutil.copytree(STATIC, modules)
+    shutil.copy(os.path.join(HERE, "tests/check_page/texts.mjs"), modules)
+    with open(os.path.join(modules, "package.json"), "w", encoding="utf-8") as file:
+        file.write('{ "type": "module" }')
+    run_tool("node", "nodejs", ["--test", "texts.mjs"], cwd=modules)
+    for first in ("start", "worker"):
+        words = [sys.executable, "-B", "-c", f"from check_page.page import bundled; print(bundled({first!r}))"]
+        bundle = subprocess.run(words, capture_output=True, text=True, cwd=os.path.join(HERE, "tools"))
+        with open(os.path.join(folder, f"{first}.mjs"), "w", encoding="utf-8") as file:
+            file.write(bundle.stdout)
+        run_tool("node", "nodejs", ["--check", f"{first}.mjs"], cwd=folder)
+
+
 def main():
     with tempfile.TemporaryDirectory() as folder:
+        check_sources(folder)
         made = make_modules(folder)
         if made:
             compare_modules(folder, *made[:2])

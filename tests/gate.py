@@ -145,7 +145,8 @@ class Gate(SmallTree):
         )
         failed = [line for line in lines if line.startswith("FAILED: ")]
         self.assertEqual(failed[0], "FAILED: proofs: 1 failed of 4 (out/test/proofs.txt)")
-        self.assertIn("the program of ctt_tool was not built, so not run: runs ", failed[1])
+        told = "the program of ctt_tool was not built, so not run: check_page runs "
+        self.assertIn(told, failed[1])
         self.assertEqual(lines[-1], "8 passed, 2 failed")
 
     def test_names(self):

@@ -61,15 +61,10 @@ pub record AreNames (bytes : List ℕ) (asked : Asked) (names : Names) : Type 0 
 abbrev pub IsNoName : List ℕ → Fault → Type 0
 IsNoName text fault = ((fault ≡ Usage WordsNotText) × ¬ IsUtf8 text) ⊎ (fault ≡ Machine NoMemory)
 
--- the same of a name that may be given
-abbrev pub IsNoNameIf : Bool → List ℕ → Fault → Type 0
-IsNoNameIf false text fault = ⊥
-IsNoNameIf true text fault = IsNoName text fault
-
--- a side file that is given has no name
+-- a side file has no name
 abbrev pub IsNoSideName : List ℕ → Asked → Fault → Type 0
-IsNoSideName bytes asked fault = IsNoNameIf asked.has_barred (part_of bytes asked.barred.name) fault
-    ⊎ IsNoNameIf asked.has_blocked (part_of bytes asked.blocked.name) fault
+IsNoSideName bytes asked fault = IsNoName (part_of bytes asked.barred.name) fault
+    ⊎ IsNoName (part_of bytes asked.blocked.name) fault
 
 -- one of the files that are checked has no name
 abbrev pub IsUnnamed : List ℕ → Asked → Fault → Type 0

@@ -145,7 +145,7 @@ function showRanking() {
 
 /** Asks for the row of each solution, one after another.
  * @param {number} mine */
-async function rank(mine) {
+async function rankAll(mine) {
   byId("progress").max = questions.length;
   for (const question of questions) {
     byId("progress").value = rows.length;
@@ -185,7 +185,7 @@ async function checkRun() {
     return;
   }
   if (questions.length > 1) {
-    await rank(mine);
+    await rankAll(mine);
   }
   if (mine === run) {
     const first = rows.length ? ranked(rows)[0].file : questions[0].solution.name;
