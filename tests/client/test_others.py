@@ -70,7 +70,7 @@ class Others(OfficeTest):
         make_edit(self.ben, "move geo 0 1 B 1 2")
         self.press("i")
         lines = text_of(self.board).split("\n")[2:5]
-        self.assertRegex(lines[0], r"seat 0: anna, since \d\d:\d\d; no draft known")
+        self.assertRegex(lines[0], r"seat 0: anna, since \d\d:\d\d; no draft open")
         self.assertRegex(
             lines[1], r"seat 1: ben, since \d\d:\d\d; a draft of ben since \d\d:\d\d, 1 edit: geo"
         )

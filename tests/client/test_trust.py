@@ -268,7 +268,7 @@ class Findings(Two):
         anna, _ = self.boards()
         text = self.type_keys(anna, "!")
         self.assertIn("What to mend: 531 findings, 8847 points", text)
-        self.assertIn("> 257 too small: c0109 in r01, day 2, period 5", text)
+        self.assertIn("> 257 without a seat: c0109 in r01, day 2, period 5", text)
         text = self.type_keys(anna, *"c0109 5,", "enter")
         self.assertIn("week of course c0109", text)
         self.assertEqual(anna.cursor, (4, 1))

@@ -59,13 +59,13 @@ class Said(Folder):
         self.assertEqual(labels.slot((4, 1)), "day 5, period 2")
         self.assertEqual(labels.span((0, 0)), "8:15–9:45")
         self.assertEqual([labels.period(period) for period in range(3)], ["8:15", "2", "3"])
-        self.assertEqual(labels.course("alg"), "Linear Algebra (alg)")
+        self.assertEqual(labels.course("alg"), "Linear Algebra")
         self.assertEqual(labels.course("geo"), "geo")
-        self.assertEqual(labels.room("A"), "Hall 2 (A)")
-        self.assertEqual(labels.teacher("t1"), "Ada Byron (t1)")
-        self.assertEqual(labels.curriculum("q1"), "Mathematics, first year (q1)")
+        self.assertEqual(labels.room("A"), "Hall 2")
+        self.assertEqual(labels.teacher("t1"), "Ada Byron")
+        self.assertEqual(labels.curriculum("q1"), "Mathematics, first year")
         self.assertEqual(labels.short("course", "alg"), "LinAlg")
-        self.assertEqual(labels.short("room", "A"), "A")
+        self.assertEqual(labels.short("room", "A"), "Hall 2")
         self.assertEqual(labels.title, "Winter term")
         self.assertEqual(labels.zone, "Europe/Berlin")
         off = [day for day in range(1, 32) if labels.term.is_off(datetime.date(2026, 12, day))]
@@ -75,6 +75,8 @@ class Said(Folder):
     def test_a_name_is_found(self):
         names = NAMES + "course,geo,Linear Algebra,\n"
         labels = read_labels(self.labels(labels=names))
+        # the code is said where two are called alike
+        self.assertEqual(labels.course("alg"), "Linear Algebra (alg)")
         codes = ["alg", "geo", "top"]
         self.assertEqual(labels.find("course", "top", codes), "top")
         self.assertEqual(labels.find("course", "LinAlg", codes), "alg")
@@ -186,7 +188,7 @@ class OfADay(Folder):
         self.open("tuesday", "--after", self.path("monday"))
         kept = read_labels(self.path("tuesday"))
         self.assertEqual(kept.slot((0, 1)), "Mon 10:15")
-        self.assertEqual(kept.course("alg"), "Linear Algebra (alg)")
+        self.assertEqual(kept.course("alg"), "Linear Algebra")
         self.labels(times="day,period,weekday,from,to\n1,2,Wed,9:00,10:00\n")
         self.open("wednesday", "--after", self.path("monday"), "--labels", folder)
         self.assertEqual(read_labels(self.path("wednesday")).slot((0, 1)), "Wed 9:00")

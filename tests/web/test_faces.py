@@ -169,11 +169,13 @@ class Pressed(BrowserTest):
         self.is_clean(anna)
 
     def test_leaving(self):
-        """`q` leaves the seat: somebody else can sit down at once, and the draft is there."""
+        """`q` leaves the seat, and asks where a draft is open: somebody else can sit down at once, and the draft is there."""
         anna = self.planner()
         self.show(anna, "c0109")
         self.move(anna, (4, 1), (4, 3))
         anna.press("q")
+        anna.sees("Leave the seat?", "#box")
+        anna.press("y")
         anna.sees("You have left the seat", "#banner")
         self.assertEqual(self.sit("day", 0, "show cost\n", "--name", "anna")[-1][:5], "costs")
         anna.reload()

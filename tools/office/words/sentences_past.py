@@ -3,7 +3,7 @@ from __future__ import annotations
 
 PAST: dict[str, str] = {
     "drafts of": "What has changed {row}, newest first",
-    "never changed": "Nothing has changed {row} today.",
+    "never changed": "No draft of today has changed {row}.",
     "draft choice": "{number} {who}, {time}: {reasons}{why}",
     "edit words": "{shifts}",
     "and more": "{count} more",

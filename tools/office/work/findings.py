@@ -8,6 +8,7 @@ from typing import Any, Callable, NamedTuple, Optional
 
 from office.day.costs import MEANINGS
 from office.day.desk_words import encoded
+from office.day.edits import Edit
 from office.day.lecture import Slot
 from office.day.program import Left
 from office.day.rules import alone_points
@@ -108,9 +109,20 @@ class Findings:
 
     def __init__(self, planning: Planning, go: Callable[[View, Optional[Slot]], None]) -> None:
         self.planning, self.go = planning, go
+        # what was found last, and of what
+        self._of: Optional[tuple[int, int, list[Edit]]] = None
+        self._found: list[dict[str, Any]] = []
 
     def read(self) -> list[dict[str, Any]]:
-        """All findings, by the program."""
+        """All findings, by the program. They are asked anew when the timetable is another one."""
+        minutes = self.planning.minutes
+        of = minutes.part.number, len(minutes.entries), self.planning.edits()
+        if of != self._of:
+            self._found = self._read()
+            self._of = of
+        return self._found
+
+    def _read(self) -> list[dict[str, Any]]:
         left = Left(self.planning.minutes.part, quiet=True)
         sides = left.part.side_words()
         words = ["check", left.instance, "-", "--explain", "--json", *sides]

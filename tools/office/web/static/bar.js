@@ -13,7 +13,7 @@ const BAR = [
   ["pin", "Pin…"],
   ["block", "Block…"],
   ["put aside", "Put aside…"],
-  ["variants", "Put aside before"],
+  ["variants", "Variants"],
   ["who", "Who"],
   ["print", "Print"],
   ["line", "Line…"],

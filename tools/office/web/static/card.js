@@ -37,15 +37,12 @@ export function card(lecture, [kind], canMove, isMine) {
     "div",
     { cls: "card", css: { "--hue": lecture.hue }, title: lecture.told },
     line("", name(lecture.said, "course"), isMine ? pencil() : null, canMove ? grip : null),
-    line(
-      "place",
-      kind === "room" ? null : name(lecture.room_said, "room"),
-      kind === "teacher" ? null : name(lecture.teacher_said, "teacher")
-    ),
+    kind === "room" ? null : line("place", name(lecture.room_said, "room")),
     line(
       "foot",
       lecture.seats ? el("span", { cls: "seats", title: "students / seats" }, people) : null,
-      ...signs(lecture, kind)
+      ...signs(lecture, kind),
+      kind === "teacher" ? null : name(lecture.teacher_said, "teacher")
     )
   );
 }

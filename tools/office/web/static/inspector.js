@@ -32,7 +32,7 @@ function heldParts(held, acts) {
     el(
       "div",
       { cls: "buttons" },
-      act(acts, "cheapest", "Cheapest", "B", { cls: "primary" }),
+      held.best ? act(acts, "cheapest", "Cheapest", "B", { cls: "primary" }) : null,
       held.at ? act(acts, id, text, "S") : null,
       act(acts, "lay down", "Leave it", "Esc")
     ),
