@@ -4,7 +4,7 @@ from __future__ import annotations
 import asyncio
 import time
 from collections import deque
-from typing import Any, Deque, Optional, Union
+from typing import Any, Awaitable, Callable, Deque, Optional, Union
 
 from office.web.guard import Fault
 from office.web.lines import STILL, Line
@@ -12,6 +12,8 @@ from office.web.lines import STILL, Line
 # events that may wait for a window, windows of one seat, and the seconds after which one that
 # neither listens nor asks is forgotten
 WAIT, MOST, SILENT = 32, 4, 90.0
+# acts of a window of which the answers are kept
+ACTS = 2
 Data = dict[str, Any]
 
 
@@ -24,8 +26,24 @@ class Window:
         self.shown: Any = None
         self.is_listening = self.is_ending = False
         self.asked_at = time.monotonic()
+        self._answers: dict[str, asyncio.Future[Data]] = {}
         self._lines: Deque[Line] = deque()
         self._woken = asyncio.Event()
+
+    def take_over(self, old: Window) -> None:
+        """Takes up what the same window of a browser had before it began anew."""
+        self.shown, self._answers = old.shown, old._answers
+
+    async def once(self, number: str, act: Callable[[], Awaitable[Data]]) -> Data:
+        """Does what is asked under a number. If that is asked again, since its answer was not
+        heard, the same is answered, and nothing done."""
+        if not number:
+            return await act()
+        if number not in self._answers:
+            self._answers[number] = asyncio.ensure_future(act())
+            for old in [*self._answers][:-ACTS]:
+                del self._answers[old]
+        return await asyncio.shield(self._answers[number])
 
     def tell(self, event: Union[Data, Line]) -> None:
         """Tells the window something; one that does not take it begins anew."""
@@ -82,7 +100,8 @@ class Windows:
             if len(self.by_name) >= self.most:
                 self._make_room()
             self.by_name[name] = Window(self, name)
-            self.by_name[name].shown = old.shown if old is not None else None
+            if old is not None:
+                self.by_name[name].take_over(old)
         self.asked_at = time.monotonic()
         return self.by_name[name]
 

@@ -2,7 +2,8 @@
 // The seat in a browser: what is known, and what is drawn when it changes.
 import { makeActs } from "./acts.js";
 import * as boxes from "./boxes.js";
-import { announce, banner, el, fill, find, name } from "./dom.js";
+import { hasClosed, makeBanner } from "./closing.js";
+import { announce, el, fill, find, name } from "./dom.js";
 import { makeHand } from "./hand.js";
 import { listenToKeys } from "./keys.js";
 import { act, ask, Fault, keepListening, takeKey } from "./link.js";
@@ -32,9 +33,10 @@ const app = {
   isOver: false,
   lost: "",
   fault: "",
+  old: "",
   waits: "",
 };
-const LEFT = "You have left the seat: load this page anew to sit down.";
+const drawBanner = makeBanner(app);
 /** @type {Week} */ let week;
 /** @type {Acting} */ let acts;
 /** @type {Look} */ let look;
@@ -63,28 +65,11 @@ function drawState() {
   drawBanner();
 }
 
-// whether the office has closed at the time that it had told
-const toClose = () => app.closes - (Date.now() / 1000 - app.ahead);
-const hasClosed = () => app.closes !== null && toClose() < 0;
-
-// a desk that has died is told before the farewell; one that ends in its time has closed
-function drawBanner() {
-  const why = (hasClosed() ? "" : app.fault) || (app.isOver ? "" : app.lost);
-  banner(why || app.waits || closing() || app.picture?.state.alarm || "");
-}
-
 function leave() {
   app.isOver = true;
-  app.day.farewell = LEFT;
+  app.day.farewell = "You have left the seat: load this page anew to sit down.";
   boxes.close();
   drawBanner();
-}
-
-function closing() {
-  if (app.isOver) return app.day.farewell;
-  if (!app.closes) return "";
-  const seconds = Math.max(0, Math.round(toClose()));
-  return `The office closes in ${seconds} s: commit now, or your edits are offered again.`;
 }
 
 // takes up what the office tells; what is older than what is seen is left
@@ -109,7 +94,6 @@ function take(found) {
   if (found.notice) toastNotice(found.notice, acts);
 }
 
-// what it costs is another thing by now, the week is as it was
 /** @type {(state: StateData) => void} */
 function takeState(state) {
   if (!app.picture) return;
@@ -187,9 +171,15 @@ function newsOf(one) {
 /** @type {(fault: Fault) => void} */
 function lost(fault) {
   // an office that has closed answers no more
-  if (hasClosed()) app.isOver = true;
+  if (hasClosed(app)) app.isOver = true;
   app.lost = app.fault || fault.message;
   document.body.classList.add("lost");
+  drawBanner();
+}
+
+/** @type {(text: string) => void} */
+function silent(text) {
+  app.old = text;
   drawBanner();
 }
 
@@ -256,4 +246,4 @@ function build(found) {
 }
 
 takeKey();
-keepListening({ begin, hear, lost, isOver: () => app.isOver });
+keepListening({ begin, hear, lost, silent, isOver: () => app.isOver });
