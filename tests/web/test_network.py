@@ -77,7 +77,7 @@ class Network(BrowserTest):
         self.assertIn("may be old", anna.text("#banner"))
         # the goal is five seconds; the rest is for a machine that has other work, too
         self.assertLess(time.monotonic() - begun, 15)
-        anna.press("L")
+        anna.press(":")
         anna.type(MOVES[0])
         anna.press("Enter")
         self.relay.flows.set()
@@ -90,7 +90,7 @@ class Network(BrowserTest):
         """A line of which the answer is lost is asked again, and done once."""
         anna = self.planner()
         for line in MOVES:
-            anna.press("L")
+            anna.press(":")
             anna.type(line)
             anna.press("Enter")
         anna.sees("your draft: 2 edits", "#costs")

@@ -73,7 +73,9 @@ class Office:
         """A window begins, or begins again."""
         place = self.place(who)
         is_again = window in place.windows.by_name
-        found: Data = await place.answer(place.windows.begin(window), "hello", data)
+        begun: Window = place.windows.begin(window)
+        begun.holder = str(data.get("login") or "")
+        found: Data = await place.answer(begun, "hello", data)
         found.update(day=self.day.name, closes=self.closes, now=time.time(), again=is_again)
         if who != READER:
             # the others are told at the next look

@@ -3,7 +3,7 @@ from __future__ import annotations
 
 import asyncio
 import time
-from collections import deque
+from collections import Counter, deque
 from typing import Any, Awaitable, Callable, Deque, Optional, Union
 
 from office.web.guard import Fault
@@ -26,13 +26,15 @@ class Window:
         self.shown: Any = None
         self.is_listening = self.is_ending = False
         self.asked_at = time.monotonic()
+        # the login of whose window it is, if there is one
+        self.holder = ""
         self._answers: dict[str, asyncio.Future[Data]] = {}
         self._lines: Deque[Line] = deque()
         self._woken = asyncio.Event()
 
     def take_over(self, old: Window) -> None:
         """Takes up what the same window of a browser had before it began anew."""
-        self.shown, self._answers = old.shown, old._answers
+        self.shown, self._answers, self.holder = old.shown, old._answers, old.holder
 
     async def once(self, number: str, act: Callable[[], Awaitable[Data]]) -> Data:
         """Does what is asked under a number. If that is asked again, since its answer was not
@@ -107,10 +109,13 @@ class Windows:
 
     def _make_room(self) -> None:
         """Forgets the oldest of those that do not listen, as a page that was loaded anew before it
-        did."""
+        did; else, if that makes room, the oldest of who holds most."""
         silent = [window for window in self.all() if not window.is_listening]
         if not silent and self.makes_room:
-            min(self.all(), key=lambda window: window.asked_at).end_soon()
+            held = Counter(window.holder for window in self.all())
+            most = max(held.values())
+            theirs = [one for one in self.all() if held[one.holder] == most]
+            min(theirs, key=lambda window: window.asked_at).end_soon()
             return
         if not silent:
             raise Fault(429, f"{self.most} windows of this link are open: close one of them")
