@@ -13,7 +13,7 @@ from served import (
     skip_without_tornado,
 )
 
-MOVES = "move c0109 3 2 r09 3 3", "move c0109 3 3 r01 3 2"
+MOVES = "move c0109 3 2 r09 3 3", "move c0109 4 1 r09 4 2"
 TOLD = "does not answer since"
 
 
