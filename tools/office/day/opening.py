@@ -24,6 +24,7 @@ from office.day.desk_words import encoded
 from office.day.folder import CHECKING, SEATS, Day
 from office.day.instance import Instance, completion_words, read_instance
 from office.day.open_office import Running, keep
+from office.day.minute_sums import sums_path
 from office.day.parts import FIRST, Part, last_part
 from office.day.pins import pins_path
 from office.day.processes import Signals, Stopped
@@ -283,6 +284,7 @@ class Opening:
             part.start,
             part.blocked,
             part.minutes,
+            sums_path(part),
             part.aside,
             part.file("known.sol"),
             closures_path(day),

@@ -16,6 +16,7 @@ from office.day.next_part import NewPart, rules_after
 from office.day.open_drafts import end_work
 from office.day.open_office import Running, keep
 from office.day.opening import take_office
+from office.day.minute_sums import check_minutes
 from office.day.parts import Part, half_made, last_part
 from office.day.pipes import remove_pipes
 from office.day.processes import Signals, Stopped
@@ -82,6 +83,7 @@ def reopen_day(day: Day, web: list[str]) -> int:
             day.write_facts({**facts, **named, "version": version_of(running.program)})
         if processes.run(signals, build_words(running.program)) != 0:
             raise Refused("there is no program to run a desk with")
+        check_minutes(running.part)
         running.part = next_part(signals, running.part)
         running.start(REOPENING)
     except BaseException as fault:

@@ -24,7 +24,7 @@ if TYPE_CHECKING:
 
 # seconds between two signs of life; a page that has none for some time says so
 ALIVE = 2.0
-WINDOW = "X-Window"
+WINDOW, ACT = "X-Window", "X-Act"
 # half a letter; those that stand for the bytes of a name are none
 HALF = re.compile("[\ud800-\udc7f\udd00-\udfff]")
 Data = dict[str, Any]
@@ -156,7 +156,11 @@ class Verb(Keyed):
             data = self.read_body()
             if verb == "hello":
                 data["login"] = self.office.guard.login(self.asked)
-            self.answer(await self.office.answer(self.who, self.window, verb, data))
+                self.answer(await self.office.hello(self.who, self.window, data))
+            else:
+                number = (self.asked.get(ACT) or "")[:9]
+                found = await self.office.answer(self.who, self.window, verb, data, number)
+                self.answer(found)
         except Fault as fault:
             self.refuse(fault)
         except Exception as thrown:

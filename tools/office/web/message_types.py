@@ -237,17 +237,17 @@ class PictureData(ReaderPictureData):
 
 # what is answered
 
-
 # why a request is refused
 FaultData = TypedDict("FaultData", {"fault": str})
 
 
 class DayData(TypedDict):
-    """The day, when it closes, if that is known, and what time it is."""
+    """The day, when it closes, what time it is, and whether this window was known before."""
 
     day: str
     closes: Optional[float]
     now: float
+    again: bool
 
 
 class SeatsData(DayData):

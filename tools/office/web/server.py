@@ -69,18 +69,29 @@ class Office:
 
     # what is asked
 
-    async def answer(self, who: str, window: str, verb: str, data: Data) -> Data:
+    async def hello(self, who: str, window: str, data: Data) -> Data:
+        """A window begins, or begins again."""
         place = self.place(who)
-        if verb == "hello":
-            known = place.windows.begin(window)
-        else:
-            known = place.windows.known(window)
-        found: Data = await place.answer(known, verb, data)
-        if verb == "hello":
-            found.update(day=self.day.name, closes=self.closes, now=time.time())
-        if verb == "hello" and who != READER:
+        is_again = window in place.windows.by_name
+        begun: Window = place.windows.begin(window)
+        begun.holder = str(data.get("login") or "")
+        found: Data = await place.answer(begun, "hello", data)
+        found.update(day=self.day.name, closes=self.closes, now=time.time(), again=is_again)
+        if who != READER:
             # the others are told at the next look
             found.update(people=self.who_sits())
+        return found
+
+    async def answer(self, who: str, window: str, verb: str, data: Data, number: str) -> Data:
+        """What a window asks; with the number of an act it is done once."""
+        place = self.place(who)
+        known: Window = place.windows.known(window)
+
+        async def act() -> Data:
+            found: Data = await place.answer(known, verb, data)
+            return found
+
+        found = await known.once(number, act)
         if found.pop("committed", False):
             # who has committed hears it first
             self.woken.set()

@@ -3,8 +3,8 @@ from __future__ import annotations
 
 import asyncio
 import time
-from collections import deque
-from typing import Any, Deque, Optional, Union
+from collections import Counter, deque
+from typing import Any, Awaitable, Callable, Deque, Optional, Union
 
 from office.web.guard import Fault
 from office.web.lines import STILL, Line
@@ -12,6 +12,8 @@ from office.web.lines import STILL, Line
 # events that may wait for a window, windows of one seat, and the seconds after which one that
 # neither listens nor asks is forgotten
 WAIT, MOST, SILENT = 32, 4, 90.0
+# acts of a window of which the answers are kept
+ACTS = 2
 Data = dict[str, Any]
 
 
@@ -24,8 +26,26 @@ class Window:
         self.shown: Any = None
         self.is_listening = self.is_ending = False
         self.asked_at = time.monotonic()
+        # the login of whose window it is, if there is one
+        self.holder = ""
+        self._answers: dict[str, asyncio.Future[Data]] = {}
         self._lines: Deque[Line] = deque()
         self._woken = asyncio.Event()
+
+    def take_over(self, old: Window) -> None:
+        """Takes up what the same window of a browser had before it began anew."""
+        self.shown, self._answers, self.holder = old.shown, old._answers, old.holder
+
+    async def once(self, number: str, act: Callable[[], Awaitable[Data]]) -> Data:
+        """Does what is asked under a number. If that is asked again, since its answer was not
+        heard, the same is answered, and nothing done."""
+        if not number:
+            return await act()
+        if number not in self._answers:
+            self._answers[number] = asyncio.ensure_future(act())
+            for old in [*self._answers][:-ACTS]:
+                del self._answers[old]
+        return await asyncio.shield(self._answers[number])
 
     def tell(self, event: Union[Data, Line]) -> None:
         """Tells the window something; one that does not take it begins anew."""
@@ -82,16 +102,20 @@ class Windows:
             if len(self.by_name) >= self.most:
                 self._make_room()
             self.by_name[name] = Window(self, name)
-            self.by_name[name].shown = old.shown if old is not None else None
+            if old is not None:
+                self.by_name[name].take_over(old)
         self.asked_at = time.monotonic()
         return self.by_name[name]
 
     def _make_room(self) -> None:
         """Forgets the oldest of those that do not listen, as a page that was loaded anew before it
-        did."""
+        did; else, if that makes room, the oldest of who holds most."""
         silent = [window for window in self.all() if not window.is_listening]
         if not silent and self.makes_room:
-            min(self.all(), key=lambda window: window.asked_at).end_soon()
+            held = Counter(window.holder for window in self.all())
+            most = max(held.values())
+            theirs = [one for one in self.all() if held[one.holder] == most]
+            min(theirs, key=lambda window: window.asked_at).end_soon()
             return
         if not silent:
             raise Fault(429, f"{self.most} windows of this link are open: close one of them")
