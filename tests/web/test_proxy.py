@@ -4,6 +4,7 @@ import contextlib
 import http.client
 import json
 import os
+import signal
 import socket
 import ssl
 import time
@@ -41,7 +42,7 @@ class Proxied(BrowserTest):
         self.write("logins", LOGINS)
         self.url = f"https://localhost:{self.port}/seats/"
         logins = ["--login-header", "X-Remote-User", "--logins", self.path("logins")]
-        self.serve("day", "--url", self.url, *logins)
+        self.server = self.serve("day", "--url", self.url, *logins)
         self.proxy = Proxy(self.room, self.port, self.path("day/web.socket"), WORDS)
         self.addCleanup(self.proxy.end)
 
@@ -120,6 +121,21 @@ class Proxied(BrowserTest):
         finally:
             for end in ends:
                 end.close()
+
+    def test_at_work(self):
+        """Who comes while the server is at work waits for it, also as one of hundreds."""
+        ends = []
+        self.server.send_signal(signal.SIGSTOP)
+        try:
+            for number in range(300):
+                ends.append(socket.socket(socket.AF_UNIX))
+                ends[-1].setblocking(False)
+                ends[-1].connect(self.path("day/web.socket"))
+        finally:
+            self.server.send_signal(signal.SIGCONT)
+            for end in ends:
+                end.close()
+        self.assertEqual(self.through("/seats/api/hello", "anna", {}, ("X-Seat-Key", ""))[0], 200)
 
     def test_page(self):
         """A page behind the proxy: news at once, and an expired login in words."""

@@ -37,6 +37,8 @@ from office.work.shared_reading import SharedReading
 COMES, TICK, LEAST = 10.0, 0.25, 0.05
 # a path of a Unix socket has so many bytes at most
 LONGEST_PATH = 107
+# so many that have just come wait while the server is at work
+WAITING = 1024
 # how long the windows have to hear that all is over
 FAREWELL = 0.3
 Data = dict[str, Any]
@@ -246,10 +248,11 @@ def listen_at(served: Served, path: str) -> sockets.socket:
     """The socket at which requests come."""
     try:
         if served.port is not None:
-            return tornado.netutil.bind_sockets(served.port, "127.0.0.1", sockets.AF_INET)[0]
+            family = sockets.AF_INET
+            return tornado.netutil.bind_sockets(served.port, "127.0.0.1", family, WAITING)[0]
         if len(os.fsencode(path)) > LONGEST_PATH:
             raise Refused(f"{path} is too long for a socket: --socket names a shorter one")
-        return tornado.netutil.bind_unix_socket(path, mode=0o660)
+        return tornado.netutil.bind_unix_socket(path, mode=0o660, backlog=WAITING)
     except (OSError, ValueError) as fault:
         raise Refused(f"cannot listen: {fault}") from None
 
