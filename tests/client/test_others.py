@@ -150,8 +150,8 @@ class Others(OfficeTest):
         head = "kind,code,name\n"
         self.write("day/labels.csv", head + "course,geo,Geometry\n")
         self.assertTrue(self.board.tick())
-        self.assertIn("week of course Geometry (geo)", text_of(self.board))
+        self.assertIn("week of course Geometry", text_of(self.board))
         self.assertFalse(self.board.tick())
         self.write("day/labels.csv", head + "planet,geo,Mars\n")
         self.assertFalse(self.board.tick())
-        self.assertIn("week of course Geometry (geo)", text_of(self.board))
+        self.assertIn("week of course Geometry", text_of(self.board))

@@ -90,10 +90,13 @@ class Screens(Parts):
         told = self.press(self.anna, "B")
         self.assertIn("lift: A is blocked on day 1: heating (ben at seat 1)", told)
         self.assertNotIn("block A on day 1", told)
-        self.press(self.anna, *"lift", "enter")
+        self.press(self.anna, *"lift", "enter", *"it is warm", "enter")
         self.go_on(self.anna, self.ben)
-        line = "A is open again on day 1 (anna at seat 0)"
-        self.assertIn(f"{line}; your draft is made again: 1 of 1 edits", text_of(self.anna))
+        # what stood there is offered to who has lifted it
+        self.assertIn("These lectures stood there before", text_of(self.anna))
+        told = self.press(self.anna, "escape")
+        self.assertIn("A is open again on day 1: it is warm (anna at seat 0)", told)
+        self.assertIn("1 of 1 edits", told)
         # what ben has not read yet is there to be read
         self.assertIn("These lectures are missing now:", text_of(self.ben))
         self.assertTrue(make_edit(self.ben.planning, "place alg A 0 0"))

@@ -144,8 +144,9 @@ class Told(Shared):
         self.ask("hello", {"name": "anna"})
         seen = {"course": "c0109", "room": "r01", "at": FROM}
         self.ask("pick_up", {"lecture": seen, "kind": "move"})
-        offers = self.ask("offers", {"at": BEST})[1]["offers"]
-        self.assertTrue(all(" seat" in said for _, _, said in offers), offers)
+        found = self.ask("offers", {"at": BEST})[1]
+        self.assertEqual(len(found["told"]), len(found["offers"]))
+        self.assertTrue(all(" seat" in told for told in found["told"]), found)
         self.ask("lay_down")
 
 

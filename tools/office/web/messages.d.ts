@@ -284,6 +284,7 @@ interface AboutData {
 }
 interface OffersData {
   offers: OfferData[];
+  told: string[];
 }
 interface PageData {
   name: string;

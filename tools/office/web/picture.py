@@ -262,14 +262,16 @@ class Picture:
     def offers(self, slot: Slot) -> list[OfferData]:
         """All that a slot offers for what is held, cheapest first."""
         carry = self.work.carry
-        return [self.offer_told(carry, offer) for offer in carry.at(slot)] if carry else []
+        return [self.offer(carry, offer) for offer in carry.at(slot)] if carry else []
 
-    def offer_told(self, carry: Carry, offer: Offer) -> OfferData:
-        """An offer where there is room for a name, and for the seats of a room."""
-        if carry.kind is SWAP:
-            return offer.price, offer.about, self.wording.course(offer.about)
-        seats = counted(self.planning.instance.rooms[offer.about], "seat")
-        return offer.price, offer.about, f"{self.wording.room(offer.about)}, {seats}"
+    def offers_told(self, slot: Slot) -> list[str]:
+        """The rooms or courses of them by name, a room with its seats."""
+        carry, wording = self.work.carry, self.wording
+        about = [offer.about for offer in carry.at(slot)] if carry else []
+        if carry and carry.kind is SWAP:
+            return [wording.course(code) for code in about]
+        rooms = self.planning.instance.rooms
+        return [f"{wording.room(code)}, {counted(rooms[code], 'seat')}" for code in about]
 
     def offer(self, carry: Carry, offer: Offer) -> OfferData:
         kind = "course" if carry.kind is SWAP else "room"

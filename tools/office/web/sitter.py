@@ -194,7 +194,8 @@ class Sitter:
             lecture = request.lecture()
             return {"about": picture.about(lecture) if lecture else None}
         if verb == "offers":
-            return {"offers": picture.offers(request.slot("at"))}
+            at = request.slot("at")
+            return {"offers": picture.offers(at), "told": picture.offers_told(at)}
         if verb == "print":
             return dict(picture.page())
         accepted, cost = len(planning.seat.state.accepted), sum(planning.costs().values())

@@ -2,7 +2,8 @@
 from __future__ import annotations
 
 PAST: dict[str, str] = {
-    "drafts of": "What has changed {row}, newest first",
+    "drafts of": "Drafts that have changed {row}, newest first",
+    "changes of": "What has changed {row}, newest first",
     "never changed": "No draft of today has changed {row}.",
     "draft choice": "{number} {who}, {time}: {reasons}{why}",
     "edit words": "{shifts}",

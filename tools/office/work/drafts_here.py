@@ -54,7 +54,8 @@ class History:
             if touched:
                 draft = self.draft(place)
                 found.append((draft.time, self.line(draft, touched), partial(self.shown, draft)))
-        for event in reversed(self.closures.of(what)):
+        events = self.closures.of(what)
+        for event in reversed(events):
             act = partial(self.closures.shown, event)
             found.append((event.closure.time, event.line(), act))
         if not found:
@@ -62,7 +63,8 @@ class History:
             return None
         found.sort(key=lambda one: one[0], reverse=True)
         choices = [(notice, act) for _, notice, act in found]
-        return Question(say("drafts of", row=row), choices=choices)
+        title = say("changes of" if events else "drafts of", row=row)
+        return Question(title, choices=choices)
 
     def of_number(self, number: int) -> Optional[Question]:
         """An accepted draft by its number."""

@@ -139,11 +139,13 @@ export class Acts {
   async rooms(slot, lecture) {
     if (!this.held) await this.pickUp(slot, lecture);
     if (!this.held || isTyping()) return;
-    const { offers: found = [] } = await this.turn("offers", { at: slot });
+    const { offers: all = [], told = [] } = await this.turn("offers", { at: slot });
     const { held, week } = this;
     if (!held || isTyping()) return;
     const isHome = same(slot, held.at);
-    const offers = found.filter(([, code]) => !isHome || code !== held.room);
+    /** @type {(offer: OfferData, at: number) => OfferData} */
+    const named = ([price, code], at) => [price, code, told[at]];
+    const offers = all.map(named).filter(([, code]) => !isHome || code !== held.room);
     if (!offers.length) {
       toast("said", isHome ? "No other room is free then." : heldSaid(held, this.offerAt(slot)));
       return;
