@@ -219,6 +219,8 @@ class Load:
         ]
         percentiles("others hear", [at - begun for begun, all_ in told for at in all_])
         percentiles("the last other hears", [max(all_) - begun for begun, all_ in told])
+        office = self.test.opened.pid, self.test.desk_of("day")
+        print(f"office {memory(office[0]):.0f} MiB, desk {memory(office[1]):.0f} MiB")
         share = 100 * (processor(server) - before) / self.seconds
         rate, sent = len(self.times) / self.seconds, self.bytes / self.seconds / 1024
         print(
@@ -232,7 +234,7 @@ class Run(WebTest):
     def runTest(self):
         given = [int(word) for word in WORDS[2:]]
         seats, readers, seconds = given + [64, 200, 20][len(given) :]
-        self.open("day", WORDS[0], str(seats), "--start", WORDS[1])
+        self.opened = self.open("day", WORDS[0], str(seats), "--start", WORDS[1])
         server = self.serve("day").pid
         asyncio.run(Load(self, seats, readers, seconds).run(server))
 
