@@ -89,3 +89,18 @@ class Damaged(OfficeTest):
                 os.remove(path)
             os.mkdir(path)
         self.each()
+
+    def test_folders_of_what_is_needed(self):
+        """A folder in the place of a file without which there is no day is told by its name."""
+        for name in ("instance.ctt", "start.sol", "day.json"):
+            path = self.path(f"day/{name}")
+            os.rename(path, path + ".kept")
+            os.mkdir(path)
+            for command, *more in READS:
+                status, _, said = self.office(command, self.path("day"), *more)
+                self.assertNotIn("Traceback", said, (name, command))
+                self.assertTrue(status == 0 or name in said, (name, command, said))
+            self.assertNotEqual(self.office("status", self.path("day"))[0], 0, name)
+            os.rmdir(path)
+            os.rename(path + ".kept", path)
+        self.each()

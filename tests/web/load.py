@@ -166,6 +166,8 @@ class Planner:
         told = {"question": question["number"], "answer": "commit", "why": "measured"}
         found = await self.turn("answer", told, is_commit=True)
         notice = found.get("notice") or {}
+        code = notice.get("code", "question" if found.get("question") else "nothing")
+        self.load.ends[code] = self.load.ends.get(code, 0) + 1
         if notice.get("code") == "committed":
             number = int(re.search(r"draft ([0-9]+)", notice["text"]).group(1))
             self.load.answered[number] = time.perf_counter()
@@ -177,7 +179,7 @@ class Load:
     def __init__(self, test, seats, readers, seconds):
         self.test, self.address = test, test.address()
         self.seats, self.readers, self.seconds = seats, readers, seconds
-        self.times, self.commits, self.statuses = [], [], {}
+        self.times, self.commits, self.statuses, self.ends = [], [], {}, {}
         self.answered, self.heard, self.bytes, self.is_counted = {}, {}, 0, False
         with open(WORDS[1]) as file:
             rows = [line.split() for line in file if line.strip()]
@@ -215,15 +217,19 @@ class Load:
         told = [
             (self.answered[number], list(heard.values()))
             for number, heard in self.heard.items()
-            if number in self.answered and len(heard) == self.seats - 1
+            if number in self.answered and len(heard) >= self.seats - 2
         ]
         percentiles("others hear", [at - begun for begun, all_ in told for at in all_])
         percentiles("the last other hears", [max(all_) - begun for begun, all_ in told])
+        office = self.test.opened.pid, self.test.desk_of("day")
+        count = len(self.answered)
+        print(f"{count} drafts accepted, {len(told)} of them heard by all; ", end="")
+        print(f"office {memory(office[0]):.0f} MiB, desk {memory(office[1]):.0f} MiB")
         share = 100 * (processor(server) - before) / self.seconds
         rate, sent = len(self.times) / self.seconds, self.bytes / self.seconds / 1024
         print(
             f"{rate:.0f} requests a second, {sent:.0f} KiB of news a second; server {share:.0f} % "
-            f"of a processor, {memory(server):.0f} MiB; statuses {self.statuses}",
+            f"of a processor, {memory(server):.0f} MiB; statuses {self.statuses}, commits {self.ends}",
             flush=True,
         )
 
@@ -232,7 +238,7 @@ class Run(WebTest):
     def runTest(self):
         given = [int(word) for word in WORDS[2:]]
         seats, readers, seconds = given + [64, 200, 20][len(given) :]
-        self.open("day", WORDS[0], str(seats), "--start", WORDS[1])
+        self.opened = self.open("day", WORDS[0], str(seats), "--start", WORDS[1])
         server = self.serve("day").pid
         asyncio.run(Load(self, seats, readers, seconds).run(server))
 

@@ -49,6 +49,12 @@ class Relay:
             with contextlib.suppress(OSError):
                 end.shutdown(socket.SHUT_RDWR)
 
+    def cut(self):
+        """Ends all connections that are there."""
+        for end in self.ends[1:]:
+            with contextlib.suppress(OSError):
+                end.shutdown(socket.SHUT_RDWR)
+
     def end(self):
         self.flows.set()
         for end in self.ends:

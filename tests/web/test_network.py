@@ -103,6 +103,25 @@ class Network(BrowserTest):
         time.sleep(2)
         self.assertEqual(anna.run(EDITS), 1)
 
+    def test_reason_is_kept(self):
+        """A reason that is typed while the network breaks stands in the box when it is back."""
+        anna = self.planner()
+        anna.press(":")
+        anna.type(MOVES[0])
+        anna.press("Enter")
+        anna.sees("your draft: 1 edit", "#costs")
+        anna.press("c")
+        anna.wait("return !!document.getElementById('why')")
+        anna.type("hall 4 is free")
+        before = anna.run("return performance.getEntriesByName('ready').length")
+        self.relay.cut()
+        anna.wait(
+            "return performance.getEntriesByName('ready').length > arguments[0]", before
+        )
+        anna.wait("return document.getElementById('why')?.value === 'hall 4 is free'")
+        anna.press("Enter")
+        anna.sees("Committed as draft 1", "#said")
+
     def test_readers_silence(self):
         """Who reads is told, too."""
         reader = self.browser()

@@ -6,7 +6,7 @@ from collections import Counter
 from dataclasses import dataclass
 from typing import Iterable, Optional
 
-from office.day.commit_notes import NoteReader
+from office.day.commit_notes import CommitNote, NoteReader, read_commit_notes
 from office.day.folder import Day
 from office.day.lecture import Lecture
 from office.day.minutes import Entry
@@ -16,6 +16,10 @@ from office.past.authors import CommitFacts, commits_of, read_seat_past
 from office.seat.answers import Row
 from office.seat.seat import read_sitter
 from office.words.notice import Notice, say
+
+
+# what is known of so many drafts, the last ones, is at hand; of older ones it is read again
+KEPT = 500
 
 
 @dataclass(frozen=True)
@@ -61,8 +65,7 @@ class Commits:
         """Reads the notes that are new, and answers how long all are: by that one knows whether
         more may be known of a draft than was told."""
         with self._lock:
-            for note in self._reader.read_on():
-                self._facts[note.number] = CommitFacts(note.name, note.time, note.why)
+            self._keep(self._reader.read_on())
             return self._reader.size
 
     def facts(self, accepted: Accepted, all_known: Iterable[Accepted]) -> CommitFacts:
@@ -73,8 +76,17 @@ class Commits:
             if number not in self._facts:
                 self.read_on()
             if number not in self._facts:
+                self._keep(read_commit_notes(self.day).values())
+            if number not in self._facts:
                 self._read_log(planner, [one for one in all_known if one.entry.planner == planner])
-            return self._facts[number]
+            found = self._facts[number]
+            for old in sorted(self._facts)[:-KEPT]:
+                del self._facts[old]
+            return found
+
+    def _keep(self, notes: Iterable[CommitNote]) -> None:
+        for note in notes:
+            self._facts[note.number] = CommitFacts(note.name, note.time, note.why)
 
     def _read_log(self, planner: int, drafts: list[Accepted]) -> None:
         """What is known of the drafts of a seat of which there are no notes."""

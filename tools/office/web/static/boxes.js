@@ -14,6 +14,8 @@ let later = null;
 // so many letters that are no answer are the beginning of a word, which answers nothing
 const WORD = 2;
 let typed = 0;
+// what was typed for a question, by its label, until it was answered: the office may have been away
+let kept = { label: "", text: "" };
 
 // a letter was pressed before the box was seen
 export function typedAhead() {
@@ -85,9 +87,15 @@ export function askLater() {
 
 export const hasLater = () => later !== null;
 
+function keepTyped() {
+  const input = isAsked ? /** @type {?HTMLInputElement} */ (document.getElementById("why")) : null;
+  if (input?.value) kept = { label: input.labels[0].textContent, text: input.value };
+}
+
 // the office asks nothing any more; a box that it has not opened stays
 export function closeAsked() {
   later = null;
+  keepTyped();
   if (isAsked) close();
 }
 
@@ -163,8 +171,9 @@ function linePart({ code, text }) {
 // a line for a reason, and what is asked about it; what was typed on since then stays
 /** @type {(why: WhyData, go: () => void) => (?HTMLElement)[]} */
 function reasonParts({ label, text, doubt }, go) {
-  const begun = doubt && isAsked ? find("why")?.value : null;
-  const more = { maxlength: "200", autofocus: true, value: begun ?? text };
+  keepTyped();
+  const value = kept.label === label ? kept.text : text;
+  const more = { maxlength: "200", autofocus: true, value };
   const asked = doubt ? el("p", { cls: "warn", role: "alert" }, name(doubt), ONCE_MORE) : null;
   return [...field("why", label, more, go), asked];
 }
@@ -183,11 +192,15 @@ export function ask(question, acts) {
   const told = () => (why ? { why: find("why").value.trim() } : {});
   const back = () => {
     const more = told();
+    kept.label = "";
     close();
     acts.closeQuestion(id, more);
   };
-  /** @type {(answer: string) => () => void} */
-  const go = (answer) => () => acts.answer(id, answer, told());
+  /** @type {(answer: string) => () => Promise<void>} */
+  const go = (answer) => async () => {
+    const found = await acts.answer(id, answer, told());
+    if (found?.notice) kept.label = "";
+  };
   /** @type {(choice: number) => Promise<any>} */
   const choose = (choice) => acts.answer(id, null, { choice });
   const first = answers.length ? go(answers[0].name) : back;
@@ -198,7 +211,6 @@ export function ask(question, acts) {
       autofocus: at === 0 && !why && !isCareful,
     })
   );
-  const keyed = answers.filter((one) => one.key);
   const shown = el("div", { cls: "lines" }, lines.map(linePart));
   const isFirst = isRead || isCareful;
   const backButton = button("back", isRead ? "Go on" : "Back", back, { autofocus: isFirst });
@@ -213,7 +225,7 @@ export function ask(question, acts) {
     ],
     {
       cancel: canWait ? back : null,
-      letters: Object.fromEntries(keyed.map((one) => [one.key, go(one.name)])),
+      letters: Object.fromEntries(answers.map((one) => [one.key, go(one.name)])),
     }
   );
   if (why?.doubt) find("why").setSelectionRange(-1, -1);
