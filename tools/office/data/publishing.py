@@ -13,6 +13,7 @@ from typing import NamedTuple, Optional
 
 from office.data.changed_weeks import by_view, changes_between
 from office.data.label_files import check_zone, read_labels
+from office.data.page_words import Language
 from office.data.plan_book import FILE as BOOK, Book, book_in, book_text, new_book, newer, read_book
 from office.data.site import Published, Site
 from office.data.telling import From, Told, first_book
@@ -158,21 +159,24 @@ def keep_book(day: Day, book: Book) -> str:
     return ""
 
 
-def publish_once(day: Day, folder: Folder, is_json: bool, since: From) -> None:
+def publish_once(
+    day: Day, folder: Folder, is_json: bool, since: From, language: Language
+) -> None:
     """Publishes the newest timetable of a day, and says whose weeks have changed."""
     at, labels = read_at(day), read_labels(day.path)
     check_zone(labels, day.path)
     now = datetime.datetime.now(datetime.timezone.utc)
     state = read_state(folder.old(STATE))
     book = book_of(day, folder, state, at.instance.name)
-    told = Told(book, at, labels, since.text(now, labels.zone), f"{now:%Y%m%dT%H%M%SZ}")
+    public = labels.published(language)
+    told = Told(book, at, public, since.text(now, labels.zone), f"{now:%Y%m%dT%H%M%SZ}")
     holds = told.since[:10] if labels.term else ""
     changed = changes_between(state.lectures, at.lectures) if state else []
     history = state.history if state else []
     if changed or not history:
         when = time.strftime("%Y-%m-%d %H:%M", time.localtime(now.timestamp()))
         history = [*history, Published(when, changed, holds)][-REMEMBERED:]
-    site = Site(at, labels, history, told.book)
+    site = Site(at, public, history, told.book)
     files = site.files()
     files[STATE], files[BOOK] = state_text(State(at.lectures, history)), book_text(told.book)
     for note in filter(None, [*told.notes, *site.notes, keep_book(day, told.book)]):
@@ -191,7 +195,14 @@ def publish_once(day: Day, folder: Folder, is_json: bool, since: From) -> None:
             print(json.dumps(person, ensure_ascii=False) if is_json else line, flush=True)
 
 
-def publish(day: Day, path: str, follows: bool, is_json: bool, since: From) -> int:
+def publish(
+    day: Day,
+    path: str,
+    follows: bool,
+    is_json: bool,
+    since: From,
+    language: Language = Language.ENGLISH,
+) -> int:
     """Publishes a day; with `follows` again after each accepted draft, until the day is closed."""
     day.facts()
     folder = Folder(path)
@@ -199,7 +210,7 @@ def publish(day: Day, path: str, follows: bool, is_json: bool, since: From) -> i
     while True:
         is_open = follows and day.is_open()
         minutes.read_to_end()
-        publish_once(day, folder, is_json, since)
+        publish_once(day, folder, is_json, since, language)
         if not is_open:
             return 0
         time.sleep(PACE)
