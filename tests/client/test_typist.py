@@ -35,6 +35,8 @@ class Typist(Two):
             for key in [*word, "enter"]:
                 anna.press(key)
                 seen |= set(lines_of(anna.planning.edits()))
+            anna.planning.read_minutes()
+            self.assertEqual(anna.planning.minutes.entries, [], (number, word))
             if anna.is_done:
                 # only who has no draft leaves without a question
                 self.assertEqual(anna.planning.edits(), [], word)
@@ -67,6 +69,8 @@ class Typist(Two):
             ("c", "", False),
             ("c", "two", False),
             ("c", "the hall is free", False),
+            ("inc", "ome", True),
+            ("doc", "tor", True),
             ("", "heating", False),
         ):
             self.assertEqual(may_be_meant_otherwise(key, why, names), is_asked, (key, why))

@@ -44,6 +44,8 @@ class Board:
         self.rules, self.draft = BoardRules(self), BoardDraft(self)
         # the desk has ended: nothing more can be done
         self.is_dead = False
+        # the letters that were pressed last in the week, one after another
+        self.run = ""
         # the window is too small to see what a key does
         self.is_small = False
         self.actions = self.acts()
@@ -175,6 +177,7 @@ class Board:
             return
         if self.overlay is None:
             key = UNDOING.get(key, key)
+        self.run = self.run + key if len(key) == 1 else ""
         if self.overlay is not None:
             front = self.overlay
             if front.press(key) and self.overlay is front:
@@ -261,7 +264,7 @@ class Board:
             return None
         question, seen = knowing.ask_unpin(lecture), lecture
         if question is None:
-            meant = self.draft.meant("p")
+            meant = self.draft.meant(self.run)
             self.overlay = Typed("Why is it pinned? ", lambda why: knowing.pin(seen, why), meant)
         return question
 

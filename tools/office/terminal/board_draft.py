@@ -7,7 +7,6 @@ from office.day.edits import Edit
 from office.seat.calls import Turn, read_call
 from office.terminal.overlays import CommitBox, Typed
 from office.terminal.variant_list import VariantList
-from office.words.actions import BY_NAME
 from office.words.meant import Meant, names_of
 from office.words.notice import Reason, say
 
@@ -21,11 +20,11 @@ class BoardDraft:
     def __init__(self, board: Board) -> None:
         self.board = board
 
-    def meant(self, key: str = "", is_needed: bool = False) -> Meant:
-        """Asks about reasons that are typed, perhaps behind a key of the week."""
+    def meant(self, keys: str = "", is_needed: bool = False) -> Meant:
+        """Asks about reasons that are typed, perhaps behind keys of the week."""
         board = self.board
         instance = board.planning.instance
-        return Meant(key, lambda: names_of(instance, board.labels.labels), is_needed)
+        return Meant(keys, lambda: names_of(instance, board.labels.labels), is_needed)
 
     def ask_reason(self, reason: Reason) -> None:
         """Asks for a reason that is needed."""
@@ -69,7 +68,7 @@ class BoardDraft:
         box = drafting.box()
         if box is None:
             return None
-        found = CommitBox(box, drafting, board.wording, commit, self.meant(BY_NAME["commit"].key))
+        found = CommitBox(box, drafting, board.wording, commit, self.meant(board.run))
         found.why = why
         return found
 

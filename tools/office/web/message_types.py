@@ -297,7 +297,7 @@ class AboutLectureData(TypedDict):
 
 
 AboutData = TypedDict("AboutData", {"about": Optional[AboutLectureData]})
-OffersData = TypedDict("OffersData", {"offers": list[OfferData], "told": list[str]})
+OffersData = TypedDict("OffersData", {"offers": list[OfferData], "told": list[str]}, total=False)
 # a page to be kept as a file
 PageData = TypedDict("PageData", {"name": str, "text": str})
 PrintData = TypedDict("PrintData", {"page": PageData, "notice": NoticeData})

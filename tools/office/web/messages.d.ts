@@ -283,8 +283,8 @@ interface AboutData {
   about: AboutLectureData | null;
 }
 interface OffersData {
-  offers: OfferData[];
-  told: string[];
+  offers?: OfferData[];
+  told?: string[];
 }
 interface PageData {
   name: string;

@@ -264,6 +264,11 @@ class Picture:
         carry = self.work.carry
         return [self.offer(carry, offer) for offer in carry.at(slot)] if carry else []
 
+    def offers_data(self, slot: Slot) -> dict[str, object]:
+        """All that a slot offers, and by which names, if it does."""
+        offers = self.offers(slot)
+        return {"offers": offers, "told": self.offers_told(slot)} if offers else {"offers": []}
+
     def offers_told(self, slot: Slot) -> list[str]:
         """The rooms or courses of them by name, a room with its seats."""
         carry, wording = self.work.carry, self.wording

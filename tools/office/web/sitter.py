@@ -194,8 +194,7 @@ class Sitter:
             lecture = request.lecture()
             return {"about": picture.about(lecture) if lecture else None}
         if verb == "offers":
-            at = request.slot("at")
-            return {"offers": picture.offers(at), "told": picture.offers_told(at)}
+            return picture.offers_data(request.slot("at"))
         if verb == "print":
             return dict(picture.page())
         accepted, cost = len(planning.seat.state.accepted), sum(planning.costs().values())

@@ -20,6 +20,8 @@ Data = dict[str, Any]
 PICKED = {kind.value: kind for kind in (MOVE, SWAP)}
 # letters of a line that is typed by hand
 LINE = 500
+# letters that are typed one after another in the week
+NAME = 40
 # actions beside which a lecture may be held
 LOOKS = ("edits", "history", "pin", "who", "findings")
 
@@ -194,7 +196,7 @@ class WindowTurn:
 
     def acts(self) -> dict[str, Callable[[], Optional[Question]]]:
         """The actions that ask nothing but their name, and perhaps a lecture."""
-        drafting, asking = self.work.drafting, Asking(self.shown, self.request.text("key", 1))
+        drafting, asking = self.work.drafting, Asking(self.shown, self.request.text("key", NAME))
         return {
             "undo": drafting.undo,
             "history": lambda: self.work.drafts_of(self.request.lecture()),

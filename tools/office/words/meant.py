@@ -12,7 +12,9 @@ from office.words.notice import NOTHING, Notice, say
 # letters that a word has behind the letter of a key; a reason with another one was no such word
 BEHIND: dict[str, str] = {"c": "aehiloruyz", "p": "aefhilnorstuy"}
 # a word of fewer letters than that is looked for among names alone
-SHORTEST = 5
+SHORTEST = 3
+# so many letters are pressed one after another as keys; more are a word
+FEW = 3
 
 
 def names_of(instance: Instance, labels: Labels) -> list[str]:
@@ -30,19 +32,22 @@ def is_name(typed: str, names: Iterable[str]) -> bool:
     return is_begun or all(word in words for word in typed.split())
 
 
-def may_be_word(key: str, typed: str) -> bool:
-    """Whether a text is one word of which a key was the first letter."""
-    text = folded(typed)
-    behind = BEHIND.get(key.lower(), "")
-    return len(text) >= SHORTEST and text.isalnum() and text[1] in behind
+def may_be_word(keys: str, why: str) -> bool:
+    """Whether a reason is the rest of one word, of which a key was the first letter; if other
+    letters were typed before that key, any word is."""
+    text = folded(keys + why)
+    if " " in text or len(text) < SHORTEST:
+        return False
+    return len(keys) > 1 or text[1] in BEHIND.get(keys.lower(), "")
 
 
-def may_be_meant_otherwise(key: str, why: str, names: Iterable[str]) -> bool:
-    """Whether a reason that was typed behind a key, or behind none, is to be asked about."""
+def may_be_meant_otherwise(keys: str, why: str, names: Iterable[str]) -> bool:
+    """Whether a reason that was typed behind keys of the week, or behind none, is to be asked
+    about."""
     names, why = list(names), why.strip()
     if not why:
-        return key in names
-    if key and (is_name(key + why, names) or may_be_word(key, key + why)):
+        return keys in names or len(keys) > FEW
+    if keys and (is_name(keys + why, names) or may_be_word(keys, why)):
         return True
     return folded(why) in map(folded, names)
 
@@ -54,7 +59,7 @@ class Meant:
     def __init__(
         self, key: str, names: Callable[[], Iterable[str]], is_needed: bool = False
     ) -> None:
-        # without the key, if nothing was pressed before what is typed
+        # `key` is what was pressed in the week before it, letter by letter
         self.key, self.names, self.is_needed = key, names, is_needed
         # what was asked about last
         self.asked: Optional[str] = None

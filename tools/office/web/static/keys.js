@@ -30,8 +30,12 @@ function undoingOf({ ctrlKey, metaKey, altKey, shiftKey, key }) {
 export function listenToKeys(acts, keys) {
   const names = new Map(keys.flatMap((one) => one.keys.map((key) => [key, one.name])));
 
+  // the letters that were pressed last, one after another: perhaps a name that is looked for
+  let run = "";
+
   /** @type {(event: KeyboardEvent) => void} */
   function inWeek(event) {
+    run = event.key.length === 1 ? run + event.key : "";
     const slot = slotOf(/** @type {HTMLElement} */ (event.target).dataset.at || "0,0");
     if (event.key === "ContextMenu" || (event.shiftKey && event.key === "F10")) {
       event.preventDefault();
@@ -41,7 +45,7 @@ export function listenToKeys(acts, keys) {
     const step = STEPS[event.key];
     const name = names.get(event.key) || names.get(event.key.toLowerCase());
     if (step) acts.go(...step);
-    else if (name) acts.act(name, event.key);
+    else if (name) acts.act(name, run.slice(-40));
     else return;
     event.preventDefault();
   }
@@ -63,6 +67,9 @@ export function listenToKeys(acts, keys) {
   }
 
   find("week").addEventListener("keydown", inWeek);
+  document.addEventListener("pointerdown", () => {
+    run = "";
+  });
   document.addEventListener("keydown", anywhere);
   find("help-button").addEventListener("click", () => acts.act("help"));
   find("skip").addEventListener("click", (event) => {
