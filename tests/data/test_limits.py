@@ -5,7 +5,8 @@ import os
 
 from support import OfficeTest
 
-from office.data.tables import LONGEST, Faults, read_cells, write_table
+from office.data.decoding import read_cells
+from office.data.tables import LONGEST, tidy, write_table
 
 FORMULAS = ("=cmd|' /C calc'!A0", "+1", "-1", "@x", "'=x", "''+y", "=", "-")
 PLAIN = ("Analysis", "a=b", "'tis", "x-y", "", "1.Jahr")
@@ -64,5 +65,5 @@ class Formulas(OfficeTest):
                 self.assertFalse(cell.startswith(("=", "+", "-", "@", "\t", "\r")), cell)
             if one in PLAIN:
                 self.assertEqual(cells, [one, one])
-        found = read_cells("x.csv", text, Faults())[1:]
-        self.assertEqual(found, [[one, one] for one in (*FORMULAS, *PLAIN)])
+        found = read_cells(text, tidy, lambda row, cause: self.fail(cause))
+        self.assertEqual(found.rows[1:], [[one, one] for one in (*FORMULAS, *PLAIN)])
