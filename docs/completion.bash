@@ -64,7 +64,7 @@ _timedesk_known() {
 # end of words
 # the words of office, by tools/flags.py
 _office_commands=(open sit web status close block unblock blocks log show diff revert import export publish)
-_office_bare='--costs --csv --follow --help --html --ics --json --links --plain --unproved --web'
+_office_bare='--costs --csv --follow --help --html --ics --json --links --plain --semicolon --unproved --web --whole-term --with-check --xlsx'
 _office_known() {
     case $1 in
     '') options='--help --unproved' ;;
@@ -81,8 +81,8 @@ _office_known() {
     diff) options='--course --curriculum --help --room --teacher' ;;
     revert) options='--help --name --seat' ;;
     import) options='--help --output' ;;
-    export) options='--at --help --output' ;;
-    publish) options='--follow --help --json' ;;
+    export) options='--at --help --output --semicolon --xlsx' ;;
+    publish) options='--follow --from --help --json --whole-term --with-check' ;;
     *) options=--help ;;
     esac
 }

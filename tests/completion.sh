@@ -42,13 +42,8 @@ offers() {
 mkdir old new '0 folder'
 # shellcheck disable=SC2016
 touch monday.ctt 'two words.ctt' monday.sol tuesday.sol day.txt old/a.ctt old/0.in old/0.out old/1.in old/1.out new/notes.txt '0 folder/$(touch hit)'
-cat >small.ctt <<'INSTANCE'
-Name: Small Courses: 3 Rooms: 2 Days: 2 Periods_per_day: 3 Curricula: 2 Constraints: 0
-COURSES: alg t1 2 2 30  geo t2 2 1 20  top t1 1 1 50
-ROOMS: A 25  $(touch,hit) 40
-CURRICULA: q1 2 alg geo  q2 1 top
-UNAVAILABILITY_CONSTRAINTS: END.
-INSTANCE
+sed -e 's/^Curricula: 1/Curricula: 2/; s/^B /$(touch,hit) /; /^q1/a q2 1 top' \
+    "$here/examples/small.ctt" >small.ctt
 folders=$'0 folder\nnew\nold'
 
 # commands

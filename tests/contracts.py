@@ -8,7 +8,7 @@ from typing import FrozenSet, Iterable, List, Optional, Set, Tuple
 
 CRATES = pathlib.Path(__file__).resolve().parent.parent / "crates"
 LAWS = re.compile(r"laws$")
-HEAD = re.compile(r"^ *(pub(?:\([a-z]+\))? )?(?:const )?fn ([a-z_0-9]+)")
+HEAD = re.compile(r"^ *(pub(?:\([a-z]+\))? )?(?:const |extern .C. )?fn ([a-z_0-9]+)")
 CLAUSE = re.compile(r"^ *ensures (?:([a-z_0-9]+) )?\{")
 TYPE = re.compile(r"^(?:pub(?:\([a-z]+\))? )?(?:struct|enum|trait|type) (\w+)")
 TRAIT = re.compile(r"^(?:pub(?:\([a-z]+\))? )?trait (\w+)")
@@ -91,7 +91,8 @@ def functions_of(crate: str, path: pathlib.Path, exported: FrozenSet[str]) -> It
             of = owners or module
             # a method of a trait is as public as the trait
             is_open = head.group(1) == "pub " or is_trait
-            heads.append((head.group(2), of, is_open and bool(exported & (of or {head.group(2)}))))
+            is_given = bool(exported & (of or {head.group(2)})) or " extern " in line
+            heads.append((head.group(2), of, is_open and is_given))
             clauses.append([])
         elif clause and clauses:
             clauses[-1].append(clause.group(1) or "")

@@ -7,15 +7,10 @@ import subprocess
 import tempfile
 import threading
 
-from program import EXAMPLES, PROGRAM
+from program import FAST, PROGRAM, SMALL, SPRING, SPRING_SOL, call
 
-SMALL = os.path.join(EXAMPLES, "small.ctt")
-SPRING = os.path.join(EXAMPLES, "spring.ctt")
-SPRING_SOL = os.path.join(EXAMPLES, "spring.sol")
 # what a desk without minutes says first
 NO_MINUTES = "timedesk: no minutes: what is committed ends with the desk\n"
-# where a sync takes no time, if there is such a place
-FAST = "/dev/shm" if os.path.isdir("/dev/shm") else None
 # a test that hangs is ended after so many seconds
 PATIENCE = int(os.environ.get("PATIENCE", "300"))
 
@@ -25,12 +20,6 @@ def room(folder=None):
     made = tempfile.mkdtemp(dir=folder)
     atexit.register(shutil.rmtree, made, ignore_errors=True)
     return made
-
-
-def call(*words, text=b""):
-    """A run of the program to its end: its status, and what it prints and says."""
-    done = subprocess.run([PROGRAM, *words], input=text, capture_output=True, timeout=PATIENCE)
-    return done.returncode, done.stdout.decode(), done.stderr.decode()
 
 
 class Seat:

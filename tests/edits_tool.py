@@ -21,6 +21,7 @@ sys.path[:0] = [os.path.join(HERE, "tools"), os.path.join(HERE, "tests")]
 
 from edits import edit, goals, page, records, said, sources, standing  # noqa: E402
 from edits_small import write_small  # noqa: E402
+from part import run_part  # noqa: E402
 
 REFUSED = {
     "first_for_the_larger": [("larger", "second")],
@@ -186,18 +187,5 @@ class Trying(unittest.TestCase):
         self.assertEqual(records.read(folder), kept)
 
 
-def main() -> int:
-    """Runs the tests that words name, or all."""
-    loader = unittest.defaultTestLoader
-    module = sys.modules[__name__]
-    names = sys.argv[1:]
-    every = loader.loadTestsFromModule(module)
-    suite = loader.loadTestsFromNames(names, module) if names else every
-    result = unittest.TextTestRunner(stream=sys.stdout, verbosity=0).run(suite)
-    failed = len(result.failures) + len(result.errors)
-    print(f"{result.testsRun - failed} passed, {failed} failed")
-    return 1 if failed else 0
-
-
 if __name__ == "__main__":
-    sys.exit(main())
+    run_part("edits_tool.py")

@@ -18,7 +18,7 @@ sys.dont_write_bytecode = True
 sys.path.insert(0, os.path.dirname(os.path.abspath(__file__)))
 
 from gate_small import HERE, MODULES, PASSED, PROVED, TESTS, SmallTree, write  # noqa: E402
-from runner import run_tests  # noqa: E402
+from part import run_part  # noqa: E402
 
 from gate_parts import NAMES, ROWS, Times, judge, table, total_of  # noqa: E402
 
@@ -145,7 +145,8 @@ class Gate(SmallTree):
         )
         failed = [line for line in lines if line.startswith("FAILED: ")]
         self.assertEqual(failed[0], "FAILED: proofs: 1 failed of 4 (out/test/proofs.txt)")
-        self.assertIn("the program of ctt_tool was not built, so not run: runs ", failed[1])
+        told = "the program of ctt_tool was not built, so not run: check_page runs "
+        self.assertIn(told, failed[1])
         self.assertEqual(lines[-1], "8 passed, 2 failed")
 
     def test_names(self):
@@ -250,9 +251,4 @@ class Parts(unittest.TestCase):
 
 
 if __name__ == "__main__":
-    loader = unittest.TestLoader()
-    passed, failed = run_tests(
-        loader.loadTestsFromNames(sys.argv[1:] or ["Gate", "Parts"], sys.modules[__name__])
-    )
-    print(f"{passed} passed, {failed} failed")
-    sys.exit(failed > 0)
+    run_part("gate.py")

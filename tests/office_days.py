@@ -4,47 +4,37 @@ import os
 import subprocess
 
 from desks import NO_MINUTES, PATIENCE, SMALL, SPRING, SPRING_SOL, Desk, Seat, audit, call, room, with_threads
-from program import PROGRAM, check
+from pages import typed_days
+from program import EXAMPLES, PROGRAM, check
 
-DAY = [
-    (0, "open", "opened"),
-    (0, "place geo A 0 1", "done"),
-    (1, "open", "opened"),
-    (1, "place alg B 0 0", "done"),
-    (1, "place top B 0 0", "refused clash alg"),
-    (1, "commit", "committed 1"),
-    (0, "refresh", "refreshed"),
-    (0, "slot 0 0", "lectures 1 alg B 0 0"),
-    (0, "price place top B 0 2", "price 5"),
-    (0, "commit", "committed 2"),
-    (1, "show cost", "costs 0 10 0 0"),
-]
-ROW9 = [
-    (0, "open", "opened"),
-    (0, "slot 0 2", "lectures 0"),
-    (0, "place geo A 0 1", "done"),
-    (1, "open", "opened"),
-    (1, "place top B 0 2", "done"),
-    (1, "commit", "committed 1"),
-    (0, "commit", "stale slot 0 2"),
-    (0, "show cost", "costs 10 15 0 0"),
-    (0, "commit", "no draft"),
-    (0, "abandon", "no draft"),
-    (1, "open", "opened"),
-    (1, "open", "already open"),
-    (1, "show cost", "costs 10 15 0 0"),
-    (1, "abandon", "abandoned"),
-    (1, "frobnicate", "bad line 1 frobnicate"),
-    (1, "0 open", "bad line 1 0"),
-    (1, "leave now", "bad line 2 now"),
-]
+# the answers to the lines of the example, in which a look is stale at the end
+PHANTOM = (
+    *("opened", "lectures 0", "done", "opened", "done", "committed 1", "stale slot 0 2"),
+    "costs 10 15 0 0",
+)
+
+
+def example():
+    """The example, each line at the seat of its planner, with its answer."""
+    with open(os.path.join(EXAMPLES, "phantom.txt")) as file:
+        for line, answer in zip(file.read().splitlines(), PHANTOM):
+            planner, rest = ("0", line) if line.startswith("show") else line.split(" ", 1)
+            yield int(planner), rest, answer
+
+
+def typed(title):
+    """A day of the page, each line at the seat of its planner, with its answer."""
+    for pair in typed_days()[title]["day"]:
+        line, answer = pair.split(" -> ")
+        planner, line = line.split(" ", 1)
+        yield int(planner), line, answer
 
 
 def two_planners():
     """The worked days of two planners, line by line."""
     for name, day, entries, costs in [
-        ("the day of two planners", DAY, 2, "costs 0 10 0 0"),
-        ("the day with a stale draft", ROW9, 1, "costs 10 15 0 0"),
+        ("the day of two planners", typed("The day of two planners"), 2, "costs 0 10 0 0"),
+        ("the day with a stale draft", [*example(), *typed("The day with a stale draft")], 1, "costs 10 15 0 0"),
     ]:
         desk = Desk(2)
         for planner, line, answer in day:
@@ -60,23 +50,6 @@ def two_planners():
 
 # anna has a draft open in which a room is not yet seen to be blocked, ben has what is left
 BLOCKED = "Blocked: 2 room A 0 * teacher t1 1 1 END."
-CLOSED = [
-    (0, "open", "opened"),
-    (0, "place geo A 0 1", "refused blocked"),
-    (0, "place alg B 1 1", "refused unavailable"),
-    (0, "price place geo A 0 1", "refused blocked"),
-    (1, "open", "opened"),
-    (1, "cheapest 9 place geo A * *", "prices 3 -3 place geo A 1 0 -3 place geo A 1 1 -3 place geo A 1 2"),
-    (1, "slots place geo A * *", "slots 6 - unavailable - blocked - blocked -3 place geo A 1 0 -3 place geo A 1 1 -3 place geo A 1 2"),
-    (1, "place geo A 1 0", "done"),
-    (1, "commit", "committed 1"),
-    (0, "refresh", "stale course geo"),
-    (0, "redo", "redone 0 of 0"),
-    (0, "place alg A 1 0", "refused clash geo"),
-    (0, "place alg A 0 2", "refused blocked"),
-    (0, "place alg B 0 0", "done"),
-    (0, "commit", "committed 2"),
-]
 
 
 def closures():
@@ -86,7 +59,7 @@ def closures():
         file.write(BLOCKED)
     sides = ["--blocked", os.path.join(folder, "blocked")]
     desk = Desk(2, *sides)
-    for planner, line, answer in CLOSED:
+    for planner, line, answer in typed("Closures"):
         check(f"closures: {planner} {line}", desk.seats[planner].ask(line), answer)
     for seat in desk.seats:
         seat.ask("leave")

@@ -9,6 +9,12 @@ HERE = os.path.dirname(os.path.dirname(os.path.abspath(__file__)))
 PROGRAM = os.environ.get("PROGRAM", os.path.join(HERE, "crates/ctt_tool/out/ctt_tool"))
 EXAMPLES = os.path.join(HERE, "examples")
 NAMES = os.path.join(HERE, "tests/names")
+SMALL = os.path.join(EXAMPLES, "small.ctt")
+SMALL_SOL = os.path.join(EXAMPLES, "s.sol")
+SPRING = os.path.join(EXAMPLES, "spring.ctt")
+SPRING_SOL = os.path.join(EXAMPLES, "spring.sol")
+# where a sync takes no time, if there is such a place
+FAST = "/dev/shm" if os.path.isdir("/dev/shm") else None
 
 passed = 0
 failed = 0
@@ -29,7 +35,8 @@ def read_files(files):
 
 
 def write_files(folder, instance, solution, barred=None, blocked=None):
-    """Files of an instance, a solution and perhaps barred rooms and closures, as the words of a command give them."""
+    """Files of an instance, a solution and perhaps barred rooms and closures, as the words of a
+    command give them."""
     files = []
     texts = {"ctt": instance, "sol": solution, "barred": barred, "blocked": blocked}
     for ending, text in texts.items():
@@ -41,13 +48,15 @@ def write_files(folder, instance, solution, barred=None, blocked=None):
 
 
 def words_of(files):
-    """The words of a command by which it is given these files. The option of a side file is its ending."""
+    """The words of a command by which it is given these files. The option of a side file is its
+    ending."""
     sides = (("--" + os.path.splitext(file)[1][1:], file) for file in files[2:])
     return [*files[:2], *itertools.chain.from_iterable(sides)]
 
 
 def build(folder, name):
-    """A library of calls to stand in front of the C library's, or an end where there is no compiler."""
+    """A library of calls to stand in front of the C library's, or an end where there is no
+    compiler."""
     compiler = next(filter(None, map(shutil.which, ("cc", "gcc", "clang"))), None)
     if compiler is None:
         print("no C compiler was found, so no call of the C library failed")
@@ -59,7 +68,8 @@ def build(folder, name):
 
 
 def check(name, found, wanted):
-    """Counts a comparison of two texts, or of two values. Of texts the first line that differs is shown."""
+    """Counts a comparison of two texts, or of two values. Of texts the first line that differs is
+    shown."""
     global passed, failed
     if found == wanted:
         passed += 1
@@ -73,9 +83,9 @@ def check(name, found, wanted):
     print(f"FAILED: {name}: found {found!r:.300}\n    and not {wanted!r:.300}")
 
 
-def call(*words):
-    """A run of the program: its status, what it prints, and what it says."""
-    done = subprocess.run([PROGRAM, *words], capture_output=True, timeout=300)
+def call(*words, text=b""):
+    """A run of the program on this input: its status, what it prints, and what it says."""
+    done = subprocess.run([PROGRAM, *words], input=text, capture_output=True, timeout=300)
     return done.returncode, done.stdout.decode(), done.stderr.decode()
 
 

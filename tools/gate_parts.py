@@ -41,13 +41,13 @@ def tests_of_program(*files: str) -> tuple[Part, ...]:
 
 PROOFS = Part("proofs")
 EDITS = Part("edits")
-# These rows are worked on at the same time, each in turn. Edits are tried over what the proofs
-# leave; tests of screens wait more than they work.
+# These rows are worked on at the same time, each in turn. Edits are tried, and the page of checks
+# is made, over what the proofs leave; tests of screens wait more than they work.
 ROWS = (
     (test("script.sh"), test("proved.py"), test("gate.py"), test("edits_tool.py")),
-    (PROOFS, EDITS),
+    (PROOFS, test("check_page.py", Need.PROGRAM), EDITS),
     (
-        *tests_of_program("runs.sh", "findings.py", "points.py", "peeks.py", "week.py"),
+        *tests_of_program("runs.py", "findings.py", "points.py", "peeks.py", "week.py"),
         *tests_of_program("blocked.py", "slots.py", "page.py", "compare.py", "flags.py"),
         *tests_of_program("completion.sh", "guide.sh", "devices.py", "seats.py", "office.py"),
         test("memory.sh", Need.PROGRAM, Need.TRIALS),

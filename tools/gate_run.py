@@ -219,7 +219,8 @@ class Run:
             return Outcome(part.name, 0, 1, wrong=f"it could not be run: {error!r}")
 
     def call_test(self, part: Part) -> Call:
-        return Call([str(TOP / "tests" / part.file)], TOP, self.told)
+        tree = {"TREE": str(self.tree())} if self.room else {}
+        return Call([str(TOP / "tests" / part.file)], TOP, {**self.told, **tree})
 
     def call_edits(self) -> Call:
         """Tries edits over the libraries that were proved, of all crates if all were proved."""

@@ -14,18 +14,12 @@ sys.dont_write_bytecode = True
 HERE = os.path.dirname(os.path.dirname(os.path.dirname(os.path.abspath(__file__))))
 sys.path.insert(0, os.path.join(HERE, "tools"))
 sys.path.append(os.path.join(HERE, "tests"))
-PROGRAM = os.path.abspath(
-    os.environ.get("PROGRAM", os.path.join(HERE, "crates/ctt_tool/out/ctt_tool"))
-)
+import program  # noqa: E402
+from program import FAST, SMALL, SMALL_SOL, SPRING, SPRING_SOL  # noqa: E402
+
+PROGRAM = os.environ["PROGRAM"] = os.path.abspath(program.PROGRAM)
 OFFICE = os.path.join(HERE, "office")
-SMALL = os.path.join(HERE, "examples/small.ctt")
-SMALL_SOL = os.path.join(HERE, "examples/s.sol")
-SPRING = os.path.join(HERE, "examples/spring.ctt")
-SPRING_SOL = os.path.join(HERE, "examples/spring.sol")
-os.environ["PROGRAM"] = PROGRAM
 FAKE = os.path.join(HERE, "tests/client/fake_desk.py")
-# where a sync takes no time, if there is such a place
-FAST = "/dev/shm" if os.path.isdir("/dev/shm") else None
 # what takes longer hangs
 PATIENCE = 2 * int(os.environ.get("PATIENCE", "30"))
 

@@ -2,8 +2,9 @@
 import os
 import random
 
-from fake_week import FakeWeek
-from plain_instance import instance_of
+from plain_instance import text_of
+from plain_rules import Week
+from rules import Instance
 from support import PROGRAM, SMALL, OfficeTest, lines_of
 
 from office.data.label_files import read_labels
@@ -178,7 +179,7 @@ class SideFile(OfficeTest):
             (["--blocked", path], ["refused blocked", "done", "refused unavailable"]),
             ([], ["done", "done", "done"]),
         ):
-            week = FakeWeek(instance_of(SMALL, *sides[1:]))
+            week = Week(Instance(*map(text_of, (SMALL, *sides[1:]))))
             for edit, answer in zip(edits, wanted):
                 scratch = Scratch([PROGRAM, "run", SMALL, "-", *sides])
                 found = scratch.answers([Edit.parse(edit)])

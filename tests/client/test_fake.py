@@ -4,8 +4,8 @@ import os
 from support import OfficeTest
 from test_known import PLANNERS, Drawn, Seats
 
-from fake_desk import FakeDesk
 from plain_instance import lectures_of
+from plain_seats import SeatsDesk
 from office.day.instance import read_solution
 from seat_states import KnownState
 
@@ -73,7 +73,7 @@ class Beside(OfficeTest):
         drawn = Drawn(self, seed)
         start = read_solution(drawn.start) if drawn.start else []
         seats = Seats(self, drawn)
-        fake = FakeDesk(drawn.plain, lectures_of(drawn.start), PLANNERS, os.devnull)
+        plain = SeatsDesk(drawn.plain, lectures_of(drawn.start))
         knowns = [KnownState(drawn.instance, start) for _ in range(PLANNERS)]
         for _ in range(80):
             planner = drawn.draw.randrange(PLANNERS)
@@ -82,7 +82,7 @@ class Beside(OfficeTest):
                 line = drawn.draw.choice(("status", "redo", "undo", "help"))
             if drawn.draw.random() < 0.1:
                 line = self.wrong(drawn.draw, line.split())
-            answer, told = seats.ask(planner, line), fake.answer(planner, line)
+            answer, told = seats.ask(planner, line), plain.answer_at(planner, line)
             self.assertEqual(told, answer, (seed, line))
             made = list(knowns[planner].made)
             self.assertTrue(knowns[planner].feed(line, answer), (seed, line, answer))

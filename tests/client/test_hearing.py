@@ -4,8 +4,8 @@ import copy
 from support import SMALL, SMALL_SOL, OfficeTest, lines_of
 from test_known import Drawn
 
-from fake_week import FakeWeek
 from plain_instance import lectures_of
+from plain_rules import Week
 from office.day.edits import Edit
 from office.day.instance import read_instance, read_solution
 from office.day.minutes import Minutes
@@ -113,7 +113,7 @@ class Reading(OfficeTest):
             drawn = Drawn(self, seed)
             start = read_solution(drawn.start) if drawn.start else []
             known = KnownState(drawn.instance, start)
-            week = FakeWeek(drawn.plain, lectures_of(drawn.start))
+            week = Week(drawn.plain, lectures_of(drawn.start))
             for _ in range(100):
                 edit = drawn.edit(known)
                 if week.fault(edit) is None:

@@ -2,8 +2,9 @@
 import random
 import unittest
 
-from fake_week import FakeWeek
-from plain_instance import instance_of
+from plain_instance import text_of
+from plain_rules import Week
+from rules import Instance
 from support import PROGRAM, SMALL, SPRING, SPRING_SOL, lines_of
 
 from office.day.edits import Edit, Kind
@@ -16,7 +17,7 @@ from office.past.inverse import invert as invert_by
 from office.refused import Refused
 
 
-PLAIN = instance_of(SPRING)
+PLAIN = Instance(text_of(SPRING))
 
 
 def invert(timetable, shifts):
@@ -27,7 +28,7 @@ def invert(timetable, shifts):
 
 def week_of(timetable):
     """The same for the desk of the tests, which says what can be made."""
-    return FakeWeek(PLAIN, timetable.lectures())
+    return Week(PLAIN, timetable.lectures())
 
 
 def parsed(edit):

@@ -5,10 +5,11 @@ import subprocess
 
 from support import PROGRAM, OfficeTest
 
+from desks import Desk
 from drawn import draw_instance, draw_solution
-from fake_desk import FakeDesk
-from fake_week import FakeWeek
-from plain_instance import file_of_closures, instance_of, lectures_of
+from plain_instance import file_of_closures, lectures_of, text_of
+from plain_rules import Week
+from plain_seats import SeatsDesk
 from rules import Instance as Plain
 
 from office.day.closure import Scope
@@ -38,7 +39,7 @@ class Drawn:
         self.options = ["--barred", self.barred] if barred is not None else []
         self.instance = read_instance(self.words[0], self.barred)
         self.blocked = self.block(test)
-        self.plain = instance_of(self.words[0], self.barred, self.blocked)
+        self.plain = Plain(*map(text_of, (self.words[0], self.barred, self.blocked)))
         run = subprocess.run(
             [PROGRAM, "run", *self.words, os.devnull, "--start", start, *self.options],
             capture_output=True,
@@ -132,35 +133,22 @@ class Drawn:
         return self.draw.choice(("status", "undo", "undo", "redo", "redo"))
 
 
-class Seats:
-    """The seats of a desk of the program, in a folder of their own."""
+class Seats(Desk):
+    """The seats of a desk of the program, in a folder of its own."""
 
     def __init__(self, test, drawn):
         folder = test.path("seats")
         os.mkdir(folder)
-        seats = [os.path.join(folder, str(planner)) for planner in range(PLANNERS)]
-        for seat in seats:
-            os.mkfifo(seat + ".in")
-            os.mkfifo(seat + ".out")
-        self.minutes = os.path.join(folder, "minutes")
-        words = [PROGRAM, "desk", *drawn.words, *seats, *drawn.options, "--minutes", self.minutes]
-        self.process = subprocess.Popen(words, stdout=subprocess.DEVNULL)
-        self.ends = []
-        for seat in seats:
-            lines = open(seat + ".in", "wb", buffering=0)
-            self.ends.append((lines, open(seat + ".out", "rb")))
+        super().__init__(PLANNERS, *drawn.options, instance=drawn.words[0], folder=folder)
 
     def ask(self, planner, line):
         """Types a line at a seat, and answers what it is told."""
-        lines, answers = self.ends[planner]
-        lines.write(line.encode() + b"\n")
-        return answers.readline().decode().rstrip("\n")
+        return self.seats[planner].ask(line)
 
     def end(self):
-        for pair in self.ends:
-            for one in pair:
-                one.close()
-        self.process.wait(20)
+        for seat in self.seats:
+            seat.go()
+        super().end()
 
 
 class Scripts(OfficeTest):
@@ -175,7 +163,7 @@ class Scripts(OfficeTest):
         # the program answers the script so far: each line is drawn by what is known after the
         # answers before
         seats = Seats(self, drawn)
-        fake = FakeDesk(drawn.plain, lectures_of(drawn.start), PLANNERS, os.devnull)
+        plain = SeatsDesk(drawn.plain, lectures_of(drawn.start))
         knowns = [KnownState(drawn.instance, start) for _ in range(PLANNERS)]
         logged = [FedState() for _ in range(PLANNERS)]
         for _ in range(60):
@@ -183,7 +171,7 @@ class Scripts(OfficeTest):
             known = knowns[planner]
             line = drawn.line(known)
             answer = seats.ask(planner, line)
-            self.assertEqual(fake.answer(planner, line), answer, (seed, line))
+            self.assertEqual(plain.answer_at(planner, line), answer, (seed, line))
             edits = list(known.made)
             lines += self.lines_of_run(planner, known, line, answer)
             self.assertTrue(known.feed(line, answer), (seed, planner, line, answer, lines))
@@ -217,12 +205,12 @@ class Scripts(OfficeTest):
         self.assertEqual(logged.accepted, known.accepted)
         if logged.is_open:
             timetable = known.timetables.base.copy()
-            week = FakeWeek(drawn.plain, timetable.lectures())
+            week = Week(drawn.plain, timetable.lectures())
             for edit in logged.edits:
                 self.assertIsNone(week.fault(str(edit)))
                 self.assertEqual(str(timetable.make(edit)), week.make(str(edit)))
             self.assertTrue(timetable.same_as(known.draft))
-            self.assertEqual(week.by_course, known.draft.by_course)
+            self.assertEqual(week.by_course(), known.draft.by_course)
 
     def test_drawn(self):
         for seed in range(DRAWS):

@@ -1,7 +1,5 @@
 """What each slot offers to a lecture that is picked up, beside single questions to the same desk."""
 import test_speed
-from fake_week import FakeWeek
-from fake_words import words_of
 from support import SMALL, SMALL_SOL, SPRING, SPRING_SOL, OfficeTest, make_edit, said
 
 from office.day.edits import Edit
@@ -13,8 +11,10 @@ from office.terminal.grid import Grid
 from office.words.reasons import reason
 from office.work.carry import MOVE, PLACE, SWAP, Carry
 from office.work.week import View
-from plain_desk import FAULTS
-from plain_instance import instance_of
+from plain_instance import text_of
+from plain_rules import FAULTS
+from plain_seats import words_of
+from rules import Instance
 
 
 class AtDesk(OfficeTest):
@@ -61,7 +61,9 @@ class AtDesk(OfficeTest):
 
     def clash(self, one, other):
         """Whether two courses clash, by the plain rules."""
-        return FakeWeek(instance_of(self.path("day/instance.ctt"))).clash(one, other)
+        plain = Instance(text_of(self.path("day/instance.ctt")))
+        number = plain.names()["course"].index
+        return one != other and any(plain.causes(number(one), number(other)))
 
     def swap_told(self, planning, carry, slot, fault):
         """Why nothing can change places with it at a slot: by a question for each lecture there,

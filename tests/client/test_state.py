@@ -5,8 +5,8 @@ import random
 
 from support import OfficeTest, lines_of
 
-from fake_desk import FakeDesk
 from plain_instance import lectures_of
+from plain_seats import SeatsDesk
 from seat_states import FedState, KnownState
 from test_known import PLANNERS, Drawn
 
@@ -39,14 +39,14 @@ class Logs(OfficeTest):
         """A drawn day of a planner: his log, and what was known after each answer."""
         drawn = Drawn(self, seed)
         start = read_solution(drawn.start) if drawn.start else []
-        desk = FakeDesk(drawn.plain, lectures_of(drawn.start), PLANNERS, os.devnull)
+        desk = SeatsDesk(drawn.plain, lectures_of(drawn.start))
         knowns = [KnownState(drawn.instance, start) for _ in range(PLANNERS)]
         log, seen = SeatLog(self.path("log")), [Seen(knowns[0])]
         for _ in range(LINES):
             planner = drawn.draw.choice((0, 0, 1, 2))
             known = knowns[planner]
             line = drawn.line(known)
-            answer, made = desk.answer(planner, line), list(known.made)
+            answer, made = desk.answer_at(planner, line), list(known.made)
             self.assertTrue(known.feed(line, answer), (seed, line, answer))
             if answer.startswith("committed "):
                 self.assertTrue(all([one.accept_edits(made) for one in knowns]))

@@ -31,6 +31,10 @@ events = [
         "summary": str(event["summary"]),
         "location": str(event["location"]),
         "told": str(event["description"]),
+        "sequence": int(event["sequence"]),
+        "stamp": event["dtstamp"].dt.isoformat(),
+        "modified": event["last-modified"].dt.isoformat(),
+        "status": str(event.get("status", "")),
     }
     for event in found.walk("VEVENT")
 ]

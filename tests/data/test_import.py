@@ -223,12 +223,15 @@ class Codes(Tables):
         self.imported()
         # the labels of an import go back into the tables: codes stay, whatever else is new
         shutil.copy(self.path("plan/labels.csv"), self.path("college/labels.csv"))
+        # both are meant, though they are alike
+        with open(self.path("college/labels.csv"), "a") as file:
+            file.write("course,Linear.Algebra,,\n")
         new = "Linear.Algebra,Ada Byron,1,1,3\nLinear Algebra,"
         self.change("courses.csv", "Linear Algebra,", new)
         self.imported(to="next")
         courses = list(instance_of(self.path("next/instance.ctt")).courses)
         self.assertEqual(courses[:2], ["Linear.Algebra", "Linear-Algebra"])
-        self.change("courses.csv", "Linear.Algebra,", "Linear Algebra !,")
+        self.change("courses.csv", "Linear.Algebra,", "Linear Algebra +,")
         self.imported(to="last")
         courses = list(instance_of(self.path("last/instance.ctt")).courses)
         self.assertEqual(courses[:2], ["Linear-Algebra-2", "Linear-Algebra"])

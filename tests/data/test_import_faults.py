@@ -33,7 +33,6 @@ FAULTS = [
         [
             "courses.csv row 6: the course Linear Algebra stands in row 2 already",
             "curricula.csv row 3: there is no course Analysis",
-            "unavailable.csv row 3: there is no teacher Noether",
             "lectures.csv row 3: there is no course Analysis",
         ],
     ),
@@ -174,13 +173,11 @@ class Wrong(Tables):
     def test_bytes_of_another_encoding(self):
         self.tables()
         with open(self.path("college/rooms.csv"), "wb") as file:
-            file.write("Room;Seats\r\nHall 2;7\r\nÜbungsraum;8\r\n".encode("cp1252"))
-        first, *rest = self.faults()
-        self.assertEqual(
-            first, "rooms.csv row 3: not UTF-8: let the spreadsheet write it as CSV in UTF-8"
-        )
+            file.write(b"Room;Seats\r\nHall 2;7\r\n\x81;8\r\nCellar;9\r\n\x8d;3\r\n")
+        cause = "neither UTF-8 nor Windows-1252: let the spreadsheet write it as CSV in UTF-8"
         # rooms that nobody could read are not said to be missing
-        self.assertEqual(rest, [])
+        wanted = [f"rooms.csv row 3: {cause}", f"rooms.csv row 5: {cause}"]
+        self.assertEqual(self.faults(), wanted)
 
     def test_closures(self):
         self.tables()

@@ -85,6 +85,8 @@ class Installed(Install):
         prefix = self.path("a prefix")
         told = self.run_in("./install", "--prefix", prefix)
         self.assertIn("install: the proved program, office, manual, completions", told)
+        # the kit of this test makes no module
+        self.assertIn("install: without the page of checks: office publish --with-check is", told)
         self.assertIn(f"install: {prefix}/bin is not on the path", told)
         shutil.rmtree(self.top)
         os.mkdir(self.top)

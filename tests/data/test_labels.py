@@ -88,8 +88,9 @@ class Said(Folder):
 
     def test_clocks_and_dates(self):
         clocks = {"8:15": 495, "08:15:00": 495, "12:00 AM": 0, "1:30 pm": 810, "23:59": 1439}
+        clocks.update({"8.15": 495, "08.15": 495, "8.15 Uhr": 495, "8h15": 495})
         self.assertEqual({text: read_minute(text) for text in clocks}, clocks)
-        for text in "24:00", "8:60", "13:00 PM", "8.15", "8", "8:15:30", "8:15 x", "٨:15":
+        for text in "24:00", "8:60", "13:00 PM", "8,15", "8", "8:15:30", "8:15 x", "٨:15":
             self.assertIsNone(read_minute(text), text)
         date = datetime.date(2026, 2, 1)
         self.assertEqual([read_date("2026-02-01"), read_date("1.2.2026")], [date, date])

@@ -1,4 +1,5 @@
 """The weeks of a day in a folder for a web server."""
+import base64
 import json
 import os
 import re
@@ -69,9 +70,9 @@ class Files(Publishing):
         self.labelled()
         printed, said = self.publish()
         self.assertEqual(printed, "")
-        self.assertIn("office: day, at its start: 0 lectures changed, 19 files of 19 written", said)
+        self.assertIn("office: day, at its start: 0 lectures changed, 20 files of 20 written", said)
         instance = instance_of(SMALL)
-        wanted = {"index.html", "changes.html", "published.json"}
+        wanted = {"index.html", "changes.html", "published.json", "plan.json"}
         for kind, codes in (
             ("course", instance.courses),
             ("room", instance.rooms),
@@ -113,6 +114,81 @@ class Files(Publishing):
         self.assertNotIn("Calendar", self.tree()["teacher/t1.html"].decode())
 
 
+class Check(Publishing):
+    """The page in which a visitor checks the timetable himself."""
+
+    def setUp(self):
+        super().setUp()
+        page = self.path("check.html")
+        with open(page, "w") as file:
+            file.write('<script type="application/json" id="given">{}</script>')
+        self.environment = {**self.environment, "CHECK_PAGE": page}
+
+    def given(self):
+        """What stands in the page, with the texts of the files."""
+        text = self.tree()["check.html"].decode()
+        found = json.loads(re.search(r'id="given">([^<]*)</script>', text)[1])
+        for file in found["files"]:
+            file["text"] = base64.b64decode(file["text"])
+        return found
+
+    def test_only_if_asked(self):
+        self.labelled()
+        said = self.publish()[1]
+        self.assertNotIn("check.html", self.tree())
+        self.assertNotIn("Check this", self.tree()["index.html"].decode())
+        self.assertNotIn("numbers of students", said)
+
+    def test_what_is_shown_to_whom(self):
+        """It is said before anything is written, and on the page what is not checked."""
+        self.labelled()
+        said = self.publish("--with-check")[1].splitlines()
+        self.assertIn("whoever reads the site gets the whole instance", said[0])
+        self.assertIn("numbers of students, and when teachers and rooms are closed", said[0])
+        self.assertIn('<a href="check.html">Check', self.tree()["index.html"].decode())
+        told = " ".join(self.given()["told"])
+        self.assertIn("Not checked are the names", told)
+        self.assertIn("day, at its start", told)
+
+    def test_files(self):
+        """The instance, the timetable as it is published, and what is barred and closed."""
+        day = self.labelled()
+        with open(day.barred, "w") as file:
+            file.write("Barred: 0\nEND.\n")
+        with open(day.file("blocked"), "w") as file:
+            file.write("Blocked: 0\nEND.\n")
+        self.accept(day.path, "move geo 1 2 A 1 1")
+        self.publish("--with-check")
+        given = self.given()
+        texts = {file["kind"]: file["text"] for file in given["files"]}
+        with open(SMALL, "rb") as file:
+            self.assertEqual(texts.pop("instance"), file.read())
+        self.assertIn(b"geo A 1 1\n", texts.pop("solution"))
+        self.assertEqual(
+            texts, {"barred": b"Barred: 0\nEND.\n", "blocked": b"Blocked: 0\nEND.\n"}
+        )
+        self.assertRegex(given["days"], "^[MTWFS][a-z]{2},")
+
+    def test_follows_the_timetable(self):
+        day = self.labelled()
+        self.publish("--with-check")
+        before = self.given()
+        self.assertIn("nothing has changed", self.publish("--with-check")[1])
+        self.accept(day.path, "move geo 1 2 A 1 1")
+        self.publish("--with-check")
+        self.assertNotEqual(self.given(), before)
+
+    def test_without_a_page(self):
+        self.labelled()
+        self.environment["CHECK_PAGE"] = self.path("none")
+        status, printed, said = self.office(
+            "publish", self.path("day"), self.path("site"), "--with-check"
+        )
+        self.assertEqual((status, printed), (3, ""))
+        self.assertIn("there is no page of checks here: ./check-page makes it", said)
+        self.assertFalse(os.path.exists(self.path("site")))
+
+
 class Changed(Publishing):
     def test_a_page_only_if_it_changed(self):
         day = self.labelled()
@@ -128,7 +204,8 @@ class Changed(Publishing):
         changed = {name for name in after if after[name] != before.get(name)}
         weeks = {"course/geo", "curriculum/q1", "room/A", "teacher/t2"}
         wanted = {f"{week}.{ending}" for week in weeks for ending in ("html", "ics")}
-        self.assertEqual(changed, wanted | {"index.html", "changes.html", "published.json"})
+        others = {"index.html", "changes.html", "published.json", "plan.json"}
+        self.assertEqual(changed, wanted | others)
         # the others are the same files, so that their times are the old ones
         same = {n for n in after if os.stat(self.path(f"site/{n}")).st_ino == times[n]}
         self.assertEqual(same, set(after) - changed)
@@ -229,7 +306,8 @@ class Whole(Publishing):
         # what is blocked is published as what is committed
         self.office("block", day, "room", "B", "1")
         self.assertTrue(wait_until(lambda: os.readlink(site).endswith("/3")))
-        self.assertNotIn("top", self.tree()["room/B.html"].decode().split("<body")[1])
+        page = self.tree()["room/B.html"].decode().split("<body")[1]
+        self.assertNotIn("top", page.split('class="changes"')[0])
         self.sit("day", 0, "open\nplace top A 1 2\ncommit\n")
         self.assertTrue(wait_until(lambda: os.readlink(site).endswith("/4")))
         self.office("close", day, "--wait", "0")

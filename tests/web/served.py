@@ -202,14 +202,14 @@ atexit.register(POOL.end)
 class BrowserTest(WebTest):
     """A test in real browsers. Behind one that has failed all begin anew."""
 
-    def run(self, result=None):
-        before, is_good = len(result.failures + result.errors), False
-        try:
-            super().run(result)
-            is_good = len(result.failures + result.errors) == before
-        finally:
-            if not is_good:
-                POOL.end()
+    def setUp(self):
+        super().setUp()
+        self.addCleanup(self.begin_anew)
+
+    def begin_anew(self):
+        """Ends all browsers behind a test that has failed."""
+        if not self._outcome.success:
+            POOL.end()
 
     def browser(self, **settings):
         kind, browser = POOL.take(settings)

@@ -129,13 +129,15 @@ class Files(WebTest):
         self.assertEqual(self.ask("hello", {"name": "ben"}, "seat 1")[0], 200)
 
     def test_no_file_is_left(self):
-        """So do strangers who say nothing."""
+        """So do strangers who say nothing: they are there while somebody sits down."""
         server = self.serve_few()
-        ends = self.connections(FEW + 100, b"G")
+        self.connections(FEW + 100, b"G")
+        time.sleep(1.0)
         self.assertIsNone(server.poll())
-        for end in ends:
-            end.close()
+        begun = time.monotonic()
         self.assertEqual(self.ask("hello", {"name": "anna"})[0], 200)
+        # none of them is let go by its time alone
+        self.assertLess(time.monotonic() - begun, 8)
 
     def test_unread(self):
         """Who does not take his answers is let go."""

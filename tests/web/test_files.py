@@ -13,6 +13,8 @@ STATIC = os.path.join(HERE, "tools/office/web/static")
 PACKAGE = os.path.join(HERE, "tools/office")
 FOLDERS = ("", "day", "seat", "work", "words", "terminal", "past", "data", "web")
 TOOLS = os.path.join(HERE, "tools")
+# modules that know nothing of the page; the others have a picture that may still be missing
+STRICT = re.compile(r"static/(card|held|help|inspector|keys|menu|numbers|queue|search)\.js\(")
 
 
 def lines_of(path):
@@ -119,6 +121,14 @@ class Files(unittest.TestCase):
         words = ["tsc", "-p", os.path.join(PACKAGE, "web")]
         done = subprocess.run(words, capture_output=True, text=True)
         self.assertEqual((done.returncode, done.stdout, done.stderr), (0, "", ""))
+
+    @unittest.skipUnless(shutil.which("tsc"), "tsc is not installed: no type of the page was checked")
+    def test_strict(self):
+        """In these modules also what may be null or missing is looked at."""
+        words = ["tsc", "-p", os.path.join(PACKAGE, "web"), "--strict", "--pretty", "false"]
+        done = subprocess.run(words, capture_output=True, text=True)
+        wrong = [line for line in done.stdout.splitlines() if STRICT.search(line)]
+        self.assertEqual((wrong, done.stderr), ([], ""))
 
     @unittest.skipUnless(shutil.which("mypy"), "mypy is not installed, so no type was checked")
     def test_typed(self):

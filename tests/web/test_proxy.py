@@ -88,6 +88,18 @@ class Proxied(BrowserTest):
         self.assertEqual((status, "seat" in json.loads(text)), (200, False))
         self.assertNotIn(self.key("seat 2"), self.proxy.log())
 
+    def test_login_of_another_seat(self):
+        """Who has a seat by his login does not sit at another one by its link; he can read."""
+        key = ("X-Seat-Key", self.key("seat 0"))
+        status, text = self.through("/seats/api/hello", "ben", {}, key)
+        self.assertEqual(status, 403)
+        told = "this link is of seat 0, and your login is of seat 1"
+        self.assertEqual(json.loads(text)["fault"], told)
+        self.assertEqual(self.through("/seats/api/hello", "dean", {}, key)[0], 403)
+        self.assertEqual(self.through("/seats/api/hello", "anna", {}, key)[0], 200)
+        reads = ("X-Seat-Key", self.key("reader"))
+        self.assertEqual(self.through("/seats/api/hello", "ben", {}, reads)[0], 200)
+
     def test_stalled(self):
         """A thousand connections that stall, at the proxy and at the socket, keep nobody out."""
         ends = []

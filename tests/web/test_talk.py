@@ -200,7 +200,7 @@ class Talk(WebTest):
 
     def test_news(self):
         """Another's commit, the closing and the end come by themselves."""
-        self.ask("hello", {"name": "anna"})
+        self.ask("hello", {"name": "anna", "view": ["course", "c0109"]})
         connection = http.client.HTTPConnection(self.address(), timeout=30)
         with contextlib.closing(connection):
             connection.request("GET", "/api/news", headers=dict(self.asking(self.key())))

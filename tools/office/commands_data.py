@@ -2,6 +2,7 @@
 from __future__ import annotations
 
 import argparse
+import datetime
 
 from office.arguments import Commands, add_at, add_command
 from office.data.labels import KINDS
@@ -12,6 +13,10 @@ FORMS = {
     "csv": "as a table for a spreadsheet",
     "ics": "as a calendar: an event for each lecture in each week of the term",
 }
+TABLES = {
+    "xlsx": "as one workbook with a sheet for each table",
+    "semicolon": "with semicolons between cells",
+}
 
 
 def add_data(commands: Commands) -> None:
@@ -19,12 +24,15 @@ def add_data(commands: Commands) -> None:
     one = commands.add_parser(
         "import", help=does, description=does[0].upper() + does[1:] + ".", allow_abbrev=False
     )
-    one.add_argument("folder", metavar="FOLDER", help="the tables: courses.csv, rooms.csv ..")
+    one.add_argument("folder", metavar="FOLDER", help="the tables: courses.csv, rooms.csv .., or a workbook")
     add_output(one, "DIR")
     one.set_defaults(do=do_import)
     one = add_command(commands, "export", "write the tables of a day, with its timetable")
     add_output(one, "FOLDER")
     add_at(one)
+    forms = one.add_mutually_exclusive_group()
+    for form, does in TABLES.items():
+        forms.add_argument(f"--{form}", dest="form", action="store_const", const=form, help=does)
     one.set_defaults(do=do_export)
     one = add_command(commands, "publish", "write the weeks of a day for a web server")
     one.add_argument("folder", metavar="DIR", help="the folder, a link to its newest version")
@@ -32,7 +40,24 @@ def add_data(commands: Commands) -> None:
     one.add_argument("--follow", action="store_true", help=follow)
     does = "tell whose weeks have changed as JSON, one in a line"
     one.add_argument("--json", action="store_true", help=does)
+    when = one.add_mutually_exclusive_group()
+    does = "changes hold from this date on, as 2026-12-01; else from now on"
+    when.add_argument("--from", metavar="DATE", dest="since", type=date_of, help=does)
+    does = "changes hold for the whole term, also where it is past"
+    when.add_argument("--whole-term", action="store_true", help=does)
+    does = "add a page in which a visitor checks the timetable, with the whole instance in it"
+    one.add_argument("--with-check", dest="with_check", action="store_true", help=does)
     one.set_defaults(do=do_publish)
+
+
+def date_of(text: str) -> datetime.date:
+    """The date of a word."""
+    from office.data.readings import read_date
+
+    found = read_date(text)
+    if found is None:
+        raise argparse.ArgumentTypeError(f"{text} is no date as 2026-12-01")
+    return found
 
 
 def add_output(command: argparse.ArgumentParser, name: str) -> None:
@@ -59,12 +84,17 @@ def do_import(words: argparse.Namespace) -> int:
 
 
 def do_export(words: argparse.Namespace) -> int:
-    from office.data.exporting import export_day
+    from office.data.exporting import Form, export_day
 
-    return export_day(Day(words.day), words.at, words.into)
+    form = Form(words.form) if words.form else None
+    return export_day(Day(words.day), words.at, words.into, form)
 
 
 def do_publish(words: argparse.Namespace) -> int:
-    from office.data.publishing import publish
+    from office.data.own_check import read_page
+    from office.data.publishing import Wanted, publish
+    from office.data.telling import From
 
-    return publish(Day(words.day), words.folder, words.follow, words.json)
+    since = From(words.since, words.whole_term)
+    wanted = Wanted(since, words.json, read_page() if words.with_check else None)
+    return publish(Day(words.day), words.folder, words.follow, wanted)

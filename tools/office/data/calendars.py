@@ -1,28 +1,18 @@
-"""The week of one as a calendar by RFC 5545: an event for each lecture in each week of the term."""
+"""The calendar of one by RFC 5545: an event for each lecture in each week of the term."""
 from __future__ import annotations
 
 import datetime
 from functools import lru_cache
-from typing import Iterator, NamedTuple
-from urllib.parse import quote
 
-from office.data.labels import Labels, Term
+from office.data.labels import Labels
 from office.data.one_week import OneWeek
+from office.data.plan_book import Book, Event
 from office.data.time_zones import MINUTE, changes, zone_of
-from office.day.lecture import Lecture, Slot
 from office.refused import CONTENT, Refused
 from office.words.text import shown
+from office.work.week import View
 
 YEAR, WEEK = datetime.timedelta(366), datetime.timedelta(7)
-
-
-class Event(NamedTuple):
-    """A lecture on a day. What is the same on each of its days are lines already."""
-
-    begins: datetime.datetime
-    ends: datetime.datetime
-    uid: str
-    lines: bytes
 
 
 def why_none(labels: Labels) -> str:
@@ -36,60 +26,49 @@ def why_none(labels: Labels) -> str:
     return ""
 
 
-def dates_of(term: Term, weekday: int) -> Iterator[datetime.date]:
-    """The days of a weekday on which there is teaching."""
-    day = term.first + datetime.timedelta((weekday - term.first.weekday()) % 7)
-    while day <= term.last:
-        if not term.is_off(day):
-            yield day
-        day += datetime.timedelta(7)
-
-
-def numbered(week: OneWeek) -> list[tuple[Lecture, int]]:
-    """The lectures of a week, each with its number among those of its course. By it an event is
-    the same one after its lecture was moved."""
-    numbers: dict[tuple[str, Slot], int] = {}
-    for course in {lecture.course for lecture in week.lectures()}:
-        for number, lecture in enumerate(week.at.timetable.of_course(course), 1):
-            numbers[course, lecture.slot] = number
-    return [(lecture, numbers[lecture.course, lecture.slot]) for lecture in week.lectures()]
-
-
-def events_of(week: OneWeek) -> list[Event]:
-    """The events of a week. It is refused where a lecture has no time."""
-    labels, instance = week.labels, week.at.instance
-    why = why_none(labels)
-    if why:
-        raise Refused(why, CONTENT)
-    assert labels.term is not None
-    timeless = [
+def timeless(week: OneWeek) -> str:
+    """Which lectures of a week have no time; empty if all have one."""
+    labels = week.labels
+    slots = [
         labels.slot(slot)
         for slot in week.slots
         if slot not in labels.times or slot[0] not in labels.weekdays
     ]
-    if timeless:
-        raise Refused(f"times.csv has no time for {'; '.join(timeless)}", CONTENT)
-    events: list[Event] = []
-    for lecture, number in numbered(week):
-        time, name = labels.times[lecture.slot], lecture.course
-        lines = folded_lines(
-            f"SUMMARY:{escaped(labels.name('course', name))}",
-            f"LOCATION:{escaped(labels.name('room', lecture.room))}",
-            f"DESCRIPTION:{escaped(f'{week.teacher(name)}; {labels.course(name)}')}",
-        )
-        course, plan = quote(name, safe=""), quote(instance.name, safe="")
-        for date in dates_of(labels.term, labels.weekdays[lecture.day]):
-            midnight = datetime.datetime(date.year, date.month, date.day)
-            year, number_of_week, _ = date.isocalendar()
-            events.append(
-                Event(
-                    midnight + datetime.timedelta(minutes=time.begins),
-                    midnight + datetime.timedelta(minutes=time.ends),
-                    f"{course}.{number}.{year}W{number_of_week:02}@{plan}.timedesk",
-                    lines,
-                )
+    return f"times.csv has no time for {'; '.join(slots)}" if slots else ""
+
+
+class Events:
+    """The events of a book by whose calendars they stand in."""
+
+    def __init__(self, book: Book) -> None:
+        self.plan = book.plan
+        self.of: dict[tuple[str, str], list[tuple[str, Event]]] = {}
+        self.lines: dict[tuple[object, ...], bytes] = {}
+        shown_ones = [pair for pair in book.events.items() if pair[1].is_shown]
+        for name, event in sorted(shown_ones, key=lambda pair: (pair[1].begins, pair[0])):
+            what = event.what
+            views = [("course", what.course), ("room", what.room), ("teacher", what.teacher)]
+            for kind, code in [*views, *(("curriculum", code) for code in what.curricula)]:
+                now = book.renamed.get(f"{kind}/{code}", f"{kind}/{code}").partition("/")[2]
+                self.of.setdefault((kind, now), []).append((name, event))
+
+    def text(self, event: Event) -> bytes:
+        """What an event says, which most of its lecture's events have alike."""
+        key = event[2:6]
+        if key not in self.lines:
+            summary, _, told = event.what[4:]
+            if event.is_off:
+                summary = f"Off: {summary}"
+            if event.is_off or event.is_moved:
+                what = "off on this date" if event.is_off else "on this date alone"
+                told = f"{told}; {what}{f': {event.why}' if event.why else ''}"
+            self.lines[key] = folded_lines(
+                f"SUMMARY:{escaped(summary)}",
+                f"LOCATION:{escaped(event.what.location)}",
+                f"DESCRIPTION:{escaped(told)}",
+                *(["STATUS:CANCELLED"] if event.is_off else []),
             )
-    return sorted(events)
+        return self.lines[key]
 
 
 def escaped(text: str) -> str:
@@ -143,12 +122,21 @@ def zone_lines(name: str, term_first: datetime.date, term_last: datetime.date) -
     return (*lines, "END:VTIMEZONE")
 
 
-def calendar_of(week: OneWeek, made: datetime.datetime) -> bytes:
-    """The calendar of a week; `made` is when, in UTC."""
-    events = events_of(week)
-    labels = week.labels
+def clock_text(time: str) -> str:
+    """`2026-12-01T14:05` as calendars write it."""
+    return time.replace("-", "").replace(":", "") + "00"
+
+
+def calendar_of(events: Events, labels: Labels, view: View) -> bytes:
+    """The calendar of somebody. It is refused where there can be none."""
+    why = why_none(labels)
+    if why:
+        raise Refused(why, CONTENT)
     assert labels.term is not None and labels.zone is not None
-    name = escaped(labels.name(*week.view))
+    found = events.of.get(view, [])
+    dates = [datetime.date.fromisoformat(event.begins[:10]) for _, event in found]
+    first, last = min([labels.term.first, *dates]), max([labels.term.last, *dates])
+    name = escaped(labels.name(*view))
     parts = [
         folded_lines(
             "BEGIN:VCALENDAR",
@@ -159,19 +147,21 @@ def calendar_of(week: OneWeek, made: datetime.datetime) -> bytes:
             f"X-WR-CALNAME:{name}",
             "REFRESH-INTERVAL;VALUE=DURATION:PT6H",
             "X-PUBLISHED-TTL:PT6H",
-            *zone_lines(labels.zone, labels.term.first, labels.term.last),
+            *zone_lines(labels.zone, first, last),
         )
     ]
-    for event in events:
+    for uid, event in found:
         parts += [
             folded_lines(
                 "BEGIN:VEVENT",
-                f"UID:{event.uid}",
-                f"DTSTAMP:{stamp(made)}Z",
-                f"DTSTART;TZID={labels.zone}:{stamp(event.begins)}",
-                f"DTEND;TZID={labels.zone}:{stamp(event.ends)}",
+                f"UID:{uid}@{events.plan}.timedesk",
+                f"DTSTAMP:{event.changed}",
+                f"LAST-MODIFIED:{event.changed}",
+                f"SEQUENCE:{event.sequence}",
+                f"DTSTART;TZID={labels.zone}:{clock_text(event.begins)}",
+                f"DTEND;TZID={labels.zone}:{clock_text(event.ends)}",
             ),
-            event.lines,
+            events.text(event),
             folded_lines("END:VEVENT"),
         ]
     return b"".join([*parts, folded_lines("END:VCALENDAR")])

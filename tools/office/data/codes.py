@@ -4,8 +4,9 @@ from __future__ import annotations
 
 from typing import Optional
 
+from office.data.alike import key_of, meant
 from office.data.labels import Labels, Name
-from office.data.tables import Row
+from office.data.tables import Faults, Row
 
 LONGEST = 24
 NO_NAME = Name("", "")
@@ -45,6 +46,8 @@ class Codes:
         of_kind = {code: name for (of, code), name in labels.names.items() if of == kind}
         self.earlier = Names(of_kind)
         self.names = Names()
+        # of which table they are, and in which rows they stand first
+        self.file = ""
         self.rows: dict[str, int] = {}
         # codes that stand in the table, so that none is made like them
         self.written: set[str] = set()
@@ -69,8 +72,25 @@ class Codes:
             row.fault(f"{code} is called {self.names[code].name or code} in row {self.rows[code]}")
             return None
         self.names.add(code, Name(name, short or known.short))
+        self.file = row.file
         self.rows.setdefault(code, row.number)
         return code
+
+    def find_alike(self, faults: Faults) -> None:
+        """Refuses what differs from another one in how it is typed alone."""
+        first: dict[str, str] = {}
+        for code in self.rows:
+            name = self.names[code].name or code
+            other = first.setdefault(key_of(name), code)
+            is_said = {code, other} <= (self.earlier.keys() | self.written)
+            if other != code and not is_said:
+                known = self.names[other].name or other
+                cause = (
+                    f"the {self.kind} {name} is typed as {known} in row {self.rows[other]} but for "
+                    f"signs and blanks: did you mean {known}? If both are meant, labels.csv has a "
+                    "row for each"
+                )
+                faults.add(self.file, self.rows[code], cause)
 
     def make(self, name: str) -> str:
         """A code that nothing else has: the name itself, if it is a word."""
@@ -88,5 +108,7 @@ class Codes:
         if len(found) > 1:
             row.fault(f"several are called {typed}: {', '.join(found)}; the code is needed")
         elif typed and not found and self.is_read:
-            row.fault(f"there is no {self.kind} {typed}")
+            other = meant(typed, [name.name or code for code, name in self.names.items()])
+            hint = f": did you mean {other}?" if other else ""
+            row.fault(f"there is no {self.kind} {typed}{hint}")
         return found[0] if len(found) == 1 else None

@@ -1,21 +1,38 @@
 """`office export`: the tables of a day as an office imports them, with its timetable."""
 from __future__ import annotations
 
+import os
+import tempfile
+from enum import Enum
 from typing import Iterable, Optional
 
+from office.data import exceptions, given_tables, plan_book
 from office.data.codes import NO_NAME, Names
+from office.data.decoding import read_cells
+from office.data.given_back import BLOCKED, LECTURES, Given
+from office.data.importing import label_files
 from office.data.label_files import LABELS_COLUMNS, TIMES_COLUMNS, read_labels
 from office.data.labels import KINDS, PLAN, Labels, clock
 from office.data.new_folder import new_folder, write_files
+from office.data.normal_tables import times_rows
 from office.data.plan_tables import COLUMNS
-from office.data.tables import read_bytes, write_table
+from office.data.sources import Source
+from office.data.tables import read_bytes, taken, write_table
+from office.data.workbooks import write_workbook
 from office.day.closure import BLOCKABLE as CLOSED
 from office.day.folder import Day
 from office.day.instance import Instance
-from office.day.lecture import Slot
+from office.day.lecture import Lecture, Slot
 from office.past.timetable_at import At, read_at
 
 Rows = Iterable[tuple[object, ...]]
+
+
+class Form(Enum):
+    """In which form tables are exported, if not as they were given."""
+
+    XLSX = "xlsx"
+    SEMICOLON = "semicolon"
 
 
 class Export:
@@ -85,17 +102,11 @@ class Export:
                 when = self.slot((on, period or 0))
                 yield (kind, *names, when[0], "" if period is None else when[1], closure.why)
 
-    def lectures(self, at: At) -> Rows:
-        for one in at.lectures:
-            where = self.named("course", one.course), self.named("room", one.room)
-            yield (*where, *self.slot(one.slot))
-
-    def times(self) -> Rows:
-        for day, period in self.instance.slots():
-            weekday = self.labels.day(day) if day in self.labels.weekdays else ""
-            time = self.labels.times.get((day, period))
-            span = (clock(time.begins), clock(time.ends)) if time else ("", "")
-            yield (day + 1, period + 1, weekday, *span)
+    def lecture_rows(self, at: At) -> list[tuple[str, str, str, str]]:
+        return [
+            (self.named("course", one.course), self.named("room", one.room), *self.slot(one.slot))
+            for one in at.lectures
+        ]
 
     def names_of_all(self) -> Rows:
         title = self.labels.title
@@ -116,25 +127,96 @@ def export_files(at: At, labels: Labels) -> dict[str, bytes]:
         "rooms.csv": export.rooms(),
         "curricula.csv": export.curricula(),
         "unavailable.csv": export.unavailable(),
-        "lectures.csv": export.lectures(at),
-        "times.csv": export.times(),
+        LECTURES: export.lecture_rows(at),
+        "times.csv": times_rows(labels, at.instance.days, at.instance.periods),
         "labels.csv": export.names_of_all(),
     }
     if at.day.barred_words():
         rows["barred.csv"] = export.barred()
     if at.instance.closures:
-        rows["blocked.csv"] = export.closures()
+        rows[BLOCKED] = export.closures()
     return {file: write_table(heads[file], list(found)) for file, found in rows.items()}
 
 
-def export_day(day: Day, number: Optional[int], folder: str) -> int:
+def cells_of(export: Export, at: At) -> dict[Lecture, dict[str, str]]:
+    """What is written of each lecture."""
+    heads = [column.name for column in COLUMNS[LECTURES]]
+    return {one: dict(zip(heads, row)) for one, row in zip(at.lectures, export.lecture_rows(at))}
+
+
+def given_files(at: At, labels: Labels, own: dict[str, bytes]) -> Optional[dict[str, bytes]]:
+    """The tables as they were given, with the day's lectures and what is blocked in it; None if
+    there are none, or if they are of another instance. `own` are the tables of the day."""
+    data = read_bytes(at.day.file(given_tables.FILE))
+    if data is None:
+        return None
+    with tempfile.TemporaryDirectory() as folder:
+        if not given_tables.unpack(data, folder):
+            return None
+        given = Given(folder)
+        if not given.is_of(at.instance):
+            return None
+        export = Export(at.instance, labels)
+        changed = {LECTURES: given.lectures(at.lectures, cells_of(export, at))}
+        if not given.has_closures(at.instance.closures):
+            changed[BLOCKED] = given.own_rows(own.get(BLOCKED), BLOCKED)
+        as_imported = label_files(given.tables)
+        for file in as_imported:
+            text = read_bytes(at.day.file(file))
+            if text not in (None, as_imported[file]):
+                changed[file] = given.own_rows(text, file)
+        found = given.with_tables(changed)
+        if given.place("labels.csv") is None:
+            names = read_bytes(at.day.file("labels.csv"))
+            found.update({} if names is None else {"labels.csv": names})
+        return found
+
+
+def as_one_workbook(files: dict[str, bytes], folder: str) -> None:
+    """Writes all tables as sheets of one XLSX."""
+    with tempfile.TemporaryDirectory() as scratch:
+        write_files(scratch, files)
+        source = Source(scratch)
+        sheets = {
+            sheet: rows for path in source.books for sheet, rows in source.sheets(path).items()
+        }
+        for path in source.texts:
+            cells = read_cells(read_bytes(path) or b"", taken, lambda row, cause: None)
+            sheets[os.path.splitext(os.path.basename(path))[0]] = cells.rows if cells else []
+        write_workbook(os.path.join(folder, "tables.xlsx"), "", sheets)
+
+
+def with_separator(text: bytes, separator: str) -> bytes:
+    """A table with another sign between its cells."""
+    cells = read_cells(text, lambda cell: cell, lambda row, cause: None)
+    if cells is None or not cells.rows:
+        return text
+    dialect = cells.dialect._replace(separator=separator)
+    return write_table(cells.rows[0], cells.rows[1:], dialect)
+
+
+def export_day(
+    day: Day, number: Optional[int], folder: str, form: Optional[Form] = None
+) -> int:
     """Writes the tables of a day into a new folder."""
     at = read_at(day, number)
-    files = export_files(at, read_labels(day.path))
-    term = read_bytes(day.file("term.csv"))
-    if term is not None:
-        files["term.csv"] = term
+    labels = read_labels(day.path)
+    own = export_files(at, labels)
+    given = given_files(at, labels, own)
+    files = own if given is None else given
+    extra = [plan_book.FILE] if given is not None else ["term.csv", exceptions.FILE, plan_book.FILE]
+    for file in extra:
+        text = read_bytes(day.file(file))
+        if text is not None:
+            files[file] = text
+    if form is Form.SEMICOLON:
+        tables = {file for file in files if file.endswith(".csv")}
+        files.update({file: with_separator(files[file], ";") for file in tables})
     with new_folder(folder) as made:
+        if form is Form.XLSX:
+            as_one_workbook(files, made)
+            files = {plan_book.FILE: files[plan_book.FILE]} if plan_book.FILE in files else {}
         write_files(made, files)
-    print(f"{at.title()}: {', '.join(sorted(files))} in {folder}")
+        names = ", ".join(sorted(os.listdir(made)))
+    print(f"{at.title()}: {names} in {folder}")
     return 0

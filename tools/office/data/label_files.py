@@ -1,18 +1,21 @@
-"""Readers of labels: a folder with `labels.csv`, `times.csv` and `term.csv`, each of which may be
-missing. A day has its own in its folder."""
+"""Readers of labels: a folder with `labels.csv`, `times.csv`, `term.csv` and `exceptions.csv`, each
+of which may be missing. A day has its own in its folder."""
 from __future__ import annotations
 
 import datetime
 import os
-import re
 from typing import Optional
 
-from office.data.labels import KINDS, PLAN, WEEKDAYS, Labels, Name, Term, Time
-from office.data.tables import Column, Faults, Row, read_table
+from office.data import exceptions
+from office.data.labels import KINDS, PLAN, Labels, Name, Term, Time
+from office.data.readings import read_date, read_minute, read_weekday
+from office.data.sources import Source
+from office.data.tables import Column, Faults, Row
+from office.data.time_zones import fault_of_zone
 from office.day.lecture import Slot
-from office.refused import Refused
+from office.refused import CONTENT, Refused
 
-FILES = ("labels.csv", "times.csv", "term.csv")
+FILES = ("labels.csv", "times.csv", "term.csv", exceptions.FILE)
 # as many as the desk takes
 SLOTS = 2000
 
@@ -37,43 +40,9 @@ TERM_COLUMNS = (
 )
 
 
-def read_weekday(text: str) -> Optional[int]:
-    """The weekday of a name or of its first three letters."""
-    for number, weekday in enumerate(WEEKDAYS):
-        if text.lower() in (weekday.lower(), weekday[:3].lower()):
-            return number
-    return None
-
-
-def read_minute(text: str) -> Optional[int]:
-    """The minute of its day that a clock shows."""
-    found = re.fullmatch(r"(\d{1,2}):(\d\d)(?::00)?(?: ?([AaPp])\.?[Mm]\.?)?", text, re.ASCII)
-    if found is None:
-        return None
-    hour, minute, half = int(found[1]), int(found[2]), found[3]
-    if minute > 59 or not (1 <= hour <= 12 if half else hour <= 23):
-        return None
-    if half:
-        hour = hour % 12 + 12 * (half in "Pp")
-    return 60 * hour + minute
-
-
-def read_date(text: str) -> Optional[datetime.date]:
-    """A date as 2026-10-12 or as 12.10.2026; with slashes it could be either of two."""
-    found = re.fullmatch(r"(\d{4})-(\d{1,2})-(\d{1,2})", text, re.ASCII)
-    parts = found.groups() if found else ()
-    if not found:
-        found = re.fullmatch(r"(\d{1,2})\.(\d{1,2})\.(\d{4})", text, re.ASCII)
-        parts = found.groups()[::-1] if found else ()
-    try:
-        return datetime.date(*map(int, parts)) if parts else None
-    except ValueError:
-        return None
-
-
 def take_name(labels: Labels, row: Row) -> None:
     """Takes up a row of labels.csv."""
-    kind, code = row.needed("kind").lower(), row.needed("code")
+    kind, code = row.word("kind"), row.needed("code")
     if not kind or not code:
         return
     if kind not in (*KINDS, PLAN):
@@ -92,7 +61,7 @@ def take_name(labels: Labels, row: Row) -> None:
 
 def take_weekday(labels: Labels, row: Row, day: int) -> None:
     """Takes up the weekday of a row of times.csv: one for each day."""
-    weekday = read_weekday(row["weekday"])
+    weekday = read_weekday(row["weekday"], row.words)
     if weekday is None:
         row.fault(f"the weekday is not Mon to Sun: {row['weekday']}")
     elif labels.weekdays.setdefault(day, weekday) != weekday:
@@ -137,16 +106,21 @@ def take_slots(labels: Labels, rows: list[Row]) -> list[Slot]:
     return list(slots)
 
 
+def take_zone(labels: Labels, row: Row) -> None:
+    """Takes up the time zone of term.csv."""
+    if labels.zone is not None:
+        row.fault("there is a zone already")
+    labels.zone, labels.zone_row = row.needed("name") or None, row.number
+
+
 def take_dates(labels: Labels, rows: list[Row]) -> None:
     """Takes up term.csv."""
     days_off: list[tuple[datetime.date, datetime.date]] = []
     teaching: list[tuple[datetime.date, datetime.date, str]] = []
     for row in rows:
-        what = row.needed("what").lower()
+        what = row.word("what")
         if what == "zone":
-            if labels.zone is not None:
-                row.fault("there is a zone already")
-            labels.zone = row.needed("name") or None
+            take_zone(labels, row)
         elif what in ("teaching", "off"):
             ends = [read_date(row[column] or row["from"]) for column in ("from", "to")]
             if row.needed("from") and None in ends:
@@ -168,13 +142,15 @@ def take_dates(labels: Labels, rows: list[Row]) -> None:
         labels.term = Term(first, last, days_off, name)
 
 
-def take_labels(folder: str, faults: Faults) -> tuple[Labels, list[Slot]]:
+def take_labels(source: Source, faults: Faults) -> tuple[Labels, list[Slot]]:
     """The labels of a folder, and the slots that its times have."""
     labels = Labels()
-    for row in read_table(folder, "labels.csv", LABELS_COLUMNS, faults) or []:
+    for row in source.rows("labels.csv", LABELS_COLUMNS, faults) or []:
         take_name(labels, row)
-    slots = take_slots(labels, read_table(folder, "times.csv", TIMES_COLUMNS, faults) or [])
-    take_dates(labels, read_table(folder, "term.csv", TERM_COLUMNS, faults) or [])
+    slots = take_slots(labels, source.rows("times.csv", TIMES_COLUMNS, faults) or [])
+    take_dates(labels, source.rows("term.csv", TERM_COLUMNS, faults) or [])
+    rows = source.rows(exceptions.FILE, exceptions.COLUMNS, faults) or []
+    labels.single_dates = [one for one in map(exceptions.take_exception, rows) if one is not None]
     return labels, slots
 
 
@@ -216,9 +192,16 @@ class Watched:
         return True
 
 
+def check_zone(labels: Labels, folder: str) -> None:
+    """Refuses a time zone that nobody knows. Screens need none, and are not kept from opening."""
+    fault = fault_of_zone(labels.zone) if labels.zone else ""
+    if fault:
+        raise Refused(f"the labels in {folder}: term.csv row {labels.zone_row}: {fault}", CONTENT)
+
+
 def read_labels(folder: str) -> Labels:
     """The labels of a folder, without any if it has none. All that is wrong in them is said."""
     faults = Faults()
-    labels, _ = take_labels(folder, faults)
+    labels, _ = take_labels(Source(folder), faults)
     faults.refuse(f"the labels in {folder}")
     return labels

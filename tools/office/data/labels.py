@@ -4,6 +4,7 @@ from __future__ import annotations
 
 import datetime
 from collections import Counter
+from dataclasses import dataclass
 from typing import NamedTuple, Optional
 
 from office.day.lecture import Slot
@@ -44,6 +45,23 @@ class Term(NamedTuple):
         return any(first <= day <= last for first, last in self.days_off)
 
 
+@dataclass(frozen=True)
+class SingleDate:
+    """A lecture on a date: off, or with another date, time or room. The course and the room are as
+    they were typed, since a table of exceptions may be of several plans."""
+
+    row: int
+    course: str
+    date: datetime.date
+    begins: Optional[int]
+    is_off: bool
+    new_date: Optional[datetime.date]
+    new_begins: Optional[int]
+    new_ends: Optional[int]
+    new_room: str
+    why: str
+
+
 def clock(minute: int) -> str:
     return f"{minute // 60}:{minute % 60:02}"
 
@@ -58,6 +76,10 @@ class Labels:
         self.times: dict[Slot, Time] = {}
         self.term: Optional[Term] = None
         self.zone: Optional[str] = None
+        # of term.csv
+        self.zone_row = 0
+        # in the order of their rows
+        self.single_dates: list[SingleDate] = []
         # what the whole timetable is called
         self.title = ""
         # how many have each name, and of how many names that was counted

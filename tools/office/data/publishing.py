@@ -12,12 +12,15 @@ import time
 from typing import NamedTuple, Optional
 
 from office.data.changed_weeks import by_view, changes_between
-from office.data.label_files import read_labels
-from office.data.site import Published, Site
+from office.data.label_files import check_zone, read_labels
+from office.data.own_check import SHOWN, check_of
+from office.data.plan_book import FILE as BOOK, Book, book_in, book_text, new_book, newer, read_book
+from office.data.site import CHECK, Published, Site
+from office.data.telling import From, Told, first_book
 from office.day.folder import Day
 from office.day.lecture import Lecture
 from office.day.parts import DayMinutes
-from office.day.safe_files import lock
+from office.day.safe_files import lock, write_whole
 from office.day.shifts import Shift
 from office.past.timetable_at import read_at
 from office.refused import Refused
@@ -46,18 +49,13 @@ def read_state(text: Optional[bytes]) -> Optional[State]:
     history = []
     for one in found["history"]:
         changes = [Shift(*(row and Lecture(*row) for row in pair)) for pair in one["changes"]]
-        history.append(Published(one["time"], changes))
+        history.append(Published(one["time"], changes, one.get("since", "")))
     return State([Lecture(*row) for row in found["lectures"]], history)
 
 
 def state_text(state: State) -> bytes:
-    history = [{"time": one.time, "changes": one.changes} for one in state.history]
+    history = [one._asdict() for one in state.history]
     return (json.dumps({"lectures": state.lectures, "history": history}) + "\n").encode()
-
-
-def without_stamps(text: bytes) -> bytes:
-    """A calendar without when it was made."""
-    return b"\n".join(line for line in text.split(b"\n") if not line.startswith(b"DTSTAMP:"))
 
 
 class Folder:
@@ -97,15 +95,6 @@ class Folder:
         except FileNotFoundError:
             return None
 
-    def settled(self, files: dict[str, bytes]) -> dict[str, bytes]:
-        """The files, with the old calendar in place of one that says the same."""
-        found = dict(files)
-        for name, text in files.items():
-            old = self.old(name) if name.endswith(".ics") else None
-            if old is not None and without_stamps(old) == without_stamps(text):
-                found[name] = old
-        return found
-
     def is_as(self, files: dict[str, bytes]) -> bool:
         """Whether the version that is seen has these files and no others."""
         there = {
@@ -120,8 +109,10 @@ class Folder:
         number = self.newest() + 1
         version = self.version(number)
         shutil.rmtree(version, ignore_errors=True)
-        for folder in {os.path.dirname(name) for name in files}:
+        for folder in ["", *sorted({os.path.dirname(name) for name in files} - {""})]:
             os.makedirs(os.path.join(version, folder), exist_ok=True)
+            os.chmod(os.path.join(version, folder), 0o755)
+        os.chmod(self.versions, 0o755)
         for name, text in files.items():
             new = os.path.join(version, name)
             if self.old(name) == text:
@@ -129,6 +120,8 @@ class Folder:
                     os.link(os.path.join(self.path, name), new)
                     continue
             with open(new, "wb") as file:
+                # a site is for all, whatever is asked of other files
+                os.fchmod(file.fileno(), 0o644)
                 file.write(text)
                 file.flush()
                 os.fsync(file.fileno())
@@ -146,21 +139,57 @@ class Folder:
                 shutil.rmtree(self.version(int(name)), ignore_errors=True)
 
 
-def publish_once(day: Day, folder: Folder, is_json: bool) -> None:
+class Wanted(NamedTuple):
+    """What is asked of a publishing beside the weeks."""
+
+    # the date from which on it holds
+    since: From
+    # to tell of changes in a form for programs
+    is_json: bool = False
+    # the page in which visitors check the timetable, before files are in it
+    check: Optional[str] = None
+
+
+def book_of(day: Day, folder: Folder, state: Optional[State], plan: str) -> Book:
+    """What calendars have told of a plan so far."""
+    text = folder.old(BOOK)
+    published = None if text is None else read_book(text, os.path.join(folder.path, BOOK))
+    if published is None and state is not None:
+        published = first_book(plan, state.lectures)
+    return newer(published, book_in(day.path)) or new_book()
+
+
+def keep_book(day: Day, book: Book) -> str:
+    """Writes the book into the day's folder, so that it goes on with the plan; why not, if it
+    cannot be done."""
+    try:
+        if book_in(day.path) != book:
+            write_whole(day.file(BOOK), book_text(book))
+    except Refused as refused:
+        return f"another folder would begin with new calendars: {refused.reason}"
+    return ""
+
+
+def publish_once(day: Day, folder: Folder, wanted: Wanted) -> None:
     """Publishes the newest timetable of a day, and says whose weeks have changed."""
     at, labels = read_at(day), read_labels(day.path)
+    check_zone(labels, day.path)
     now = datetime.datetime.now(datetime.timezone.utc)
     state = read_state(folder.old(STATE))
+    book = book_of(day, folder, state, at.instance.name)
+    told = Told(book, at, labels, wanted.since.text(now, labels.zone), f"{now:%Y%m%dT%H%M%SZ}")
+    holds = told.since[:10] if labels.term else ""
     changed = changes_between(state.lectures, at.lectures) if state else []
     history = state.history if state else []
     if changed or not history:
         when = time.strftime("%Y-%m-%d %H:%M", time.localtime(now.timestamp()))
-        history = [*history, Published(when, changed)][-REMEMBERED:]
-    site = Site(at, labels, history, now)
+        history = [*history, Published(when, changed, holds)][-REMEMBERED:]
+    site = Site(at, labels, history, told.book, has_check=wanted.check is not None)
     files = site.files()
-    files[STATE] = state_text(State(at.lectures, history))
-    files = folder.settled(files)
-    for note in site.notes:
+    if wanted.check is not None:
+        files[CHECK] = check_of(wanted.check, at, labels).encode()
+    files[STATE], files[BOOK] = state_text(State(at.lectures, history)), book_text(told.book)
+    for note in filter(None, [*told.notes, *site.notes, keep_book(day, told.book)]):
         print("office:", note, file=sys.stderr)
     if folder.is_as(files):
         print("office: nothing has changed", file=sys.stderr)
@@ -173,18 +202,20 @@ def publish_once(day: Day, folder: Folder, is_json: bool) -> None:
         if view.kind in PEOPLE:
             person = site.person(view, shifts, files)
             line = f"{site.wording.view(*view)}: {'; '.join(person['changes'])}"
-            print(json.dumps(person, ensure_ascii=False) if is_json else line, flush=True)
+            print(json.dumps(person, ensure_ascii=False) if wanted.is_json else line, flush=True)
 
 
-def publish(day: Day, path: str, follows: bool, is_json: bool) -> int:
+def publish(day: Day, path: str, follows: bool, wanted: Wanted) -> int:
     """Publishes a day; with `follows` again after each accepted draft, until the day is closed."""
     day.facts()
     folder = Folder(path)
+    if wanted.check is not None:
+        print(f"office: {SHOWN}", file=sys.stderr, flush=True)
     minutes = DayMinutes(day)
     while True:
         is_open = follows and day.is_open()
         minutes.read_to_end()
-        publish_once(day, folder, is_json)
+        publish_once(day, folder, wanted)
         if not is_open:
             return 0
         time.sleep(PACE)

@@ -9,27 +9,35 @@ from html import escape
 from typing import Any, NamedTuple, Optional
 from urllib.parse import quote
 
-from office.data.calendars import calendar_of, why_none
-from office.data.labels import KINDS, Labels
+from office.data.calendars import Events, calendar_of, timeless, why_none
+from office.data.changed_weeks import by_view
+from office.data.labels import KINDS, WEEKDAYS, Labels
 from office.data.one_week import OneWeek
+from office.data.plan_book import Book, Event
 from office.data.week_page import FOLLOW, HERE, page, week_page
 from office.day.shifts import Shift
 from office.past.timetable_at import At
-from office.refused import Refused
 from office.words.text import counted, shown
 from office.words.wording import Wording
 from office.work.week import View, all_views
 
-INDEX, CHANGES = "index.html", "changes.html"
+INDEX, CHANGES, CHECK = "index.html", "changes.html", "check.html"
 TITLES = {"teacher": "Teachers", "curriculum": "Curricula", "room": "Rooms", "course": "Courses"}
 LONGEST = 60
+# how many publishings with changes in a week are told on its page
+SHOWN = 10
 
 
 class Published(NamedTuple):
-    """What was changed by a publishing: when, and what."""
+    """What was changed by a publishing: when, what, and from which date on; an empty one is the
+    whole term."""
 
     time: str
     changes: list[Shift]
+    since: str = ""
+
+    def title(self) -> str:
+        return f"{self.time}, from {self.since} on" if self.since else self.time
 
 
 def file_name(code: str) -> str:
@@ -52,18 +60,43 @@ def link(path: str, text: str, kind: str = "") -> str:
     return f'<a{of_kind} href="{quote(path)}">{escape(text)}</a>'
 
 
+def single_date(event: Event) -> str:
+    """A lecture on a date on which it is not as in its week, as a page says it."""
+    date = datetime.date.fromisoformat(event.begins[:10])
+    when = f"{WEEKDAYS[date.weekday()][:3]} {date} {event.begins[11:]}\N{EN DASH}{event.ends[11:]}"
+    why = f" ({event.why})" if event.why else ""
+    what = "off" if event.is_off else f"{event.what.location}, on this date alone"
+    return f"{when}: {event.what.summary}: {what}{why}"
+
+
+def leading_page(path: str) -> str:
+    """A page that leads to another one."""
+    return page(
+        "Moved",
+        f'<meta http-equiv="refresh" content="0; url={quote(path)}">\n<p>{link(path, path)}</p>\n',
+    )
+
+
 class Site:
     """The files of a timetable, by their paths."""
 
     def __init__(
-        self, at: At, labels: Labels, history: list[Published], now: datetime.datetime
+        self, at: At, labels: Labels, history: list[Published], book: Book, has_check: bool = False
     ) -> None:
         self.at = at
         self.labels = labels
         # the newest last
         self.history = history
-        self.now = now
+        self.book = book
+        self.events = Events(book)
+        # whether a page stands beside the weeks in which a visitor checks them
+        self.has_check = has_check
         self.wording = Wording({}, labels)
+        # what was changed in each week, the newest first
+        self.changed: dict[View, list[tuple[Published, list[Shift]]]] = {}
+        for published in reversed(history):
+            for view, shifts in by_view(at.instance, published.changes).items():
+                self.changed.setdefault(view, []).append((published, shifts))
         self.title = shown(labels.title or at.instance.name)
         # what is to be said to who publishes
         self.notes: list[str] = []
@@ -79,14 +112,28 @@ class Site:
             if calendar is not None:
                 found[path_of(view, "ics")] = calendar
             found[path_of(view, "html")] = self.week(week, calendar is not None)
+        found.update(self.old_links(found))
+        return found
+
+    def old_links(self, files: dict[str, bytes]) -> dict[str, bytes]:
+        """What people have links to though its code is another one now: its calendar, and a page
+        that leads to its own."""
+        found: dict[str, bytes] = {}
+        for old, new in self.book.renamed.items():
+            was, now = (View(*one.split("/", 1)) for one in (old, new))
+            calendar, page_file = files.get(path_of(now, "ics")), path_of(now, "html")
+            if calendar is not None:
+                found[path_of(was, "ics")] = calendar
+            if page_file in files:
+                found[path_of(was, "html")] = self.encoded(leading_page(f"../{page_file}"))
         return found
 
     def calendar(self, week: OneWeek) -> Optional[bytes]:
-        try:
-            return calendar_of(week, self.now)
-        except Refused as refused:
-            self.notes.append(f"{self.wording.view(*week.view)}: {refused.reason}")
+        why = timeless(week)
+        if why:
+            self.notes.append(f"{self.wording.view(*week.view)}: {why}")
             return None
+        return calendar_of(self.events, self.labels, week.view)
 
     def week(self, week: OneWeek, has_calendar: bool) -> bytes:
         links = [link(f"../{INDEX}", "All weeks")]
@@ -95,7 +142,28 @@ class Site:
             links.append(link(file, "Calendar for a telephone", "calendar"))
         nav = f"<nav>{' '.join(links)}</nav>\n"
         script = FOLLOW if has_calendar else ""
-        return self.encoded(week_page(week, False, nav, script=script))
+        below = self.single_dates(week.view) + self.changes_of(week.view)
+        return self.encoded(week_page(week, False, nav, script=script, below=below))
+
+    def single_dates(self, view: View) -> str:
+        """The dates on which something is not as in the week."""
+        rows = [
+            f"<li>{escape(shown(single_date(event)))}</li>\n"
+            for _, event in self.events.of.get(view, [])
+            if event.is_off or event.is_moved
+        ]
+        return f"<h2>Single dates</h2>\n<ul>\n{''.join(rows)}</ul>\n" if rows else ""
+
+    def changes_of(self, view: View) -> str:
+        """What has changed in a week since it was first published."""
+        rows = [
+            f"<li>{escape(f'{published.title()}: {self.wording.shifts([shift])}')}</li>\n"
+            for published, shifts in self.changed.get(view, [])[:SHOWN]
+            for shift in shifts
+        ]
+        if not rows:
+            return ""
+        return f'<div class="history"><h2>What has changed</h2>\n<ul>\n{"".join(rows)}</ul></div>\n'
 
     def index(self) -> bytes:
         newest = self.history[-1]
@@ -105,7 +173,10 @@ class Site:
             dates = f"{name}{self.labels.term.first} to {self.labels.term.last}"
             parts.append(f"<p>{escape(dates)}</p>\n")
         count = f"{counted(len(newest.changes), 'lecture')} changed" if newest.changes else "new"
-        parts.append(f"<p>{newest.time}: {link(CHANGES, count)}</p>\n</header>\n<main>\n")
+        parts.append(f"<p>{newest.time}: {link(CHANGES, count)}</p>\n")
+        if self.has_check:
+            parts.append(f"<p>{link(CHECK, 'Check this timetable yourself')}</p>\n")
+        parts.append("</header>\n<main>\n")
         views = all_views(self.at.instance)
         for kind, title in TITLES.items():
             of_kind = [view for view in views if view.kind == kind]
@@ -127,7 +198,7 @@ class Site:
                 f"<li>{escape(self.wording.shifts([shift]))}</li>\n" for shift in published.changes
             )
             items = f"<ul>\n{rows}</ul>\n" if rows else "<p>published for the first time</p>\n"
-            parts.append(f"<section>\n<h2>{published.time}</h2>\n{items}</section>\n")
+            parts.append(f"<section>\n<h2>{published.title()}</h2>\n{items}</section>\n")
         parts.append("</main>\n")
         return self.encoded(page(f"What has changed: {self.title}", "".join(parts)))
 

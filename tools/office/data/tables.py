@@ -1,5 +1,5 @@
-"""Tables as spreadsheets write them: commas or semicolons, quotes, a byte order mark, blank lines,
-and columns by their headings in any order. What is wrong is collected, and said at once."""
+"""Tables as spreadsheets write them: columns by their headings in any order and in several
+languages, blank lines, cells that were merged. What is wrong is collected, and said at once."""
 from __future__ import annotations
 
 import csv
@@ -7,22 +7,24 @@ import io
 import os
 import re
 import stat
+from dataclasses import dataclass, field, replace
 from typing import NamedTuple, Optional, Sequence
 
+from office.data.decoding import Cells, Dialect
+from office.data.readings import read_count
+from office.data.vocabulary import Of, Vocabulary, own_words, plain
 from office.refused import CONTENT, Refused
 from office.words.text import counted, cut, shown
 
-# what spreadsheets part cells with
-SEPARATORS = ";,\t"
 BLANKS = "\t\n\v\f\r "
-# stands for the letter 0, which some readers of tables refuse; no text of bytes has it
-NUL = "\ud800"
 # the greatest number that a file of the desk has
 MOST = 999_999_999
 
 
-# bytes and rows of a table at most, and how much of a wrong cell is told
-LONGEST, ROWS, TOLD = 16 << 20, 100_000, 60
+# bytes of a table at most, and how much of a wrong cell is told
+LONGEST, TOLD = 16 << 20, 60
+# among how many rows the headings are looked for, and how many rows with one fault are told of each
+HEADS, EACH = 10, 3
 # with what a cell begins that a spreadsheet would take for a formula
 FORMULA, GUARDED = re.compile(r"'*[=+\-@\t\r]"), re.compile(r"'+[=+\-@]")
 
@@ -33,6 +35,20 @@ class Column(NamedTuple):
     name: str
     others: Sequence[str] = ()
     is_needed: bool = True
+    # where all such columns of a row are empty, they are as in the row above: of merged cells a
+    # spreadsheet writes the first one alone
+    fills: bool = False
+
+
+def spans(rows: Sequence[int]) -> str:
+    """Rows in order as they are told: `3, 7 to 12`."""
+    parts: list[list[int]] = []
+    for row in rows:
+        if parts and parts[-1][-1] == row - 1:
+            parts[-1][1:] = [row]
+        else:
+            parts.append([row])
+    return ", ".join(" to ".join(map(str, part)) for part in parts)
 
 
 class Faults:
@@ -43,30 +59,53 @@ class Faults:
         self.found: dict[str, list[tuple[int, str]]] = {}
         # what is not wrong, but to be said
         self.notes: list[str] = []
+        # what people call a table that is no file of its name
+        self.called: dict[str, str] = {}
 
     def add(self, file: str, row: int, cause: str) -> None:
         self.found.setdefault(file, []).append((row, cause))
 
-    def refuse(self, what: str) -> None:
-        """Refuses with all that was found in the order of rows, if anything was."""
-        lines = [
-            shown(f"{file} row {row}: {cause}" if row else f"{file}: {cause}")
-            for file, faults in self.found.items()
-            for row, cause in sorted(faults, key=lambda fault: fault[0])
+    def note(self, file: str, cause: str) -> None:
+        self.notes.append(shown(f"{self.called.get(file, file)}: {cause}"))
+
+    def lines(self, file: str) -> list[str]:
+        """What is wrong in a file in the order of rows; what is wrong with many is said once."""
+        rows: dict[str, list[int]] = {}
+        for row, cause in sorted(self.found[file], key=lambda fault: fault[0]):
+            rows.setdefault(cause, []).append(row)
+        told = [
+            (row, f" row {row}" if row else "", cause)
+            for cause, found in rows.items()
+            for row in (found if len(found) <= EACH else [])
         ]
+        told += [
+            (found[0], f" rows {spans(found)}", cause)
+            for cause, found in rows.items()
+            if len(found) > EACH
+        ]
+        name = self.called.get(file, file)
+        in_order = sorted(told, key=lambda one: one[0])
+        return [shown(f"{name}{where}: {cause}") for _, where, cause in in_order]
+
+    def refuse(self, what: str) -> None:
+        """Refuses with all that was found, if anything was."""
+        lines = [line for file in self.found for line in self.lines(file)]
         if lines:
             text = "\n  ".join([f"{what}: {counted(len(lines), 'fault')}", *lines])
             raise Refused(text, CONTENT)
 
 
+@dataclass(frozen=True)
 class Row:
     """A row of a table: its number as a spreadsheet shows it, and its cells by their columns."""
 
-    def __init__(self, file: str, number: int, cells: dict[str, str], faults: Faults) -> None:
-        self.file = file
-        self.number = number
-        self.cells = cells
-        self.faults = faults
+    file: str
+    number: int
+    cells: dict[str, str]
+    faults: Faults
+    words: Vocabulary = field(default_factory=own_words)
+    # columns that the table does not have, which was said once
+    absent: frozenset[str] = frozenset()
 
     def __getitem__(self, column: str) -> str:
         return self.cells[column]
@@ -76,13 +115,18 @@ class Row:
 
     def needed(self, column: str) -> str:
         """A cell that must not be empty."""
-        if not self[column]:
+        if not self[column] and column not in self.absent:
             self.fault(f"the {column} is empty")
         return self[column]
 
+    def word(self, column: str) -> str:
+        """A word of a few that are known, in English."""
+        typed = self.needed(column)
+        return self.words.meaning(Of.WORD, typed) if typed else ""
+
     def count(self, column: str, least: int = 0, most: int = MOST) -> Optional[int]:
         """The whole number of a cell."""
-        text = self.needed(column)
+        text = read_count(self.needed(column))
         if not text:
             return None
         if not (text.isascii() and text.isdigit()):
@@ -94,9 +138,13 @@ class Row:
         return None
 
 
-def plain(heading: str) -> str:
-    """A heading without what people write in several ways."""
-    return " ".join(heading.lower().replace("_", " ").replace("-", " ").split())
+class Table(NamedTuple):
+    """The cells of a table, where they stand, and what its headings mean."""
+
+    called: str
+    cells: Cells
+    # the path of a file, if it is one by itself
+    path: Optional[str] = None
 
 
 def tidied(cell: str) -> str:
@@ -104,6 +152,11 @@ def tidied(cell: str) -> str:
     for blank in BLANKS:
         cell = cell.replace(blank, " ")
     return " ".join(filter(None, cell.split(" ")))
+
+
+def tidy(cell: str) -> str:
+    """What is read of a cell."""
+    return taken(tidied(cell))
 
 
 def read_bytes(path: str) -> Optional[bytes]:
@@ -122,52 +175,34 @@ def read_bytes(path: str) -> Optional[bytes]:
     return found
 
 
-def separator_of(text: str) -> str:
-    """What parts the cells: what the headings have most of outside of quotes."""
-    head = text.split("\n", 1)[0]
-    outside = "".join(head.split('"')[::2])
-    return max(SEPARATORS, key=outside.count)
+def meanings(columns: Sequence[Column], words: Vocabulary, head: str) -> Optional[str]:
+    """The column that a heading means."""
+    for heading in (plain(head), words.meaning(Of.HEADING, head)):
+        for column in columns:
+            if heading in map(plain, (column.name, *column.others)):
+                return column.name
+    return None
 
 
-def read_cells(file: str, data: bytes, faults: Faults) -> list[list[str]]:
-    """The rows of a file as lists of cells; empty ones for blank lines, so that a row's place is
-    its number."""
-    try:
-        text = data.decode("utf-8-sig")
-    except UnicodeDecodeError as fault:
-        row = data[: fault.start].count(b"\n") + 1
-        faults.add(file, row, "not UTF-8: let the spreadsheet write it as CSV in UTF-8")
-        return []
-    first, _, rest = text.partition("\n")
-    if first.strip().lower() in [f"sep={separator}" for separator in SEPARATORS]:
-        # a spreadsheet takes this line in, and does not count it
-        separator, text = first.strip()[4:], rest
-    else:
-        separator = separator_of(text)
-    rows: list[list[str]] = []
-    lines = io.StringIO(text.replace("\0", NUL), newline="")
-    try:
-        for cells in csv.reader(lines, delimiter=separator, strict=True):
-            rows.append([taken(tidied(cell).replace(NUL, "\0")) for cell in cells])
-            if len(rows) > ROWS:
-                faults.add(file, 0, f"it has more than {ROWS:,} rows")
-                return []
-    except csv.Error:
-        faults.add(file, len(rows) + 1, "a quote is not closed, or something stands behind one")
-    return rows
+def head_row(rows: list[list[str]], columns: Sequence[Column], words: Vocabulary) -> int:
+    """The row of the headings: the first one, or one below a title that has all that is needed."""
+    needed = {column.name for column in columns if column.is_needed}
+    for number, cells in enumerate(rows[:HEADS]):
+        if needed <= {meanings(columns, words, cell) for cell in cells if cell}:
+            return number
+    return 0
 
 
 def find_columns(
-    file: str, heads: list[str], columns: Sequence[Column], faults: Faults
+    file: str, heads: list[str], columns: Sequence[Column], words: Vocabulary, faults: Faults
 ) -> dict[str, int]:
     """Where the columns stand."""
     places: dict[str, int] = {}
-    meant = {plain(each): one.name for one in columns for each in (one.name, *one.others)}
     for place, head in enumerate(heads):
-        name = meant.get(plain(head))
+        name = meanings(columns, words, head)
         if name is None:
             if head:
-                faults.notes.append(shown(f"{file}: the column {head} is not read"))
+                faults.note(file, f"the column {head} is not read")
         elif name in places:
             faults.add(file, 1, f"two columns are the {name}")
         else:
@@ -178,28 +213,46 @@ def find_columns(
     return places
 
 
-def read_table(
-    folder: str, file: str, columns: Sequence[Column], faults: Faults
-) -> Optional[list[Row]]:
-    """The rows of a table but blank ones; None if the file is not there."""
-    data = read_bytes(os.path.join(folder, file))
-    if data is None:
-        return None
-    rows = read_cells(file, data, faults)
-    heads = rows[0] if rows else []
-    places = {} if file in faults.found else find_columns(file, heads, columns, faults)
-    if file in faults.found:
-        return []
+def fill_down(file: str, rows: list[Row], columns: Sequence[Column]) -> list[Row]:
+    """The rows with what stands above them where merged cells were written once."""
+    fills = [column.name for column in columns if column.fills]
     found: list[Row] = []
-    for number, cells in enumerate(rows[1:], 2):
+    filled: list[int] = []
+    for row in rows:
+        if found and fills and not any(row[name] for name in fills):
+            above = {name: found[-1][name] for name in fills}
+            row = replace(row, cells={**row.cells, **above})
+            filled.append(row.number)
+        found.append(row)
+    if filled:
+        what = " and ".join(fills[:2])
+        rows[0].faults.note(file, f"rows {spans(filled)} have the {what} of the row above")
+    return found
+
+
+def rows_of_table(
+    file: str, table: Table, columns: Sequence[Column], words: Vocabulary, faults: Faults
+) -> list[Row]:
+    """The rows of a table but blank ones."""
+    if table.called != file:
+        faults.called[file] = table.called
+    if table.cells.note:
+        faults.note(file, table.cells.note)
+    rows = table.cells.rows
+    top = head_row(rows, columns, words)
+    heads = rows[top] if rows else []
+    places = find_columns(file, heads, columns, words, faults)
+    absent = frozenset(one.name for one in columns if one.name not in places)
+    found: list[Row] = []
+    for number, cells in enumerate(rows[top + 1 :], top + 2):
         if len(cells) > len(heads) and any(cells[len(heads) :]):
             faults.add(file, number, "more cells than headings")
         if any(cells):
-            cells += [""] * (len(heads) - len(cells))
+            cells = cells + [""] * (len(heads) - len(cells))
             by_name = {one.name: "" for one in columns}
             by_name.update({name: cells[place] for name, place in places.items()})
-            found.append(Row(file, number, by_name, faults))
-    return found
+            found.append(Row(file, number, by_name, faults, words, absent))
+    return fill_down(file, found, columns)
 
 
 def taken(cell: str) -> str:
@@ -213,10 +266,21 @@ def guarded(cell: object) -> object:
     return f"'{cell}" if isinstance(cell, str) and FORMULA.match(cell) else cell
 
 
-def write_table(heads: Sequence[str], rows: Sequence[Sequence[object]]) -> bytes:
-    """A table as spreadsheets read it: with commas, in UTF-8 with a byte order mark."""
+def write_table(
+    heads: Sequence[str], rows: Sequence[Sequence[object]], dialect: Dialect = Dialect()
+) -> bytes:
+    """A table as spreadsheets read it: with commas, in UTF-8 with a byte order mark, if no other
+    dialect is asked for."""
     text = io.StringIO(newline="")
-    writer = csv.writer(text, lineterminator="\r\n")
+    writer = csv.writer(text, delimiter=dialect.separator, lineterminator=dialect.ending)
     writer.writerow(heads)
     writer.writerows([*map(guarded, row)] for row in rows)
-    return b"\xef\xbb\xbf" + text.getvalue().encode("utf-8")
+    return encoded_table(text.getvalue(), dialect)
+
+
+def encoded_table(text: str, dialect: Dialect) -> bytes:
+    """The bytes of a table; in UTF-8 where its encoding does not have a name that came in."""
+    try:
+        return text.encode(dialect.encoding)
+    except UnicodeEncodeError:
+        return text.encode("utf-8-sig")

@@ -2,8 +2,9 @@
 from __future__ import annotations
 
 from datetime import datetime, timedelta
+from difflib import get_close_matches
 from typing import Iterator
-from zoneinfo import ZoneInfo
+from zoneinfo import ZoneInfo, available_timezones
 
 from office.refused import CONTENT, Refused
 
@@ -15,6 +16,18 @@ def zone_of(name: str) -> ZoneInfo:
         return ZoneInfo(name)
     except (KeyError, OSError, ValueError):
         raise Refused(f"this machine knows no time zone {name}", CONTENT) from None
+
+
+def fault_of_zone(name: str) -> str:
+    """What is wrong with the name of a zone; empty if nothing is, or if this machine knows none."""
+    try:
+        zone_of(name)
+    except Refused as refused:
+        known = available_timezones()
+        alike = [zone for zone in sorted(known) if zone.lower().endswith("/" + name.lower())]
+        found = alike or get_close_matches(name, known, 1, 0.75)
+        return f"{refused.reason}{f': did you mean {found[0]}?' if found else ''}" if known else ""
+    return ""
 
 
 def clocks(time: datetime) -> tuple[object, ...]:

@@ -111,18 +111,25 @@ def head_lines(week: OneWeek) -> list[str]:
 
 
 def week_page(
-    week: OneWeek, has_costs: bool, links: str = "", foot: str = "", script: str = ""
+    week: OneWeek,
+    has_costs: bool,
+    links: str = "",
+    foot: str = "",
+    script: str = "",
+    below: str = "",
 ) -> str:
-    """The page of a week, with links above it, and a line and a script below it."""
+    """The page of a week, with links above it, and what is to be said, a line and a script below
+    it."""
     title = f"{week.title()} \N{EN DASH} {shown(week.labels.title or week.at.instance.name)}"
     heads = "".join(f"<p>{escape(line)}</p>\n" for line in head_lines(week))
     missing = "; ".join(week.missing())
     absent = f'<p class="missing">Not placed: {escape(missing)}</p>\n' if missing else ""
     costs = f"<p>Whole timetable: {escape(cost_line(week.at))}</p>\n" if has_costs else ""
+    notes = f'<section class="changes">\n{below}</section>\n' if below else ""
     footer = f"<footer><p>{escape(foot)}</p></footer>\n" if foot else ""
     return page(
         title,
         f"{links}<main>\n<header>\n<h1>{escape(week.title())}</h1>\n{heads}{absent}</header>\n"
-        f"{grid(week, has_costs)}{costs}</main>\n{footer}{script}",
+        f"{grid(week, has_costs)}{costs}{notes}</main>\n{footer}{script}",
         print_size(week, has_costs),
     )

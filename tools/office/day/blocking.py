@@ -5,7 +5,8 @@ from __future__ import annotations
 import time
 from typing import Iterable, Optional
 
-from office.data.label_files import read_labels, read_minute, read_weekday
+from office.data.label_files import read_labels
+from office.data.readings import read_minute, read_weekday
 from office.data.labels import Labels
 from office.day.closure import BLOCKABLE, Closure, Scope
 from office.day.closures_file import (

@@ -13,6 +13,7 @@ from office.day.costs import costs_in_words
 from office.day.folder import Day
 from office.day.next_part import rules_after
 from office.day.open_drafts import end_work
+from office.day.minute_sums import check_minutes
 from office.day.parts import Part, half_made, parts_of
 from office.day.pipes import remove_pipes
 from office.day.program import Left
@@ -79,6 +80,7 @@ def send(number: int, sign: int) -> None:
 
 def write_journal(part: Part) -> str:
     """Writes the journal of a part, and answers what its audit under the rules of the part says."""
+    check_minutes(part)
     left, new = Left(part), part.journal + ".new"
     left.write_journal(new)
     status, verdict = left.audit(new)

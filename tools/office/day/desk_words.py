@@ -13,6 +13,9 @@ def encoded(line: str) -> bytes:
 
 def words_of(line: str) -> list[str]:
     """The words of a line."""
+    if line.isascii() and line.isprintable():
+        # nothing but blanks parts these
+        return line.split()
     return [decoded(word) for word in encoded(line).split()]
 
 

@@ -43,6 +43,10 @@ class Minutes:
         self.is_damaged = False
         self._at = 0
 
+    def read_to(self) -> int:
+        """How far they are read."""
+        return self._at
+
     def size(self) -> int:
         try:
             return os.stat(self.path).st_size

@@ -13,7 +13,7 @@ from office.day.closures_file import blocked_text, closures_end, standing_of
 from office.day.instance import Instance
 from office.day.parts import Part
 from office.day.processes import Signals
-from office.day.program import run_on_files
+from office.day.program import day_program, run_on_files
 from office.day.safe_files import make_anew, open_or_make, sync, write_whole
 from office.refused import Refused, Silent
 
@@ -31,7 +31,7 @@ class NewPart:
 
     def __init__(self, signals: Signals, before: Part) -> None:
         self.signals, self.before, self.day = signals, before, before.day
-        self.program: list[str] = self.day.facts()["program"]
+        self.program = day_program(self.day.facts())
         self.target = before.next()
         self.instance = before.instance()
         # as long as it is made it stands beside its place

@@ -58,30 +58,74 @@ def read_work(day: Day, planner: int) -> Optional[AtWork]:
         return None
 
 
-class OthersAtWork:
-    """On what the others of a day work. Files are read again if they have changed."""
+Works = dict[int, AtWork]
 
-    def __init__(self, day: Day, planners: int, planner: int) -> None:
-        self.day = day
-        self.others = [other for other in range(planners) if other != planner]
-        self._read: dict[int, tuple[tuple[int, int], Optional[AtWork]]] = {}
+
+class AllAtWork:
+    """On what the planners of a day work. Files are read again if they have changed."""
+
+    def __init__(self, day: Day, planners: int) -> None:
+        self.day, self.planners = day, planners
+        # replaced by another one when something changes
+        self.works: Works = {}
+        self._stamps: dict[int, tuple[int, int]] = {}
+
+    def read_on(self) -> None:
+        """Looks for what has changed."""
+        works = dict(self.works)
+        for planner in range(self.planners):
+            stamp = self._stamp(planner)
+            if self._stamps.get(planner, (0, 0)) == stamp:
+                continue
+            self._stamps[planner] = stamp
+            works.pop(planner, None)
+            work = read_work(self.day, planner) if stamp[1] else None
+            if work is not None:
+                works[planner] = work
+        if works != self.works:
+            self.works = works
+
+    def _stamp(self, planner: int) -> tuple[int, int]:
+        """Another one when a file is another one; (0, 0) if there is none."""
+        try:
+            found = os.stat(work_path(self.day, planner))
+        except OSError:
+            return 0, 0
+        return found.st_mtime_ns, found.st_ino
+
+
+class OthersAtWork:
+    """On what the others of a day work. Seats in one process are given the same works, which are
+    then read by who has made them."""
+
+    def __init__(
+        self, day: Day, planners: int, planner: int, everybody: Optional[AllAtWork] = None
+    ) -> None:
+        self.planner = planner
+        self._everybody, self._is_shared = everybody or AllAtWork(day, planners), bool(everybody)
+        self._known: Works = {}
+        # the lectures of works that have changed, until they are taken up
+        self._touched: set[Lecture] = set()
 
     def read_on(self) -> bool:
         """Looks for what has changed, and answers whether something has."""
-        is_new = False
-        for other in self.others:
-            try:
-                found = os.stat(work_path(self.day, other))
-                stamp = found.st_mtime_ns, found.st_ino
-            except OSError:
-                stamp = 0, 0
-            if self._read.get(other, ((0, 0), None))[0] != stamp:
-                work = read_work(self.day, other) if stamp[1] else None
-                self._read[other] = stamp, work
-                is_new = True
-        return is_new
+        if not self._is_shared:
+            self._everybody.read_on()
+        old, self._known = self._known, self._everybody.works
+        changed = [
+            one.get(other)
+            for other in {*old, *self._known}
+            if other != self.planner and old.get(other) != self._known.get(other)
+            for one in (old, self._known)
+        ]
+        self._touched.update(lecture for work in changed if work for lecture in work.lectures)
+        return bool(changed)
+
+    def take_touched(self) -> set[Lecture]:
+        """The lectures of drafts that were opened, changed or ended since the last time."""
+        touched, self._touched = self._touched, set()
+        return touched
 
     def works(self) -> list[AtWork]:
         """The open drafts of the others, by seats."""
-        known = [self._read[other][1] for other in sorted(self._read)]
-        return [work for work in known if work is not None]
+        return [self._known[other] for other in sorted(self._known) if other != self.planner]

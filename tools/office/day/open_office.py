@@ -12,6 +12,7 @@ from office.day import processes
 from office.day.closures_file import closures_end, closures_size
 from office.day.file_faults import POINT
 from office.day.folder import CHANGING, CLOSED, OPEN, REOPENING, STARTING, Day
+from office.day.minute_sums import MinuteSums
 from office.day.next_part import NewPart, rules_after
 from office.day.open_drafts import end_work
 from office.day.parts import Part
@@ -70,6 +71,7 @@ class Running:
         words += ["--minutes", part.minutes, POINT]
         self.desk = desk = processes.start(words, None, keep=[self.lock], preexec_fn=begin)
         self.wait_for_seats(desk)
+        self.sums = MinuteSums(part)
         self.note(OPEN)
 
     def wait_for_seats(self, desk: subprocess.Popen[bytes]) -> None:
@@ -96,12 +98,18 @@ class Running:
         while self.desk.poll() is None and not self.signals.count:
             self.signals.wait(PACE)
             self.web.look()
+            self.keep_sums()
             if closures_size(self.day) != self.looked or time.monotonic() > self.again:
                 self.look()
         if self.desk.poll() is None:
             self.close(self.desk)
             processes.end(self.desk)
         return self.desk.returncode
+
+    def keep_sums(self) -> None:
+        """Adds checksums of what is new in the minutes; on a disk that fails, later."""
+        with contextlib.suppress(OSError):
+            self.sums.read_on()
 
     def close(self, desk: subprocess.Popen[bytes]) -> None:
         """Lets the desk end, and those who sit for some time; then, or when a second signal comes,
@@ -123,6 +131,7 @@ class Running:
     def forget(self) -> None:
         """Ends the desk, and lets the lock go."""
         self.end_desk()
+        self.keep_sums()
         with contextlib.suppress(FileNotFoundError):
             os.remove(self.day.closing)
         self.desk = None
@@ -162,6 +171,7 @@ class Running:
         self.let_end(self.desk, STEP)
         self.signals.check()
         self.end_desk()
+        self.keep_sums()
         self.desk = None
         try:
             self.part = new.make()

@@ -6,7 +6,8 @@ import contextlib
 import os
 from typing import Optional
 
-from office.data.label_files import FILES, has_labels, read_labels
+from office.data import given_tables, plan_book
+from office.data.label_files import FILES, check_zone, has_labels, read_labels
 from office.day import mending, processes
 from office.day.closure import Closure
 from office.day.closures_file import (
@@ -23,10 +24,18 @@ from office.day.desk_words import encoded
 from office.day.folder import CHECKING, SEATS, Day
 from office.day.instance import Instance, completion_words, read_instance
 from office.day.open_office import Running, keep
+from office.day.minute_sums import sums_path
 from office.day.parts import FIRST, Part, last_part
 from office.day.pins import pins_path
 from office.day.processes import Signals, Stopped
-from office.day.program import build_words, program_words, run_on_files
+from office.day.program import (
+    build_words,
+    day_program,
+    named_words,
+    program_words,
+    run_on_files,
+    version_of,
+)
 from office.day.safe_files import lock, must_be_own, open_or_make, sync, write_whole
 from office.day.spare import keep_room, spare_path
 from office.refused import Refused, Silent, sentence
@@ -77,7 +86,7 @@ def plan_after(
     plan = Plan(
         day, planners or facts["planners"], instance or before.instance, before.end, barred or kept
     )
-    plan.after, plan.program = before, facts["program"]
+    plan.after, plan.program = before, day_program(facts)
     plan.labels = before.path if has_labels(before.path) else None
     plan.closures = standing(read_closures(before))
     # what was blocked when the day ended may not have come to its rules any more
@@ -153,6 +162,7 @@ class Opening:
             raise Refused("there is no program to run a desk with")
         if plan.labels:
             self.copy_labels(plan.labels)
+        self.copy_along([plan.after.path] if plan.after else [], plan.labels)
         if plan.after and os.path.exists(pins_path(plan.after)):
             self.copy(pins_path(plan.after), pins_path(day))
         self.copy(plan.instance, day.instance)
@@ -181,7 +191,8 @@ class Opening:
         self.day.write_facts(
             {
                 "planners": plan.planners,
-                "program": plan.program,
+                "program": named_words(plan.program),
+                "version": version_of(plan.program),
                 "opened": processes.now(),
                 "instance": os.path.abspath(plan.instance),
                 "start": os.path.abspath(plan.start) if plan.start else None,
@@ -221,10 +232,22 @@ class Opening:
     def copy_labels(self, folder: str) -> None:
         if not has_labels(folder):
             raise Refused(f"{folder} has none of {', '.join(FILES)}")
-        read_labels(folder)
+        check_zone(read_labels(folder), folder)
         for file in FILES:
             if os.path.exists(os.path.join(folder, file)):
                 self.copy(os.path.join(folder, file), self.day.file(file))
+
+    def copy_along(self, before: list[str], labels: Optional[str]) -> None:
+        """Goes on with the identities that calendars have, of the day before or of the plan; and
+        with the tables as they were given, of a plan that was imported again or of the day."""
+        plan = [labels] if labels else []
+        for file, folders in (
+            (plan_book.FILE, [*before, *plan]),
+            (given_tables.FILE, [*plan, *before]),
+        ):
+            there = [one for one in folders if os.path.exists(os.path.join(one, file))]
+            if there:
+                self.copy(os.path.join(there[0], file), self.day.file(file))
 
     def check(self) -> None:
         """Has the program read what was copied so far."""
@@ -261,12 +284,13 @@ class Opening:
             part.start,
             part.blocked,
             part.minutes,
+            sums_path(part),
             part.aside,
             part.file("known.sol"),
             closures_path(day),
             pins_path(day),
             spare_path(day),
-            *map(day.file, FILES),
+            *map(day.file, (*FILES, plan_book.FILE, given_tables.FILE)),
         ]
         for path in [*made, day.office]:
             for ending in ("", ".new"):

@@ -6,7 +6,7 @@ from __future__ import annotations
 import json
 import os
 import re
-from typing import Any, NamedTuple, Optional
+from typing import Any, Callable, NamedTuple, Optional
 
 from office.day.closure import Closure
 from office.day.closures_file import read_closures, standing_of
@@ -109,6 +109,7 @@ def parts_of(day: Day) -> list[Part]:
         found.append(found[-1].next())
     return found
 
+
 def last_part(day: Day) -> Part:
     return parts_of(day)[-1]
 
@@ -178,8 +179,8 @@ def changes_of(day: Day) -> list[RuleChange]:
 class DayMinutes:
     """The minutes of a day, part by part, as they grow; its drafts are counted through."""
 
-    def __init__(self, day: Day) -> None:
-        self.day = day
+    def __init__(self, day: Day, make: Callable[[str, int], Minutes] = Minutes) -> None:
+        self.day, self._make = day, make
         self.entries: list[Entry] = []
         self._begin(Part(day, FIRST))
 
@@ -187,7 +188,7 @@ class DayMinutes:
         self.part = part
         # how many drafts were accepted before this part
         self.offset = len(self.entries)
-        self._minutes = Minutes(part.minutes, self.offset)
+        self._minutes = self._make(part.minutes, self.offset)
 
     def of_part(self) -> list[Entry]:
         """The drafts of the part that is read."""

@@ -21,23 +21,63 @@ from office.words.text import shown_lines
 # the folder that has `timedesk` and `office`
 HERE = os.path.abspath(os.path.join(os.path.dirname(__file__), "../../.."))
 
+# what a program is called, and how long what it says of its version is at most
+OWN, VERSION = "timedesk", 200
+
 
 def program_words(unproved: bool) -> list[str]:
     """The words that run the program: TIMEDESK names another one."""
     named = os.environ.get("TIMEDESK")
     if unproved:
-        return [os.path.join(HERE, "timedesk"), "--unproved"]
+        return [os.path.join(HERE, OWN), "--unproved"]
     if not named:
-        return [os.path.join(HERE, "timedesk")]
+        return [os.path.join(HERE, OWN)]
     found = shutil.which(named)
     if found is None:
         raise Refused(f"TIMEDESK: {named} is no program")
     return [os.path.abspath(found)]
 
 
+def named_words(program: Sequence[str]) -> list[str]:
+    """The words by which a day remembers a program: that of this folder by its name, since the
+    folder may be another one tomorrow; one that somebody has named by its path."""
+    is_ours = program[0] == os.path.join(HERE, OWN)
+    return [OWN, *program[1:]] if is_ours else list(program)
+
+
+def is_of_an_office(path: str) -> bool:
+    """Whether a path is that of the program of some office, as days used to remember it."""
+    is_named = os.path.basename(path) == OWN
+    return is_named and os.path.exists(os.path.join(os.path.dirname(path), "office"))
+
+
+def day_program(facts: Mapping[str, Any]) -> list[str]:
+    """The words that run the program of a day: that of this office, with or without proof as the
+    day has it, or the one that was named for the day, if it is still there; TIMEDESK names another
+    one."""
+    first, *rest = map(str, facts["program"])
+    if os.environ.get("TIMEDESK"):
+        return program_words(False)
+    if first != OWN and os.access(first, os.X_OK) and not is_of_an_office(first):
+        return [first, *rest]
+    # what is installed has one program, proved or not
+    is_installed = os.path.exists(os.path.join(HERE, "about"))
+    return [os.path.join(HERE, OWN), *([] if is_installed else rest)]
+
+
+def version_of(program: Sequence[str]) -> str:
+    """What a program says of its version, in one line; empty if it says nothing."""
+    try:
+        done = subprocess.run([*program, "--version"], capture_output=True, timeout=60, check=False)
+    except (OSError, subprocess.TimeoutExpired):
+        return ""
+    lines = decoded(done.stdout).splitlines() if done.returncode == 0 else []
+    return "; ".join(line for line in lines[:2] if line)[:VERSION]
+
+
 def build_words(program: list[str]) -> list[str]:
     """The words that build a program if need be, and run nothing; another one is asked for help."""
-    is_ours = program[0] == os.path.join(HERE, "timedesk")
+    is_ours = program[0] == os.path.join(HERE, OWN)
     return [*program, "--build" if is_ours else "--help"]
 
 
@@ -102,7 +142,7 @@ class Left:
 
     def __init__(self, part: Part, quiet: bool = False) -> None:
         self.part, self.instance = part, part.day.instance
-        self.program: list[str] = part.day.facts()["program"]
+        self.program = day_program(part.day.facts())
         self.quiet = quiet
 
     def run(self, *words: str, text: bytes = b"") -> tuple[int, bytes]:

@@ -16,10 +16,11 @@ from office.day.next_part import NewPart, rules_after
 from office.day.open_drafts import end_work
 from office.day.open_office import Running, keep
 from office.day.opening import take_office
+from office.day.minute_sums import check_minutes
 from office.day.parts import Part, half_made, last_part
 from office.day.pipes import remove_pipes
 from office.day.processes import Signals, Stopped
-from office.day.program import build_words, program_words
+from office.day.program import build_words, day_program, named_words, version_of
 from office.refused import Refused
 from office.words.announce import announce
 
@@ -74,13 +75,15 @@ def reopen_day(day: Day, web: list[str]) -> int:
     signals, held = Signals(), take_lock(day)
     facts = day.facts()
     running = Running(last_part(day), facts["planners"], held, signals)
-    running.program = program_words(False) if os.environ.get("TIMEDESK") else facts["program"]
+    running.program = day_program(facts)
     try:
         running.note(CHECKING)
-        if running.program != facts["program"]:
-            day.write_facts({**facts, "program": running.program})
+        if named_words(running.program) != facts["program"]:
+            named = {"program": named_words(running.program)}
+            day.write_facts({**facts, **named, "version": version_of(running.program)})
         if processes.run(signals, build_words(running.program)) != 0:
             raise Refused("there is no program to run a desk with")
+        check_minutes(running.part)
         running.part = next_part(signals, running.part)
         running.start(REOPENING)
     except BaseException as fault:

@@ -7,7 +7,7 @@ from office.day.desk_words import decoded, encoded
 from office.day.edits import Edit
 from office.day.lecture import Lecture
 from office.day.parts import Part
-from office.day.program import output
+from office.day.program import day_program, output
 from office.refused import CONTENT, Refused, Silent
 from office.seat.answers import Answer, read_answer
 
@@ -39,5 +39,5 @@ class Scratch:
 
 def scratch_of(part: Part, lectures: Iterable[Lecture]) -> Scratch:
     """A desk with lectures, by the rules of a part of a day."""
-    program, instance = part.day.facts()["program"], part.day.instance
+    program, instance = day_program(part.day.facts()), part.day.instance
     return Scratch([*program, "run", instance, "-", *part.side_words()], lectures)

@@ -9,12 +9,21 @@ from office.data.label_files import read_labels
 from office.day.closures_file import standing_of
 from office.day.costs import costs_in_words
 from office.day.folder import Day
-from office.day.parts import FIRST, Part, instance_of, last_part, read_all_minutes, read_entries
+from office.day.minute_sums import check_minutes
+from office.day.parts import (
+    FIRST,
+    Part,
+    instance_of,
+    last_part,
+    parts_of,
+    read_all_minutes,
+    read_entries,
+)
 from office.day.pins import read_pins
 from office.past.authors import read_pasts
 from office.past.replay import play_costs
 from office.past.timetable_at import read_at
-from office.refused import Refused
+from office.refused import Refused, reason_of
 from office.seat.seat import is_taken, read_sitter
 from office.seat.seat_log import SeatPast
 from office.words.closure_notices import closure_notice
@@ -92,6 +101,11 @@ def minutes_line(day: Day, pasts: list[Optional[SeatPast]]) -> str:
     damaged = [part.minutes for part, minutes in read_all_minutes(day) if minutes.is_damaged]
     if damaged:
         return f"{damaged[0]} is damaged: what stands behind these drafts is not read"
+    try:
+        for part in parts_of(day):
+            check_minutes(part)
+    except (Refused, OSError) as fault:
+        return reason_of(fault)
     room = os.statvfs(day.path)
     if room.f_bavail == 0:
         return "minutes: the disk is full"

@@ -12,7 +12,8 @@ from office.day.lecture import Lecture, Place, Slot
 
 
 class Timetable:
-    """Lectures by courses and by slots."""
+    """Lectures by courses and by slots. A row is never changed, but replaced: copies share those
+    that are alike."""
 
     def __init__(
         self, instance: Instance, lectures: Iterable[tuple[str, str, int, int]] = ()
@@ -21,13 +22,14 @@ class Timetable:
         self.by_course: dict[str, dict[Slot, str]] = {name: {} for name in instance.courses}
         self.by_slot: dict[Slot, dict[str, str]] = {slot: {} for slot in instance.slots()}
         for course, room, day, period in lectures:
-            self.put(course, (day, period), room)
+            # nobody else has these rows yet
+            self.by_course[course][day, period] = room
+            self.by_slot[day, period][course] = room
 
     def copy(self) -> Timetable:
         found = Timetable.__new__(Timetable)
         found.instance = self.instance
-        found.by_course = {course: row.copy() for course, row in self.by_course.items()}
-        found.by_slot = {slot: row.copy() for slot, row in self.by_slot.items()}
+        found.by_course, found.by_slot = self.by_course.copy(), self.by_slot.copy()
         return found
 
     def lectures(self) -> list[Lecture]:
@@ -66,12 +68,15 @@ class Timetable:
         return self.instance.courses[course].lectures - len(self.by_course[course])
 
     def put(self, course: str, slot: Slot, room: str) -> None:
-        self.by_course[course][slot] = room
-        self.by_slot[slot][course] = room
+        self.by_course[course] = {**self.by_course[course], slot: room}
+        self.by_slot[slot] = {**self.by_slot[slot], course: room}
 
     def take(self, course: str, slot: Slot) -> str:
-        self.by_slot[slot].pop(course)
-        return self.by_course[course].pop(slot)
+        row, at = self.by_course[course].copy(), self.by_slot[slot].copy()
+        room = row.pop(slot)
+        at.pop(course)
+        self.by_course[course], self.by_slot[slot] = row, at
+        return room
 
     def same_as(self, other: Timetable) -> bool:
         return self.by_course == other.by_course

@@ -24,16 +24,17 @@ NO_FACTS = CommitFacts("", "", "")
 def read_pasts(day: Day) -> list[Optional[SeatPast]]:
     """What the log of each seat says; None for those that are closed to the reader. What was open
     at a part of the day that has ended is kept, and not open any more."""
-    pasts: list[Optional[SeatPast]] = []
-    for planner in range(day.facts()["planners"]):
-        try:
-            past = read_past(day.log(planner))
-        except OSError:
-            pasts.append(None)
-            continue
-        bring_up(past, day, planner)
-        pasts.append(past)
-    return pasts
+    return [read_seat_past(day, planner) for planner in range(day.facts()["planners"])]
+
+
+def read_seat_past(day: Day, planner: int) -> Optional[SeatPast]:
+    """What the log of one seat says; None if it is closed to the reader."""
+    try:
+        past = read_past(day.log(planner))
+    except OSError:
+        return None
+    bring_up(past, day, planner)
+    return past
 
 
 def bring_up(past: SeatPast, day: Day, planner: int) -> None:

@@ -6,16 +6,18 @@ import datetime
 import sys
 from typing import Iterable, Optional
 
-from office.data.calendars import calendar_of
+from office.data.calendars import Events, calendar_of, timeless, why_none
 from office.data.label_files import read_labels
 from office.data.labels import KINDS, Labels
 from office.data.one_week import CSV_HEADS, OneWeek, rows_of, text_of
+from office.data.plan_book import book_in
 from office.data.tables import write_table
+from office.data.telling import From, Told, first_book
 from office.data.week_page import week_page
 from office.day.folder import Day
 from office.day.instance import Instance
 from office.past.timetable_at import At, read_at
-from office.refused import WORDS, Refused
+from office.refused import CONTENT, WORDS, Refused
 from office.words.text import shown
 from office.work.week import View
 
@@ -38,11 +40,25 @@ def asked(words: argparse.Namespace) -> Optional[tuple[str, str]]:
     return found[0] if found else None
 
 
+def calendar_now(week: OneWeek) -> bytes:
+    """The calendar of a week as a publishing would write it now; that of an earlier draft for the
+    whole term."""
+    why = why_none(week.labels) or timeless(week)
+    if why:
+        raise Refused(why, CONTENT)
+    at = week.at
+    book = book_in(at.day.path) or first_book(at.instance.name, at.lectures)
+    now = datetime.datetime.now(datetime.timezone.utc)
+    since = From(is_whole_term=not at.is_newest()).text(now, week.labels.zone)
+    told = Told(book, at, week.labels, since, f"{now:%Y%m%dT%H%M%SZ}")
+    return calendar_of(Events(told.book), week.labels, week.view)
+
+
 def week_bytes(at: At, labels: Labels, view: View, form: Optional[str], has_costs: bool) -> bytes:
     """A week in a form; text, if none is named."""
     week = OneWeek(at, labels, view)
     if form == "ics":
-        return calendar_of(week, datetime.datetime.now(datetime.timezone.utc))
+        return calendar_now(week)
     if form == "csv":
         return write_table(CSV_HEADS.split(","), rows_of(week))
     if form == "html":

@@ -43,11 +43,14 @@ class At:
         """The timetable as a solution for the program, as its `list` prints it."""
         return encoded("".join(f"{lecture.words()}\n" for lecture in self.lectures))
 
+    def is_newest(self) -> bool:
+        return self.number == self.accepted and self.part.is_last()
+
     def title(self) -> str:
         """Which timetable this is, in words."""
         if self.number == 0 and self.part.number == FIRST:
             return f"{self.day.name}, at its start"
-        if self.number == self.accepted and self.part.is_last():
+        if self.is_newest():
             return f"{self.day.name}, after {counted(self.number, 'draft')}"
         return f"{self.day.name}, after draft {self.number} of {self.accepted}"
 

@@ -6,7 +6,14 @@ from typing import Iterable, NamedTuple, Optional
 
 from office.day.folder import Day
 from office.day.lecture import Lecture
-from office.day.open_drafts import AtWork, OthersAtWork, end_work, keep_work, read_work
+from office.day.open_drafts import (
+    AllAtWork,
+    AtWork,
+    OthersAtWork,
+    end_work,
+    keep_work,
+    read_work,
+)
 from office.day.pins import Pin, Pinned, pin, pins_path, read_pins, unpin
 from office.day.processes import now
 from office.day.safe_files import file_size
@@ -40,9 +47,10 @@ def who_sits(day: Day, planners: int) -> list[SeatStatus]:
 class Courtesies:
     """What a planner's client tells the others, and what it is told."""
 
-    def __init__(self, seat: Seat) -> None:
+    def __init__(self, seat: Seat, everybody: Optional[AllAtWork] = None) -> None:
         self.seat = seat
-        self.others = OthersAtWork(seat.day, seat.facts["planners"], seat.planner)
+        planners = seat.facts["planners"]
+        self.others = OthersAtWork(seat.day, planners, seat.planner, everybody)
         self.pins: dict[Pinned, Pin] = {}
         # how long the file of pins was when it was read
         self._size = 0

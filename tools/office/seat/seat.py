@@ -308,10 +308,21 @@ class Seat:
     def ask(self, call: Union[Edit, Turn, str]) -> Answer:
         """Says something to the desk, and waits for its answer."""
         self.send(str(call))
+        return self._answer()
+
+    def _answer(self) -> Answer:
+        """The next answer, which is waited for."""
         text = self.read(PATIENCE)
         if text is None:
             raise NoAnswer
         return self.take(text)
+
+    def ask_all(self, lines: list[str]) -> list[Answer]:
+        """Says lines at once that change nothing, and waits for all their answers."""
+        self.log.sent(*lines)
+        self.waiting += lines
+        self._write(b"".join(encoded(line) + b"\n" for line in lines))
+        return [self._answer() for _ in lines]
 
     def catch_up(self) -> list[str]:
         """Takes up the answers that were under way when somebody sat here last: a word that nothing

@@ -70,10 +70,11 @@ class SeatLog:
         # why not all could be written
         self.fault = ""
 
-    def _write(self, sign: str, text: str) -> None:
-        """Writes a line. If it cannot be written, `fault` says why, the planner goes on, and it is
-        written with the next one."""
-        self._unwritten += f"{now()} {sign} ".encode() + encoded(text) + b"\n"
+    def _write(self, sign: str, *texts: str) -> None:
+        """Writes lines. If they cannot be written, `fault` says why, the planner goes on, and they
+        are written with the next one."""
+        head = f"{now()} {sign} ".encode()
+        self._unwritten += b"".join(head + encoded(text) + b"\n" for text in texts)
         self.fault = ""
         try:
             while self._unwritten:
@@ -81,9 +82,9 @@ class SeatLog:
         except OSError as fault:
             self.fault = fault.strerror or "the disk fails"
 
-    def sent(self, line: str) -> None:
-        """Notes a line before it is sent."""
-        self._write(SENT, line)
+    def sent(self, *lines: str) -> None:
+        """Notes lines before they are sent."""
+        self._write(SENT, *lines)
 
     def received(self, answer: Answer) -> None:
         """Notes an answer before it is shown."""

@@ -6,9 +6,11 @@ from typing import Any, Iterable, Optional, Sequence, cast
 from office.day.instance import Instance
 from office.day.lecture import Lecture
 from office.day.shifts import Shift
-from office.web.message_types import CourseData, LectureData, NamesData
+from office.past.authors import CommitFacts
+from office.web.message_types import CourseData, LectureData, NamesData, NewsData
 from office.words.text import counted, shown
 from office.words.wording import Wording
+from office.work.news import Accepted
 from office.work.week import Signs, View, courses_of_view
 
 # what is said with a sign: a price, and those of the parts
@@ -53,6 +55,8 @@ class Frame:
     def __init__(self, instance: Instance, wording: Wording) -> None:
         self.instance, self.wording = instance, wording
         self.hues = hues_of(instance)
+        # the last accepted drafts in words, with what is known of them
+        self.news: dict[int, tuple[Accepted, CommitFacts, NewsData]] = {}
 
     def data(self) -> NamesData:
         """Days, periods, slots and names, with which a window begins."""

@@ -114,7 +114,8 @@ class Guard:
             raise Fault(401, "a request has its key in a header of its own")
 
     def who(self, head: Head) -> str:
-        """Whose request it is: a seat's number, or a reader's. A key decides, else the login."""
+        """Whose request it is: a seat's number, or a reader's. A key decides, else the login; but
+        nobody sits by a key where his login has another place."""
         key, found = (head.get(KEY) or "").encode("latin-1", "replace"), None
         for name, own in self.keys.by_name.items():
             if hmac.compare_digest(own.encode(), key):
@@ -125,12 +126,21 @@ class Guard:
             raise Fault(401, "this page needs the link that the office has given you")
         if found is None:
             raise Fault(401, "the link is not right: ask the office for a new one")
+        place = self.logins.get(self.login(head), found)
+        if place != found and found != READER:
+            why = f"this link is of seat {found}, and your login is of {place_of(place)}"
+            raise Fault(403, why)
         return found
 
     def login(self, head: Head) -> str:
         """Who has logged in at the proxy, as it says."""
         values = head.fields.get(self.login_header.lower(), []) if self.login_header else []
         return values[0] if len(values) == 1 else ""
+
+
+def place_of(name: str) -> str:
+    """A place in words."""
+    return "those who read" if name == READER else f"seat {name}"
 
 
 def media_type(head: Head) -> str:

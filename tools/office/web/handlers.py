@@ -15,15 +15,16 @@ from tornado import httputil
 
 from office.web.connections import TAKES, must_take, stream_of
 from office.web.guard import ALWAYS, Fault, Head, media_type
+from office.web.lines import STILL, Line, Stream
 from office.web.seat_faults import fault_of
 
 if TYPE_CHECKING:
     from office.web.server import Office
     from office.web.windows import Window
 
-# seconds between two signs of life
-ALIVE = 15.0
-WINDOW = "X-Window"
+# seconds between two signs of life; a page that has none for some time says so
+ALIVE = 2.0
+WINDOW, ACT = "X-Window", "X-Act"
 # half a letter; those that stand for the bytes of a name are none
 HALF = re.compile("[\ud800-\udc7f\udd00-\udfff]")
 Data = dict[str, Any]
@@ -155,7 +156,11 @@ class Verb(Keyed):
             data = self.read_body()
             if verb == "hello":
                 data["login"] = self.office.guard.login(self.asked)
-            self.answer(await self.office.answer(self.who, self.window, verb, data))
+                self.answer(await self.office.hello(self.who, self.window, data))
+            else:
+                number = (self.asked.get(ACT) or "")[:9]
+                found = await self.office.answer(self.who, self.window, verb, data, number)
+                self.answer(found)
         except Fault as fault:
             self.refuse(fault)
         except Exception as thrown:
@@ -191,16 +196,18 @@ class NewsStream(Keyed):
             return
         self.listened = listened
         self.set_header("Content-Type", "application/x-ndjson")
+        self.stream = Stream("gzip" in (self.asked.get("Accept-Encoding") or ""))
+        if self.stream.is_packed:
+            self.set_header("Content-Encoding", "gzip")
         # a proxy shall hand on each line at once
         self.set_header("X-Accel-Buffering", "no")
         try:
             # the first line says that the window is heard, an empty one that it is still
-            await self.tell(b"\n")
-            while True:
-                event = await listened.next_event(ALIVE)
-                if event is None:
-                    break
-                await self.tell(json_of(event) + b"\n" if event else b"\n")
+            line: Optional[Line] = STILL
+            while line is not None:
+                await self.tell(line)
+                line = await listened.next_line(ALIVE)
+            self.write(self.stream.end())
         except tornado.iostream.StreamClosedError:
             pass
         except asyncio.TimeoutError:
@@ -208,8 +215,8 @@ class NewsStream(Keyed):
         finally:
             listened.end()
 
-    async def tell(self, line: bytes) -> None:
-        self.write(line)
+    async def tell(self, line: Line) -> None:
+        self.write(self.stream.bytes_of(line))
         await asyncio.wait_for(self.flush(), TAKES)
 
     def on_connection_close(self) -> None:

@@ -14,6 +14,8 @@ from office.refused import WORDS, Refused
 
 # set where the Python was chosen for its tornado, and by who wants a certain one
 CHOSEN, NAMED = "OFFICE_WEB_CHOSEN", "OFFICE_WEB_PYTHON"
+# each seat has a thread: an arena of memory for each would give nothing back
+ARENAS = {"MALLOC_ARENA_MAX": "2"}
 PROBE = "import sys, tornado; sys.exit(tornado.version_info < (6,))"
 LACKING = (
     "the seats are served by tornado, which no Python here has: apt-get install python3-tornado, "
@@ -113,7 +115,7 @@ def serve(day: Day, words: argparse.Namespace) -> int:
     if os.environ.get(CHOSEN) is None:
         command = server_words(day, served)
         sys.stdout.flush()
-        os.execvpe(command[0], command, {**os.environ, CHOSEN: "1"})
+        os.execvpe(command[0], command, {**ARENAS, **os.environ, CHOSEN: "1"})
     try:
         from office.web.server import serve_day
     except ImportError:

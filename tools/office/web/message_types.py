@@ -237,17 +237,17 @@ class PictureData(ReaderPictureData):
 
 # what is answered
 
-
 # why a request is refused
 FaultData = TypedDict("FaultData", {"fault": str})
 
 
 class DayData(TypedDict):
-    """The day, when it closes, if that is known, and what time it is."""
+    """The day, when it closes, what time it is, and whether this window was known before."""
 
     day: str
     closes: Optional[float]
     now: float
+    again: bool
 
 
 class SeatsData(DayData):
@@ -306,8 +306,7 @@ ReaderTurnData = TypedDict("ReaderTurnData", {"picture": ReaderPictureData})
 
 
 class TurnData(TypedDict, total=False):
-    """What an act is answered. One that leaves the seat has no more than that; one that came at the
-    end of a part of the day was not done, and has nothing."""
+    """What an act is answered. One that came at the end of a part was not done, and has nothing."""
 
     left: Literal[True]
     notice: NoticeData
@@ -328,7 +327,6 @@ class OfficeEventData(TypedDict, total=False):
 
 class ReaderEventData(OfficeEventData, total=False):
     """To who reads."""
-
     names: NamesData
     picture: ReaderPictureData
 
@@ -341,6 +339,8 @@ class EventData(OfficeEventData, total=False):
     people: list[PersonData]
     news: list[NewsData]
     picture: PictureData
+    # in place of a picture, where the week is as it was
+    state: StateData
     question: Optional[QuestionData]
     notice: NoticeData
     left: Literal[True]

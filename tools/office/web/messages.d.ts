@@ -210,17 +210,19 @@ interface PictureData {
 interface FaultData {
   fault: string;
 }
-/** The day, when it closes, if that is known, and what time it is. */
+/** The day, when it closes, what time it is, and whether this window was known before. */
 interface DayData {
   day: string;
   closes: number | null;
   now: number;
+  again: boolean;
 }
 /** Who sits at the seats of a day. */
 interface SeatsData {
   day: string;
   closes: number | null;
   now: number;
+  again: boolean;
   people: PersonData[];
 }
 /** A name is wanted of who sits down; the last one there had this one. */
@@ -228,6 +230,7 @@ interface WantsData {
   day: string;
   closes: number | null;
   now: number;
+  again: boolean;
   people: PersonData[];
   wants: "name";
   last: string;
@@ -242,6 +245,7 @@ interface ReaderHelloData {
   day: string;
   closes: number | null;
   now: number;
+  again: boolean;
   picture: ReaderPictureData;
 }
 /** With what a window of a seat begins. */
@@ -253,6 +257,7 @@ interface HelloData {
   day: string;
   closes: number | null;
   now: number;
+  again: boolean;
   people: PersonData[];
   seat: number;
   name: string;
@@ -292,8 +297,7 @@ interface PrintData {
 interface ReaderTurnData {
   picture: ReaderPictureData;
 }
-/** What an act is answered. One that leaves the seat has no more than that; one that came at the
- * end of a part of the day was not done, and has nothing. */
+/** What an act is answered. One that came at the end of a part was not done, and has nothing. */
 interface TurnData {
   left?: true;
   notice?: NoticeData;
@@ -324,6 +328,7 @@ interface EventData {
   people?: PersonData[];
   news?: NewsData[];
   picture?: PictureData;
+  state?: StateData;
   question?: QuestionData | null;
   notice?: NoticeData;
   left?: true;

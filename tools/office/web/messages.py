@@ -15,6 +15,12 @@ from office.work.news import Accepted
 from office.work.planning import Planning
 
 
+FAREWELL = (
+    "The office has closed: what you have committed is on the disk, and open edits are offered "
+    "again on the next day."
+)
+
+
 def notice_data(wording: Wording, notice: Notice) -> NoticeData:
     return {"code": notice.code, "text": wording.notice(notice), "isBad": notice.is_bad}
 

@@ -26,6 +26,8 @@ interface State {
   /** why nothing can be done now, and what the office said of it */
   lost: string;
   fault: string;
+  /** that nothing is heard of the office, and since when */
+  old: string;
   waits: string;
 }
 

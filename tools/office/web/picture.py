@@ -22,15 +22,18 @@ from office.web.message_types import (
     MissingData,
     OfferData,
     PictureData,
+    PrintData,
     StateData,
     WeekData,
 )
+from office.web.messages import notice_data
 from office.words.closure_notices import blocked_here_notice, by_notice, closure_notice
 from office.words.notice import NOTHING, Notice, say
 from office.words.text import counted
 from office.work.carry import SWAP, Carry
 from office.work.planning import Planning
 from office.work.week import Cell, View, by_slot, courses_of_view, of_view, weeks_of
+from office.work.week_printing import page_of
 from office.work.work import Work
 
 
@@ -54,6 +57,12 @@ class Picture:
             "week": self.week(),
             "held": self.held(carry) if carry else None,
         }
+
+    def page(self) -> PrintData:
+        """The week that is seen as a page that needs nothing else."""
+        page = page_of(self.planning, self.work.view)
+        notice = notice_data(self.wording, say("page made", path=page.name))
+        return {"page": {"name": page.name, "text": page.text}, "notice": notice}
 
     # the draft
 

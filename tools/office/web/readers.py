@@ -1,6 +1,7 @@
 """Those who read: the timetable as it stands, without seats, logs or reasons."""
 from __future__ import annotations
 
+import asyncio
 import contextlib
 import copy
 from typing import Any, Optional
@@ -9,14 +10,16 @@ from office.day.edits import Edit
 from office.day.folder import Day
 from office.day.lecture import Lecture, Slot
 from office.day.parts import DayMinutes
+from office.day.shifts import shifts_of
 from office.day.timetable import Timetable
 from office.refused import Refused
 from office.web.frame import Frame
 from office.web.guard import Fault
+from office.web.lines import Line
 from office.web.message_types import CellData, ReaderPictureData, WeekData
 from office.web.verbs import Request
 from office.web.windows import Window, Windows
-from office.work.week import Signs, View, all_views, blocked_at, by_slot, of_view
+from office.work.week import Signs, View, all_views, blocked_at, by_slot, of_view, weeks_of
 
 # so many may read at once; one more lets go the one that has been there longest
 MOST = 1000
@@ -32,7 +35,10 @@ class Readers:
         self.frame = frame
         self.windows = Windows(MOST, makes_room=True)
         self.minutes = DayMinutes(day)
-        self.pictures = 0
+        # how often the timetable was another one, and what was drawn of it: each week once for all
+        # who see it
+        self.version = 0
+        self._drawn: dict[View, ReaderPictureData] = {}
         self._begin()
         self._read_on()
 
@@ -43,29 +49,32 @@ class Readers:
         self.instance.block(part.closures(self.instance))
         self.timetable = Timetable(self.instance, part.lectures())
 
-    def _read_on(self) -> bool:
-        """Reads what is new, through all parts of the day that are there; answers whether anything
-        is."""
-        is_new = False
+    def _read_on(self) -> set[View]:
+        """Reads what is new, through all parts of the day that are there; answers the weeks that
+        may be others by it."""
+        found: set[View] = set()
         while True:
             # what a part has is whole once the next one is there
             is_last = self.minutes.part.is_last()
-            entries = self.minutes.read_on()
-            self._make([edit for entry in entries for edit in entry.edits])
-            is_new = is_new or bool(entries) or not is_last
+            for entry in self.minutes.read_on():
+                for edit in entry.edits:
+                    found.update(self._make(edit))
             if is_last:
-                return is_new
+                return found
             self.minutes.step()
             self._begin()
+            found.update(all_views(self.instance))
 
-    def _make(self, edits: list[Edit]) -> None:
-        """Makes the edits of accepted drafts."""
-        for edit in edits:
-            try:
-                self.timetable.make(edit)
-            except (ValueError, KeyError, IndexError):
-                path = self.minutes.part.minutes
-                raise Refused(f"{path} is damaged: {edit} is no edit of this day") from None
+    def _make(self, edit: Edit) -> set[View]:
+        """Makes an edit of an accepted draft, and answers the weeks that it changes."""
+        try:
+            shifts = shifts_of(edit, self.timetable)
+            self.timetable.make(edit)
+        except (ValueError, KeyError, IndexError):
+            path = self.minutes.part.minutes
+            raise Refused(f"{path} is damaged: {edit} is no edit of this day") from None
+        both = [one for shift in shifts for one in shift if one is not None]
+        return {view for one in both for view in weeks_of(self.instance, one)}
 
     async def answer(self, window: Window, verb: str, data: Data) -> Data:
         request = Request(self.instance, data)
@@ -81,10 +90,13 @@ class Readers:
 
     def picture(self, window: Window) -> ReaderPictureData:
         """The week that a window shows, as it stands now."""
-        views = all_views(self.instance)
-        view: View = window.shown or views[0]
+        view: View = window.shown or all_views(self.instance)[0]
         window.shown = view
-        self.pictures += 1
+        if view not in self._drawn:
+            self._drawn[view] = self._draw(view)
+        return self._drawn[view]
+
+    def _draw(self, view: View) -> ReaderPictureData:
         closed = self.instance.closed[view.name] if view.kind == "course" else set()
         lectures = by_slot(of_view(self.timetable, view))
         blocked = {one for one in self.instance.slots() if blocked_at(self.instance, view, one)}
@@ -102,7 +114,7 @@ class Readers:
             "working": [],
             "cells": cells,
         }
-        return {"number": self.pictures, "week": week}
+        return {"number": self.version, "week": week}
 
     def cell(
         self, slot: Slot, lectures: list[Lecture], is_closed: bool, is_blocked: bool
@@ -122,15 +134,30 @@ class Readers:
             "blocked": [{"why": "", "text": "blocked"}] if is_blocked else [],
         }
 
-    async def look(self) -> None:
+    def _draw_anew(self) -> None:
+        self.version += 1
+        self._drawn.clear()
+
+    async def look(self, stamp: Any) -> None:
+        """Tells those whose week may be another one: each week is drawn, written and packed once,
+        and between two of them others have their turn."""
         self.windows.drop_silent()
-        if self.minutes.has_more() and self._read_on():
-            for window in self.windows.all():
-                if window.is_listening:
-                    window.tell({"picture": self.picture(window)})
+        views = self._read_on() if self.minutes.has_more() else set()
+        if not views:
+            return
+        self._draw_anew()
+        lines: dict[View, Line] = {}
+        for window in self.windows.all():
+            if not window.is_listening or window.shown not in views:
+                continue
+            if window.shown not in lines:
+                await asyncio.sleep(0)
+                lines[window.shown] = Line({"picture": self.picture(window)})
+            window.tell(lines[window.shown])
 
     async def rename(self) -> None:
         """Tells who reads what things are called now."""
+        self._draw_anew()
         for window in self.windows.all():
             if window.is_listening:
                 window.tell({"names": self.frame.data(), "picture": self.picture(window)})

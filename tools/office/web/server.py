@@ -12,8 +12,10 @@ from typing import Any, Optional
 import tornado.netutil
 
 from office.data.label_files import Watched
+from office.day.commit_notes import notes_path
 from office.day.folder import Day
-from office.day.parts import instance_of
+from office.day.parts import instance_of, last_part
+from office.day.pins import pins_path
 from office.refused import Refused
 from office.web.action_names import BrowserKeyNames
 from office.web.connections import Connections, Listener, allow_files
@@ -22,14 +24,17 @@ from office.web.guard import BODY, HEAD, Guard, read_logins
 from office.web.handlers import application
 from office.web.launch import Served
 from office.web.look_faults import LookFaults
+from office.web.message_types import PersonData
 from office.web.readers import Readers
 from office.web.seat_keys import READER, file_of, links_of, lock_server, read_keys
 from office.web.sitter import Sitter
 from office.web.static_files import read_pages
 from office.web.windows import Window
+from office.work.shared_reading import SharedReading
 
-# seconds in which a head and a body have to come, and between two looks for news
-COMES, TICK = 10.0, 0.25
+# seconds in which a head and a body have to come, and between two looks for news: at most, and at
+# least, however often somebody commits
+COMES, TICK, LEAST = 10.0, 0.25, 0.05
 # a path of a Unix socket has so many bytes at most
 LONGEST_PATH = 107
 # how long the windows have to hear that all is over
@@ -49,31 +54,47 @@ class Office:
             instance_of(day), PageWording(BrowserKeyNames(), self.labels.labels, isolated)
         )
         self.readers = Readers(day, frame)
-        self.sitters = [Sitter(day, planner, frame) for planner in range(day.facts()["planners"])]
+        planners = day.facts()["planners"]
+        self.part, self.shared = last_part(day), SharedReading(day, planners)
+        self.sitters = [Sitter(day, planner, frame, self.shared) for planner in range(planners)]
         self.connections = Connections(files, len(self.sitters))
         self.keys_at = self.stat_keys()
         self.closes: Optional[float] = None
-        self.people: list[Data] = []
+        self.people: list[PersonData] = []
+        # somebody has committed, or the server is ended: the next look is made at once
+        self.woken = asyncio.Event()
 
     def place(self, who: str) -> Any:
         return self.readers if who == READER else self.sitters[int(who)]
 
     # what is asked
 
-    async def answer(self, who: str, window: str, verb: str, data: Data) -> Data:
+    async def hello(self, who: str, window: str, data: Data) -> Data:
+        """A window begins, or begins again."""
         place = self.place(who)
-        if verb == "hello":
-            known = place.windows.begin(window)
-        else:
-            known = place.windows.known(window)
-        found: Data = await place.answer(known, verb, data)
-        if verb == "hello":
-            found.update(day=self.day.name, closes=self.closes, now=time.time())
-        if verb == "hello" and who != READER:
+        is_again = window in place.windows.by_name
+        begun: Window = place.windows.begin(window)
+        begun.holder = str(data.get("login") or "")
+        found: Data = await place.answer(begun, "hello", data)
+        found.update(day=self.day.name, closes=self.closes, now=time.time(), again=is_again)
+        if who != READER:
             # the others are told at the next look
             found.update(people=self.who_sits())
+        return found
+
+    async def answer(self, who: str, window: str, verb: str, data: Data, number: str) -> Data:
+        """What a window asks; with the number of an act it is done once."""
+        place = self.place(who)
+        known: Window = place.windows.known(window)
+
+        async def act() -> Data:
+            found: Data = await place.answer(known, verb, data)
+            return found
+
+        found = await known.once(number, act)
         if found.pop("committed", False):
-            await self.look()
+            # who has committed hears it first
+            self.woken.set()
         return found
 
     def listen(self, who: str, window: str) -> Window:
@@ -93,8 +114,10 @@ class Office:
             await self.look()
             with self.faults.kept("the closing"):
                 self.tell_closing()
+            await asyncio.sleep(LEAST)
             with contextlib.suppress(asyncio.TimeoutError):
-                await asyncio.wait_for(stop.wait(), TICK)
+                await asyncio.wait_for(self.woken.wait(), TICK - LEAST)
+            self.woken.clear()
         await self.end()
 
     async def end(self) -> None:
@@ -119,25 +142,41 @@ class Office:
             return not self.day.is_open() or (at is not None and time.time() > at)
         return False
 
+    def see(self) -> Any:
+        """How the day is now: as long as this is the same, no seat has news but by its own acts. It
+        is read in a thread of its own, so that nobody waits for the disk."""
+        while not self.part.is_last():
+            self.part = self.part.next()
+        self.shared.everybody.read_on()
+        day = self.day
+        files = self.part.minutes, notes_path(day), pins_path(day), day.failing, day.office
+        # works are replaced where one of them changes
+        facts = self.part.number, day.is_open(), day.is_changing(), self.shared.everybody.works
+        return *map(stamp_of, files), *facts
+
     async def look(self) -> None:
-        """Looks for news at each place at which somebody is. What fails at one is that one's."""
+        """Looks for news at each place at which somebody is, first where somebody has asked last.
+        What fails at one is that one's."""
+        stamp, loop = None, asyncio.get_running_loop()
+        with self.faults.kept("the day"):
+            stamp = await loop.run_in_executor(None, self.see)
         if self.day.is_changing():
             # the desk ends as soon as all seats have left it
-            await asyncio.gather(*(self.look_at(sitter) for sitter in self.sitters))
-        for place in self.places():
-            await self.look_at(place)
-        people = self.who_sits()
+            await asyncio.gather(*(self.look_at(sitter, stamp) for sitter in self.sitters))
+        for place in sorted(self.places(), key=asked_at, reverse=True):
+            await self.look_at(place, stamp)
+        people = await loop.run_in_executor(None, self.who_sits)
         if people != self.people:
             self.people = people
             for sitter in self.sitters:
                 sitter.tell({"people": people})
 
-    async def look_at(self, place: Any) -> None:
+    async def look_at(self, place: Any, stamp: Any) -> None:
         with self.faults.kept(place.called):
-            await place.look()
+            await place.look(stamp)
 
-    def who_sits(self) -> list[Data]:
-        found = []
+    def who_sits(self) -> list[PersonData]:
+        found: list[Optional[PersonData]] = []
         for sitter in self.sitters:
             with self.faults.kept(f"who sits at {sitter.called}"):
                 found.append(sitter.person())
@@ -154,6 +193,7 @@ class Office:
         """Takes up names and times that have changed."""
         if self.labels.read_on():
             self.frame.wording.labels = self.labels.labels
+            self.frame.news.clear()
             for place in self.places():
                 await place.rename()
 
@@ -174,6 +214,19 @@ class Office:
             if old[name] != key:
                 self.place(name).tell({"gone": True})
                 self.place(name).windows.end_all()
+
+
+def asked_at(place: Any) -> float:
+    return float(place.windows.asked_at)
+
+
+def stamp_of(path: str) -> Optional[tuple[int, int]]:
+    """Is another one when a file has been written to."""
+    try:
+        found = os.stat(path)
+    except OSError:
+        return None
+    return found.st_size, found.st_mtime_ns
 
 
 def hosts_of(url: Optional[str]) -> set[str]:
@@ -225,8 +278,8 @@ def say_links(day: Day, served: Served, base: str, path: str) -> None:
 async def run(day: Day, served: Served, held: int) -> int:
     office = Office(day, guard_of(day, served), allow_files())
     path = served.socket or day.file("web.socket")
-    end = listen_at(served, path)
-    base = base_of(served, end)
+    at = listen_at(served, path)
+    base = base_of(served, at)
     os.pwrite(held, f"{base}\n".encode(), 0)
     server = Listener(
         application(office),
@@ -236,10 +289,15 @@ async def run(day: Day, served: Served, held: int) -> int:
         idle_connection_timeout=COMES,
     )
     server.connections = office.connections
-    server.listen_at(end)
+    server.listen_at(at)
     stop = asyncio.Event()
+
+    def end() -> None:
+        stop.set()
+        office.woken.set()
+
     for sign in (signal.SIGINT, signal.SIGTERM):
-        asyncio.get_running_loop().add_signal_handler(sign, stop.set)
+        asyncio.get_running_loop().add_signal_handler(sign, end)
     try:
         say_links(day, served, base, path)
         await office.watch(stop)

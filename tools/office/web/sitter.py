@@ -11,22 +11,23 @@ from typing import Any, Callable, Optional
 from office.day.costs import COSTS, MEANINGS
 from office.day.edits import Edit, Kind
 from office.day.folder import Day
-from office.seat.seat import DeskEnded, NoAnswer, Seat, is_taken, read_sitter
+from office.seat.seat import DeskEnded, NoAnswer, Seat, read_sitter
 from office.web.action_names import key_table
 from office.web.frame import Frame
 from office.web.guard import Fault
-from office.web.message_types import NoticeData, PictureData
-from office.web.messages import notice_data, question_data
-from office.web.news_sent import NewsSent, last_news
+from office.web.message_types import NoticeData, PersonData, PictureData
+from office.web.messages import FAREWELL, notice_data, question_data
+from office.web.news_sent import NewsSent, Redrawn, last_news
+from office.web.person import Person
 from office.web.picture import Picture
 from office.web.questions import WHY, Shown
 from office.web.seat_faults import LOST, fault_of
 from office.web.verbs import CHANGES, VERBS, Request, WindowTurn, hold_again
 from office.web.windows import Window, Windows
-from office.words.notice import NOTHING, Question, say
+from office.words.notice import NOTHING, Question
 from office.work.part_stepping import waiting_notice
 from office.work.planning import Planning
-from office.work.week_printing import page_of
+from office.work.shared_reading import SharedReading
 from office.work.work import Work
 
 # so many requests of a seat may wait for their turn; a seat without a window is left after so many
@@ -34,18 +35,14 @@ from office.work.work import Work
 WAIT, IDLE, NAME = 16, 30.0, 40
 # what changes nothing
 LOOKS = ("show", "next_week", "about", "offers", "print", "close")
-FAREWELL = (
-    "The office has closed: what you have committed is on the disk, and open edits are offered "
-    "again on the next day."
-)
 Data = dict[str, Any]
 
 
 class Sitter:
     """Somebody who sits at a seat by browsers."""
 
-    def __init__(self, day: Day, planner: int, frame: Frame) -> None:
-        self.day, self.planner, self.frame = day, planner, frame
+    def __init__(self, day: Day, planner: int, frame: Frame, shared: SharedReading) -> None:
+        self.day, self.planner, self.frame, self.shared = day, planner, frame, shared
         self.windows, self.called = Windows(), f"seat {planner}"
         self.planning: Optional[Planning] = None
         self.name = ""
@@ -53,6 +50,9 @@ class Sitter:
         self.first: Optional[Question] = None
         # by how much each edit of the draft has changed the cost when it was made
         self.prices: dict[Edit, int] = {}
+        # how the day was when this seat looked for news last
+        self._looked: Any = None
+        self._person = Person(day, planner, frame)
         self._waiting = 0
         # whether the windows were told that the desk does not answer
         self._is_slow = False
@@ -126,6 +126,8 @@ class Sitter:
             self._sit(name)
         shown = self._shown(window)
         planning = shown.planning
+        # what was accepted just now is told, too
+        planning.tick()
         # a page that comes back may be one of another day
         with contextlib.suppress(Fault):
             shown.work.show(request.view())
@@ -141,7 +143,7 @@ class Sitter:
             "meanings": MEANINGS,
             "farewell": FAREWELL,
             **self.frame.data(),
-            "news": last_news(planning, self.frame.wording),
+            "news": last_news(planning, self.frame),
             "picture": self._picture(shown),
             "question": question_data(self.frame.wording, shown),
             "notice": self._notice(),
@@ -150,11 +152,12 @@ class Sitter:
     def _sit(self, name: str) -> None:
         seat = Seat(self.day, self.planner, name)
         try:
-            planning = Planning(seat, self.frame.instance)
+            planning = Planning(seat, self.frame.instance, self.shared)
             seat.waits = partial(self._tell_waiting, seat)
             self.begun = Work(planning)
             self.first = self.begun.begin()
-            self.news_sent = NewsSent(planning, self.frame.wording)
+            self.news_sent = NewsSent(planning, self.frame)
+            self.redrawn = Redrawn(planning)
         except BaseException:
             seat.go()
             raise
@@ -193,7 +196,7 @@ class Sitter:
         if verb == "offers":
             return picture.offers_data(request.slot("at"))
         if verb == "print":
-            return self._print(shown)
+            return dict(picture.page())
         accepted, cost = len(planning.seat.state.accepted), sum(planning.costs().values())
         planning.notice = planning.alarm = NOTHING
         self._act(shown, verb, request)
@@ -233,12 +236,6 @@ class Sitter:
             if shown.question in (None, question):
                 event["question"] = question_data(self.frame.wording, shown)
             self.loop.call_soon_threadsafe(window.tell, event)
-
-    def _print(self, shown: Shown) -> Data:
-        """The week that is seen as a page that needs nothing else."""
-        page = page_of(shown.planning, shown.work.view)
-        notice = notice_data(self.frame.wording, say("page made", path=page.name))
-        return {"page": page._asdict(), "notice": notice}
 
     def _act(self, shown: Shown, verb: str, request: Request) -> None:
         """Does what is asked, and keeps what is to be asked then."""
@@ -286,8 +283,9 @@ class Sitter:
 
     # news
 
-    async def look(self) -> None:
-        """Looks for drafts that were accepted since, if somebody sits here."""
+    async def look(self, stamp: Any) -> None:
+        """Looks for drafts that were accepted since, if somebody sits here, and the day is not as
+        it was at the last look."""
         if self._waiting:
             return
         self.windows.drop_silent()
@@ -295,7 +293,8 @@ class Sitter:
             return
         if self.windows.idle_for() > IDLE:
             await self.leave()
-        else:
+        elif stamp is None or stamp != self._looked or self.planning.seat.has_more():
+            self._looked = stamp
             with contextlib.suppress(Fault):
                 found = await self.do(self._look)
                 for window, event in found["others"]:
@@ -310,9 +309,19 @@ class Sitter:
         if planning.seat.has_more():
             # nothing was asked: the desk has ended
             planning.seat.read(0)
-        is_new = planning.tick()
+        planning.tick()
         news = self.news_sent.read_on()
-        return {"news": news, "others": self._pictures() if news or is_new else []}
+        self.redrawn.read_on()
+        found = [(one, self._news_for(self._shown(one), bool(news))) for one in self._others()]
+        return {"news": news, "others": [(one, event) for one, event in found if event]}
+
+    def _news_for(self, shown: Shown, is_new: bool) -> Data:
+        """What a window draws anew: the week only where it may be another one by now."""
+        if shown.work.carry is not None or self.redrawn.has(shown.work.view):
+            return {"picture": self._picture(shown)}
+        if not is_new:
+            return {}
+        return {"state": Picture(self.frame, shown.work, self.prices).state()}
 
     async def rename(self) -> None:
         """Tells the windows what things are called now."""
@@ -325,7 +334,7 @@ class Sitter:
     def _renamed(self) -> Data:
         if self.planning is None:
             return {"others": []}
-        accepted = last_news(self.planning, self.frame.wording)
+        accepted = last_news(self.planning, self.frame)
         names = {"names": self.frame.data(), "accepted": accepted}
         return {"others": [(window, {**event, **names}) for window, event in self._pictures()]}
 
@@ -333,17 +342,9 @@ class Sitter:
         for window in self.windows.all():
             window.tell(event)
 
-    def person(self) -> Optional[Data]:
-        """Who sits at the seat now, here or at a terminal."""
-        name, since = read_sitter(self.day, self.planner)
-        if self.planning is None and not is_taken(self.day, self.planner):
-            return None
-        who = self.frame.wording.safe(name) or f"planner {self.planner}"
-        return {
-            "seat": self.planner,
-            "who": who,
-            "title": f"seat {self.planner}: {who}, since {since[11:16]}",
-        }
+    def person(self) -> Optional[PersonData]:
+        """Who sits at the seat now."""
+        return self._person.data(self.planning)
 
     async def leave(self) -> None:
         await asyncio.get_running_loop().run_in_executor(self._thread, self._go)

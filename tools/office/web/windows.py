@@ -3,14 +3,17 @@ from __future__ import annotations
 
 import asyncio
 import time
-from collections import deque
-from typing import Any, Deque, Optional
+from collections import Counter, deque
+from typing import Any, Awaitable, Callable, Deque, Optional, Union
 
 from office.web.guard import Fault
+from office.web.lines import STILL, Line
 
 # events that may wait for a window, windows of one seat, and the seconds after which one that
 # neither listens nor asks is forgotten
 WAIT, MOST, SILENT = 32, 4, 90.0
+# acts of a window of which the answers are kept
+ACTS = 2
 Data = dict[str, Any]
 
 
@@ -23,28 +26,46 @@ class Window:
         self.shown: Any = None
         self.is_listening = self.is_ending = False
         self.asked_at = time.monotonic()
-        self._events: Deque[Data] = deque()
+        # the login of whose window it is, if there is one
+        self.holder = ""
+        self._answers: dict[str, asyncio.Future[Data]] = {}
+        self._lines: Deque[Line] = deque()
         self._woken = asyncio.Event()
 
-    def tell(self, event: Data) -> None:
+    def take_over(self, old: Window) -> None:
+        """Takes up what the same window of a browser had before it began anew."""
+        self.shown, self._answers, self.holder = old.shown, old._answers, old.holder
+
+    async def once(self, number: str, act: Callable[[], Awaitable[Data]]) -> Data:
+        """Does what is asked under a number. If that is asked again, since its answer was not
+        heard, the same is answered, and nothing done."""
+        if not number:
+            return await act()
+        if number not in self._answers:
+            self._answers[number] = asyncio.ensure_future(act())
+            for old in [*self._answers][:-ACTS]:
+                del self._answers[old]
+        return await asyncio.shield(self._answers[number])
+
+    def tell(self, event: Union[Data, Line]) -> None:
         """Tells the window something; one that does not take it begins anew."""
-        if len(self._events) < WAIT:
-            self._events.append(event)
+        if len(self._lines) < WAIT:
+            self._lines.append(event if isinstance(event, Line) else Line(event))
             self._woken.set()
         else:
             self.end()
 
-    async def next_event(self, seconds: float) -> Optional[Data]:
-        """The next event; nothing after so many seconds; None if the window has gone."""
-        if not self._events and not self.is_ending:
+    async def next_line(self, seconds: float) -> Optional[Line]:
+        """The next line; a sign of life after so many seconds; None if the window has gone."""
+        if not self._lines and not self.is_ending:
             try:
                 await asyncio.wait_for(self._woken.wait(), seconds)
             except asyncio.TimeoutError:
-                return {}
+                return STILL
         self._woken.clear()
-        if self._events:
-            return self._events.popleft()
-        return None if self.is_ending or not self.is_listening else {}
+        if self._lines:
+            return self._lines.popleft()
+        return None if self.is_ending or not self.is_listening else STILL
 
     def end_soon(self) -> None:
         """The window is let go when it was sent what there is to be sent."""
@@ -55,7 +76,7 @@ class Window:
     def end(self) -> None:
         """The window has gone, or listens no more."""
         self.is_listening = False
-        self._events.clear()
+        self._lines.clear()
         self._woken.set()
         self.windows.forget(self)
 
@@ -67,22 +88,34 @@ class Windows:
         # whether one that listens is let go for a new one; its page comes back by itself
         self.most, self.makes_room = most, makes_room
         self.by_name: dict[str, Window] = {}
+        # when one of them was begun, or has asked, last
+        self.asked_at = 0.0
         self.gone_since = time.monotonic()
 
     def begin(self, name: str) -> Window:
-        """A window that begins."""
+        """A window that begins. If it listens, that was broken off: what it is told from now on is
+        for the next listening."""
+        old = self.by_name.get(name)
+        if old is not None and old.is_listening:
+            old.end()
         if name not in self.by_name:
             if len(self.by_name) >= self.most:
                 self._make_room()
             self.by_name[name] = Window(self, name)
+            if old is not None:
+                self.by_name[name].take_over(old)
+        self.asked_at = time.monotonic()
         return self.by_name[name]
 
     def _make_room(self) -> None:
         """Forgets the oldest of those that do not listen, as a page that was loaded anew before it
-        did."""
+        did; else, if that makes room, the oldest of who holds most."""
         silent = [window for window in self.all() if not window.is_listening]
         if not silent and self.makes_room:
-            min(self.all(), key=lambda window: window.asked_at).end_soon()
+            held = Counter(window.holder for window in self.all())
+            most = max(held.values())
+            theirs = [one for one in self.all() if held[one.holder] == most]
+            min(theirs, key=lambda window: window.asked_at).end_soon()
             return
         if not silent:
             raise Fault(429, f"{self.most} windows of this link are open: close one of them")
@@ -93,16 +126,14 @@ class Windows:
         if name not in self.by_name:
             raise Fault(410, "this window is not known here: it begins anew")
         window = self.by_name[name]
-        window.asked_at = time.monotonic()
+        window.asked_at = self.asked_at = time.monotonic()
         return window
 
     def listen(self, name: str) -> Window:
         """A window listens; if it did before, that was broken off."""
         window = self.known(name)
         if window.is_listening:
-            window.end()
-            new = self.begin(name)
-            window, new.shown = new, window.shown
+            window = self.begin(name)
         window.is_listening = True
         return window
 

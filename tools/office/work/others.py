@@ -10,7 +10,7 @@ from office.seat.courtesies import SeatStatus, who_sits
 from office.words.closure_notices import blocked_here_notice
 from office.words.notice import NOTHING, Notice, Question, say
 from office.work.planning import Planning
-from office.work.week import Cell, View, is_of
+from office.work.week import Cell, View, those_of
 
 Act = Callable[[], Optional[Question]]
 
@@ -66,7 +66,7 @@ class Knowing:
         return [
             work.name
             for work in self.courtesies.works()
-            if any(is_of(self.planning.instance, view, one) for one in work.lectures)
+            if those_of(self.planning.instance, view, work.lectures)
         ]
 
     def notices_of(self, cell: Cell) -> list[Notice]:

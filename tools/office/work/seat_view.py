@@ -25,6 +25,7 @@ from office.words.notice import NOTHING, Notice, say
 from office.work.looks_on_disk import look_on_disk
 from office.work.news import Accepted, News
 from office.work.part_reading import read_parts
+from office.work.shared_reading import SharedReading
 
 # how many seconds are waited before a draft is read, and read again if it is not as expected
 WAITS = (0.0, 0.05, 0.2, 0.5)
@@ -35,13 +36,18 @@ FEW = 8
 
 class Reading:
     """What a planner knows. `notice` is what the last step has to say. Several seats in one process
-    may share an instance."""
+    may share an instance, and what they read of the day."""
 
-    def __init__(self, seat: Seat, instance: Optional[Instance] = None) -> None:
+    def __init__(
+        self,
+        seat: Seat,
+        instance: Optional[Instance] = None,
+        shared: Optional[SharedReading] = None,
+    ) -> None:
         self.seat = seat
         # with the rules of the part of the day that is read
         self.instance = copy.copy(instance or instance_of(seat.day))
-        self.minutes = DayMinutes(seat.day)
+        self.minutes = shared.day_minutes() if shared else DayMinutes(seat.day)
         self.known = Timetables(self.instance, self.minutes.part.lectures())
         self.state = seat.state
         self.state.timetables = self.known
@@ -49,8 +55,8 @@ class Reading:
         # of how many of these the planner was told
         self.changes: list[RuleChange] = []
         self.shown_changes = 0
-        self.news = News(seat.day)
-        self.courtesies = Courtesies(seat)
+        self.news = News(seat.day, shared.commits if shared else None)
+        self.courtesies = Courtesies(seat, shared.everybody if shared else None)
         self.notice: Notice = NOTHING
         # said beside the notice, where the desk has answered otherwise than expected
         self.alarm: Notice = NOTHING
@@ -242,8 +248,9 @@ class Reading:
     def read_all(self, look: str) -> Timetable:
         """Reads a whole timetable, slot by slot, by `peek` or by `show`."""
         found: list[Lecture] = []
-        for day, period in self.instance.slots():
-            found += lectures_in(self.ask_again(f"{look} slot {day} {period}"))
+        lines = [f"{look} slot {day} {period}" for day, period in self.instance.slots()]
+        for line, answer in zip(lines, self.seat.ask_all(lines)):
+            found += lectures_in(self.ask_again(line) if answer in WANTING else answer)
         return Timetable(self.instance, found)
 
     def read_newest(self) -> None:

@@ -64,11 +64,11 @@ def all_views(instance: Instance) -> list[View]:
 
 def courses_of_view(instance: Instance, view: View) -> list[str]:
     """The courses whose week it is; none of a room."""
-    return {
-        "curriculum": instance.curricula.get(view.name, []),
-        "teacher": instance.teachers.get(view.name, []),
-        "course": [view.name],
-    }.get(view.kind, [])
+    if view.kind == "course":
+        return [view.name]
+    if view.kind == "curriculum":
+        return instance.curricula.get(view.name, [])
+    return instance.teachers.get(view.name, []) if view.kind == "teacher" else []
 
 
 def weeks_of(instance: Instance, lecture: Lecture) -> list[View]:
@@ -82,11 +82,25 @@ def weeks_of(instance: Instance, lecture: Lecture) -> list[View]:
     ]
 
 
-def is_of(instance: Instance, view: View, lecture: Lecture) -> bool:
-    """Whether a lecture stands in a week."""
+def those_of(instance: Instance, view: View, lectures: Iterable[Lecture]) -> list[Lecture]:
+    """Those of several lectures that stand in a week."""
     if view.kind == "room":
-        return lecture.room == view.name
-    return lecture.course in courses_of_view(instance, view)
+        return [one for one in lectures if one.room == view.name]
+    courses = frozenset(courses_of_view(instance, view))
+    return [one for one in lectures if one.course in courses]
+
+
+def is_touched(planning: Planning, view: View, changed: Iterable[Lecture]) -> bool:
+    """Whether changed lectures may be seen in a week: they stand in it, or one of its lectures
+    stands alone, or no more, by them."""
+    instance, changed = planning.instance, list(changed)
+    if those_of(instance, view, changed):
+        return True
+    shown = courses_of_view(instance, view)
+    if view.kind == "room":
+        shown = [one.course for one in planning.known.present().of_room(view.name)]
+    mates = {mate for course in shown for mate in instance.mates[course]}
+    return any(one.course in mates for one in changed)
 
 
 def of_view(timetable: Timetable, view: View) -> list[Lecture]:
@@ -149,7 +163,7 @@ def cells_of(planning: Planning, view: View) -> dict[Slot, Cell]:
         pins = [planning.courtesies.pin_of(one) for one in cell.lectures]
         cell.pins = [pin for pin in pins if pin is not None]
     for work in planning.courtesies.works():
-        for slot in {lecture.slot for lecture in work.lectures if is_of(instance, view, lecture)}:
+        for slot in {one.slot for one in those_of(instance, view, work.lectures)}:
             if slot in cells:
                 cells[slot].at_work.append(work)
     return cells

@@ -43,8 +43,8 @@ function homeParts(held, offer) {
   return [
     el("div", { cls: "price same" }, isSwap ? "from here" : "stays"),
     el("div", { cls: "in" }, name(held.room_said)),
-    count ? more(isSwap ? "swaps of rooms" : "other rooms", ...label) : null,
-  ].filter(Boolean);
+    ...(count ? [more(isSwap ? "swaps of rooms" : "other rooms", ...label)] : []),
+  ];
 }
 
 /**
@@ -63,7 +63,7 @@ export function heldParts(cell, one, held, offer, view) {
   }
   if (!offer.offers.length) {
     cell.classList.add("cannot");
-    const why = el("div", { cls: "why", title: offer.why }, name(offer.shortly));
+    const why = el("div", { cls: "why", title: offer.why }, name(offer.shortly ?? ""));
     return [...here(one, view), why];
   }
   const [price, , said] = offer.offers[0];
@@ -100,7 +100,7 @@ export function heldSaid(held, offer, place = null) {
 export function heldShort(held, offer) {
   if (!held || !offer) return ["", "…"];
   if (same(offer.at, held.at)) return ["same", "stays"];
-  if (!offer.offers.length) return ["no", offer.shortly];
+  if (!offer.offers.length) return ["no", offer.shortly ?? ""];
   const [price, , said] = offer.offers[0];
   return [kindOf(price), `${signed(price)} ${said}`];
 }

@@ -1,5 +1,6 @@
 // @ts-check
 // What is said to the office, and what it says by itself.
+import { hasHeard, silence, watch } from "./silence.js";
 
 const KEY = "seat-key";
 const windowName = [...crypto.getRandomValues(new Uint8Array(12))]
@@ -7,17 +8,23 @@ const windowName = [...crypto.getRandomValues(new Uint8Array(12))]
   .join("");
 let key = "";
 
+const linkKey = () => (location.hash.length > 20 ? location.hash.slice(1) : "");
+
 // The key comes behind the # of the link, is kept for this tab, and leaves the address line.
 export function takeKey() {
-  const found = location.hash.slice(1);
-  if (found.length > 20) {
-    sessionStorage.setItem(KEY, found);
+  if (linkKey()) {
+    sessionStorage.setItem(KEY, linkKey());
     history.replaceState(null, "", location.pathname);
   }
   key = sessionStorage.getItem(KEY) || "";
 }
 
-// Status 0 is an office that does not answer, 1 a login that has ended.
+// another link that is opened in this tab is followed
+addEventListener("hashchange", () => linkKey() && location.reload());
+
+// A status of the office, or one of these: it does not answer, a login has ended.
+const [AWAY, LOGGED_OUT] = [0, 1];
+
 export class Fault extends Error {
   constructor(/** @type {number} */ status, /** @type {string} */ text) {
     super(text);
@@ -25,11 +32,16 @@ export class Fault extends Error {
   }
 }
 
-const SILENT =
-  "The office does not answer just now. Your draft stays where it is; this page tries again.";
+const PERHAPS =
+  "The office was away before it had answered: look whether your last step was done.";
 const LOGIN =
   "The login of your house has ended: load this page anew to log in. Your draft stays where it is.";
 const fields = () => ({ "X-Seat-Key": key, "X-Window": windowName });
+// so long an answer is waited for at most: longer than the office waits for its desk
+const LIMIT = 40000;
+// the requests that are under way
+/** @type {Set<AbortController>} */
+const open = new Set();
 
 /** @type {(path: string, more: RequestInit) => Promise<Response>} */
 async function request(path, more) {
@@ -41,13 +53,14 @@ async function request(path, more) {
       ...more,
     });
   } catch {
-    throw new Fault(0, SILENT);
+    throw new Fault(AWAY, silence());
   }
   const kind = response.headers.get("content-type") || "";
   const isOurs = kind.startsWith("application/json") || kind.startsWith("application/x-ndjson");
   // a proxy that sends one to its login, or shows it, is none of the office
-  if (response.type === "opaqueredirect") throw new Fault(1, LOGIN);
-  if (!isOurs) throw response.status < 500 ? new Fault(1, LOGIN) : new Fault(0, SILENT);
+  if (response.type === "opaqueredirect") throw new Fault(LOGGED_OUT, LOGIN);
+  if (!isOurs && response.status < 500) throw new Fault(LOGGED_OUT, LOGIN);
+  if (!isOurs) throw new Fault(AWAY, silence());
   if (!response.ok) {
     const told = await response.json().catch(() => ({}));
     throw new Fault(response.status, told.fault || `The office answers with ${response.status}.`);
@@ -55,22 +68,37 @@ async function request(path, more) {
   return response;
 }
 
-/** @type {(verb: string, told?: object) => Promise<any>} */
-export async function ask(verb, told = {}) {
-  const response = await request(verb, {
-    method: "POST",
-    headers: { ...fields(), "Content-Type": "application/json" },
-    body: JSON.stringify(told),
-  });
-  return response.json().catch(() => {
-    throw new Fault(0, SILENT);
-  });
+/** @type {(verb: string, told?: object, more?: object) => Promise<any>} */
+export async function ask(verb, told = {}, more = {}) {
+  const one = new AbortController();
+  const late = setTimeout(() => one.abort(), LIMIT);
+  open.add(one);
+  try {
+    const response = await request(verb, {
+      method: "POST",
+      headers: { ...fields(), ...more, "Content-Type": "application/json" },
+      body: JSON.stringify(told),
+      signal: one.signal,
+    });
+    const found = await response.json().catch(() => {
+      throw new Fault(AWAY, silence());
+    });
+    if (found.again === false) strangers += 1;
+    return found;
+  } finally {
+    clearTimeout(late);
+    open.delete(one);
+  }
 }
 
-// whether the office knows this window, how often it has begun there, whether it does so no more
+// whether the office knows this window, how often it has begun there, how often at an office that
+// did not know it, whether it does so no more
 let isKnown = false;
 let times = 0;
+let strangers = 0;
 let isEnded = false;
+// the number of the last act
+let acts = 0;
 // who waits for the next beginning, what makes it begin at once, what ends the news that are read
 /** @type {{ good: () => void, bad: (fault: Fault) => void }[]} */
 const waiting = [];
@@ -94,29 +122,41 @@ function beginning() {
 // those who wait for a beginning have it, or hear why there is none
 /** @param {Fault} [fault] */
 function settle(fault) {
+  // an office that is away comes back
+  if (fault?.status === AWAY && !isEnded) return;
   for (const { good, bad } of waiting.splice(0)) fault ? bad(fault) : good();
 }
 
+// ends what is under way with an office of which nothing is heard
+function hangUp() {
+  away.abort();
+  for (const one of open) one.abort();
+}
+
 // What a planner does is asked of an office that knows this window. So it waits for a beginning,
-// and is asked again after one if it was not done, since the window was not known.
+// and is asked again after one if no answer has come. By its number it is done once all the same;
+// an office that has begun anew meanwhile does not know whether it was.
 /** @type {(verb: string, told?: object) => Promise<any>} */
 export async function act(verb, told = {}) {
+  acts += 1;
+  const number = String(acts);
   if (!isKnown && !isEnded) await beginning();
-  const asked = times;
-  try {
-    const found = await ask(verb, told);
-    if (asked === times) return found;
-    // what is drawn and asked by now is that of another beginning
-    return { ...found, picture: undefined, question: undefined };
-  } catch (fault) {
-    if (fault.status !== UNKNOWN || isEnded) throw fault;
+  for (;;) {
+    const [asked, known] = [times, strangers];
+    try {
+      const found = await ask(verb, told, { "X-Act": number });
+      if (asked === times) return found;
+      // what is drawn and asked by now is that of another beginning
+      return { ...found, picture: undefined, question: undefined };
+    } catch (fault) {
+      const isLost = fault.status === AWAY;
+      if ((fault.status !== UNKNOWN && !isLost) || isEnded) throw fault;
+      const old = away;
+      if (asked === times) setTimeout(() => old.abort(), isLost ? 0 : ENDS);
+      if (asked === times) await beginning();
+      if (isLost && known !== strangers) throw new Fault(AWAY, PERHAPS);
+    }
   }
-  if (asked === times) {
-    const old = away;
-    setTimeout(() => old.abort(), ENDS);
-    await beginning();
-  }
-  return ask(verb, told);
 }
 
 // Lines of JSON by fetch, which can send the key in a header.
@@ -124,11 +164,13 @@ export async function act(verb, told = {}) {
 async function readNews(hear) {
   away = new AbortController();
   const response = await request("news", { headers: fields(), signal: away.signal });
+  hasHeard();
   const reader = response.body.pipeThrough(new TextDecoderStream()).getReader();
   let text = "";
   for (;;) {
     const { value, done } = await reader.read();
     if (done) return null;
+    hasHeard();
     const lines = (text + value).split("\n");
     text = lines.pop();
     for (const line of lines.filter(Boolean)) hear(JSON.parse(line));
@@ -155,7 +197,9 @@ function pause(time) {
 /** @type {(thrown: any) => Fault} */
 function faultOf(thrown) {
   if (thrown instanceof Fault) return thrown;
-  if (thrown instanceof TypeError || thrown.name === "AbortError") return new Fault(0, SILENT);
+  if (thrown instanceof TypeError || thrown.name === "AbortError") {
+    return new Fault(AWAY, silence());
+  }
   throw thrown;
 }
 
@@ -165,10 +209,12 @@ function faultOf(thrown) {
  *   begin: () => Promise<void>,
  *   hear: (event: any) => void,
  *   lost: (fault: Fault) => void,
+ *   silent: (text: string) => void,
  *   isOver: () => boolean,
  * }} page
  */
-export async function keepListening({ begin, hear, lost, isOver }) {
+export async function keepListening({ begin, hear, lost, silent, isOver }) {
+  watch({ isListening: () => isKnown, silent, hangUp });
   let [wait, late] = [SOON, 0];
   for (;;) {
     let fault = await begin().then(() => null, faultOf);
@@ -183,12 +229,12 @@ export async function keepListening({ begin, hear, lost, isOver }) {
       isKnown = false;
       // an office that was away for a moment is not worth a word
       if (fault?.status) lost(fault);
-      else late = setTimeout(() => isOver() || lost(new Fault(0, SILENT)), LATE);
+      else late = setTimeout(() => isOver() || lost(new Fault(AWAY, silence())), LATE);
     }
     if (isOver() || fault?.status === NO_KEY) break;
     await pause(wait);
     wait = Math.min(wait * 2, 8000);
   }
   isEnded = true;
-  settle(new Fault(0, SILENT));
+  settle(new Fault(AWAY, silence()));
 }

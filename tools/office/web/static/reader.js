@@ -6,7 +6,6 @@ import { makeSearch } from "./search.js";
 import { Week } from "./week.js";
 
 const VIEW = "read-view";
-const LOST = "The office does not answer just now; this page tries again.";
 const app = { isBuilt: false, isOver: false };
 /** @type {Week} */
 let week;
@@ -84,9 +83,14 @@ function hear(event) {
 
 /** @type {(fault: import("./link.js").Fault) => null} */
 function lost(fault) {
-  banner(fault.status ? fault.message : LOST);
+  banner(fault.message);
   return null;
 }
 
+/** @type {(text: string) => void} */
+function silent(text) {
+  if (!app.isOver) banner(text);
+}
+
 takeKey();
-keepListening({ begin, hear, lost, isOver: () => app.isOver });
+keepListening({ begin, hear, lost, silent, isOver: () => app.isOver });

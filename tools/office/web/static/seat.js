@@ -3,8 +3,9 @@
 import { makeActs } from "./acting.js";
 import { drawBar } from "./bar.js";
 import * as boxes from "./boxes.js";
+import { hasClosed, LEFT, makeBanner } from "./closing.js";
 import { drawCosts } from "./costs.js";
-import { announce, banner, button, el, fill, find, name } from "./dom.js";
+import { announce, el, fill, find, name } from "./dom.js";
 import { makeHand } from "./hand.js";
 import { listenToKeys } from "./keys.js";
 import { act, ask, Fault, keepListening, takeKey } from "./link.js";
@@ -35,9 +36,10 @@ const app = {
   isOver: false,
   lost: "",
   fault: "",
+  old: "",
   waits: "",
 };
-const LEFT = "You have left the seat.";
+const drawBanner = makeBanner(app);
 /** @type {Week} */ let week;
 /** @type {Acting} */ let acts;
 /** @type {Look} */ let look;
@@ -64,31 +66,11 @@ function drawState() {
   drawBanner();
 }
 
-// whether the office has closed at the time that it had told
-const toClose = () => app.closes - (Date.now() / 1000 - app.ahead);
-const hasClosed = () => app.closes !== null && toClose() < 0;
-
-// a desk that has died is told before the farewell; one that ends in its time has closed
-function drawBanner() {
-  const why = (hasClosed() ? "" : app.fault) || (app.isOver ? "" : app.lost);
-  const text = why || app.waits || closing() || app.picture?.state.alarm || "";
-  banner(text, text === LEFT ? sitAgain() : null);
-}
-
-const sitAgain = () => button("sit", "Sit down again", () => location.reload());
-
 function leave() {
   app.isOver = true;
   app.day.farewell = LEFT;
   boxes.close();
   drawBanner();
-}
-
-function closing() {
-  if (app.isOver) return app.day.farewell;
-  if (!app.closes) return "";
-  const seconds = Math.max(0, Math.round(toClose()));
-  return `The office closes in ${seconds} s: commit now, or your edits are offered again.`;
 }
 
 // takes up what the office tells; what is older than what is seen is left
@@ -111,6 +93,14 @@ function take(found) {
     else boxes.closeAsked();
   }
   if (found.notice) toastNotice(found.notice, acts);
+}
+
+/** @type {(state: StateData) => void} */
+function takeState(state) {
+  if (!app.picture) return;
+  app.picture = { ...app.picture, state };
+  drawState();
+  boxes.previewStale(state.draft?.stale_preview || "");
 }
 
 // what is asked
@@ -140,6 +130,7 @@ function hear(event) {
   if (event.left) leave();
   if (event.news) event.news.forEach(tellNews);
   if (event.picture) take(event);
+  else if (event.state) takeState(event.state);
   if (event.news) drawNews(app, acts);
   drawBanner();
 }
@@ -178,11 +169,19 @@ function newsOf(one) {
 /** @type {(fault: Fault) => void} */
 function lost(fault) {
   // an office that has closed answers no more
-  if (hasClosed()) app.isOver = true;
+  if (hasClosed(app)) app.isOver = true;
   app.lost = app.fault || fault.message;
   document.body.classList.add("lost");
   drawBanner();
 }
+
+/** @type {(text: string) => void} */
+function silent(text) {
+  app.old = text;
+  drawBanner();
+}
+
+// the beginning, and each time that the office has been away
 
 function where() {
   const view = JSON.parse(sessionStorage.getItem(VIEW) || "null");
@@ -245,4 +244,4 @@ function build(found) {
 }
 
 takeKey();
-keepListening({ begin, hear, lost, isOver: () => app.isOver });
+keepListening({ begin, hear, lost, silent, isOver: () => app.isOver });
