@@ -229,7 +229,8 @@ class Load:
         rate, sent = len(self.times) / self.seconds, self.bytes / self.seconds / 1024
         print(
             f"{rate:.0f} requests a second, {sent:.0f} KiB of news a second; server {share:.0f} % "
-            f"of a processor, {memory(server):.0f} MiB; statuses {self.statuses}, commits {self.ends}",
+            f"of a processor, {memory(server):.0f} MiB; statuses {self.statuses}, "
+            f"commits {self.ends}",
             flush=True,
         )
 

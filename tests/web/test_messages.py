@@ -44,8 +44,8 @@ class Checked(unittest.TestCase):
 class Ear:
     """Reads the news of a window as they come."""
 
-    def __init__(self, address, headers):
-        self.events = []
+    def __init__(self, address, headers, events):
+        self.events = events
         self.connection = http.client.HTTPConnection(address, timeout=120)
         self.connection.request("GET", "/api/news", headers=dict(headers))
         self.answer = self.connection.getresponse()
@@ -84,9 +84,12 @@ class Drawn(WebTest):
         who, window = place
         found = self.say(place, "hello", {} if who == "reader" else {"name": f"who sits at {who}"})
         self.named = found["named"]
-        if place not in self.ears or not self.ears[place].thread.is_alive():
-            headers = self.asking(self.key(who), ("X-Window", window))
-            self.ears[place] = Ear(self.address(), headers)
+        old = self.ears.get(place)
+        if old is not None:
+            # a window that begins anew listens anew
+            old.end()
+        headers = self.asking(self.key(who), ("X-Window", window))
+        self.ears[place] = Ear(self.address(), headers, old.events if old else [])
 
     def drawn_lecture(self, draw, place):
         """A lecture of the week that a window shows."""

@@ -49,6 +49,22 @@ class Sent(WebTest):
         _, found = self.ask("hello", {"name": "anna"}, "seat 0", ("X-Window", "w2"))
         self.assertEqual(state, found["picture"]["state"])
 
+    def test_draft_is_not_asked_anew(self):
+        """What others commit changes nothing of an open draft: its cost is not asked again."""
+        self.ask("hello", {"name": "anna", "view": ["course", "c0001"]})
+        self.ask("line", {"line": "move c0109 4 1 r09 4 2"})
+        before = self.asked("peek cost")
+        with self.listening() as answer:
+            self.sit("day", 1, MOVE, "--name", "ben")
+            state = self.next_event(answer, "news")["state"]
+        self.assertEqual((len(state["draft"]["edits"]), state["draft"]["since"]), (1, 1))
+        self.assertEqual(self.asked("peek cost"), before)
+
+    def asked(self, line):
+        """How often the desk was asked a line at the first seat."""
+        with open(self.path("day/0.log")) as file:
+            return sum(one.endswith(f"> {line}\n") for one in file)
+
     def test_packed(self):
         """Who can unpack news is sent them packed, line by line; who reads is, too."""
         self.ask("hello", {"name": "anna", "view": ["course", "c0109"]})

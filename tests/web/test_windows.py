@@ -28,6 +28,26 @@ class Held(unittest.IsolatedAsyncioTestCase):
         self.assertEqual([one for one in first if windows.by_name.get(one.name) is not one], [])
         self.assertEqual(len(windows.all()), 20)
 
+    async def test_connection_that_ends(self):
+        """A window whose connection has ended is known for some time, with its acts; nobody is
+        there meanwhile."""
+        windows = Windows()
+        window = listening(windows, "w1", "")
+
+        async def act():
+            return {"number": 1}
+
+        await window.once("1", act)
+        window.lose()
+        self.assertIs(windows.begin("w1"), window)
+        windows.listen("w1").lose()
+        self.assertLess(windows.idle_for(), 5)
+        windows.gone_since -= 40
+        self.assertGreater(windows.idle_for(), 30)
+        window.asked_at -= 30
+        windows.drop_silent()
+        self.assertEqual(windows.all(), [])
+
     async def test_one_act_at_a_time(self):
         """An act that is asked again while it is under way is not begun again."""
         window, begun = Windows().begin("w1"), []

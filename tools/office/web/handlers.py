@@ -213,7 +213,7 @@ class NewsStream(Keyed):
         except asyncio.TimeoutError:
             stream_of(self.request).close()
         finally:
-            listened.end()
+            listened.lose()
 
     async def tell(self, line: Line) -> None:
         self.write(self.stream.bytes_of(line))
@@ -221,7 +221,7 @@ class NewsStream(Keyed):
 
     def on_connection_close(self) -> None:
         if self.listened is not None:
-            self.listened.end()
+            self.listened.lose()
 
 
 def routes(office: Office) -> list[Any]:

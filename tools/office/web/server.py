@@ -35,6 +35,10 @@ from office.work.shared_reading import SharedReading
 # seconds in which a head and a body have to come, and between two looks for news: at most, and at
 # least, however often somebody commits
 COMES, TICK, LEAST = 10.0, 0.25, 0.05
+# seconds between two looks on what the others work: each has all weeks looked at
+WORKS = 1.0
+# so many seats look for news at once: while one waits for its desk, the others go on
+AT_ONCE = 4
 # a path of a Unix socket has so many bytes at most
 LONGEST_PATH = 107
 # so many that have just come wait while the server is at work
@@ -63,6 +67,8 @@ class Office:
         self.keys_at = self.stat_keys()
         self.closes: Optional[float] = None
         self.people: list[PersonData] = []
+        # when it was looked last on what all work
+        self.works_at = 0.0
         # somebody has committed, or the server is ended: the next look is made at once
         self.woken = asyncio.Event()
 
@@ -149,7 +155,9 @@ class Office:
         is read in a thread of its own, so that nobody waits for the disk."""
         while not self.part.is_last():
             self.part = self.part.next()
-        self.shared.everybody.read_on()
+        if time.monotonic() > self.works_at + WORKS:
+            self.works_at = time.monotonic()
+            self.shared.everybody.read_on()
         day = self.day
         files = self.part.minutes, notes_path(day), pins_path(day), day.failing, day.office
         # works are replaced where one of them changes
@@ -165,8 +173,10 @@ class Office:
         if self.day.is_changing():
             # the desk ends as soon as all seats have left it
             await asyncio.gather(*(self.look_at(sitter, stamp) for sitter in self.sitters))
-        for place in sorted(self.places(), key=asked_at, reverse=True):
-            await self.look_at(place, stamp)
+        places = sorted(self.places(), key=asked_at, reverse=True)
+        for at in range(0, len(places), AT_ONCE):
+            some = places[at : at + AT_ONCE]
+            await asyncio.gather(*(self.look_at(place, stamp) for place in some))
         people = await loop.run_in_executor(None, self.who_sits)
         if people != self.people:
             self.people = people

@@ -12,6 +12,8 @@ from office.web.lines import STILL, Line
 # events that may wait for a window, windows of one seat, and the seconds after which one that
 # neither listens nor asks is forgotten
 WAIT, MOST, SILENT = 32, 4, 90.0
+# seconds for which a window is known whose connection has ended: it may come back
+LOST = 20.0
 # acts of a window of which the answers are kept
 ACTS = 2
 Data = dict[str, Any]
@@ -26,6 +28,8 @@ class Window:
         self.shown: Any = None
         self.is_listening = self.is_ending = False
         self.asked_at = time.monotonic()
+        # its connection has ended, and it may come back
+        self.is_lost = False
         # the login of whose window it is, if there is one
         self.holder = ""
         self._answers: dict[str, asyncio.Future[Data]] = {}
@@ -49,6 +53,8 @@ class Window:
 
     def tell(self, event: Union[Data, Line]) -> None:
         """Tells the window something; one that does not take it begins anew."""
+        if self.is_lost:
+            return
         if len(self._lines) < WAIT:
             self._lines.append(event if isinstance(event, Line) else Line(event))
             self._woken.set()
@@ -67,6 +73,18 @@ class Window:
             return self._lines.popleft()
         return None if self.is_ending or not self.is_listening else STILL
 
+    def lose(self) -> None:
+        """Its connection has ended."""
+        if self.is_listening:
+            self.is_listening, self.is_lost = False, True
+            self.asked_at = self.windows.gone_since = time.monotonic()
+            self.clear()
+
+    def clear(self) -> None:
+        """What it was to be told is old: it begins anew, or has gone."""
+        self._lines.clear()
+        self._woken.set()
+
     def end_soon(self) -> None:
         """The window is let go when it was sent what there is to be sent."""
         self.is_ending = True
@@ -76,8 +94,7 @@ class Window:
     def end(self) -> None:
         """The window has gone, or listens no more."""
         self.is_listening = False
-        self._lines.clear()
-        self._woken.set()
+        self.clear()
         self.windows.forget(self)
 
 
@@ -98,6 +115,9 @@ class Windows:
         old = self.by_name.get(name)
         if old is not None and old.is_listening:
             old.end()
+        elif old is not None:
+            old.is_lost = False
+            old.clear()
         if name not in self.by_name:
             if len(self.by_name) >= self.most:
                 self._make_room()
@@ -134,19 +154,21 @@ class Windows:
         window = self.known(name)
         if window.is_listening:
             window = self.begin(name)
-        window.is_listening = True
+        window.is_listening, window.is_lost = True, False
         return window
 
     def drop_silent(self) -> None:
         """Forgets those that neither listen nor ask."""
         for window in self.all():
-            if not window.is_listening and time.monotonic() > window.asked_at + SILENT:
+            patience = LOST if window.is_lost else SILENT
+            if not window.is_listening and time.monotonic() > window.asked_at + patience:
                 self.forget(window)
 
     def forget(self, window: Window) -> None:
         if self.by_name.get(window.name) is window:
             del self.by_name[window.name]
-            self.gone_since = time.monotonic()
+            if not window.is_lost:
+                self.gone_since = time.monotonic()
 
     def all(self) -> list[Window]:
         return list(self.by_name.values())
@@ -157,4 +179,5 @@ class Windows:
 
     def idle_for(self) -> float:
         """For how many seconds nobody listens here."""
-        return 0.0 if self.by_name else time.monotonic() - self.gone_since
+        is_there = any(not window.is_lost for window in self.all())
+        return 0.0 if is_there else time.monotonic() - self.gone_since

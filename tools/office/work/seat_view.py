@@ -313,7 +313,9 @@ class Reading:
         """Takes up the drafts that were accepted since."""
         entries = self.minutes.read_on()
         if entries:
-            self._cache.clear()
+            # a draft that is open is what it was, whatever others commit
+            drafts = self._cache.items() if self.is_open else ()
+            self._cache = {line: answer for line, answer in drafts if line.startswith("peek")}
             self.is_failing = self.is_failing and os.path.exists(self.seat.day.failing)
         if not all([self._accept(entry) for entry in entries]):
             self.is_sound = False
