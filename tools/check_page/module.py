@@ -41,6 +41,12 @@ exec "{clang}" "$@"
 """
 
 
+# the one instruction of x86-64 that the kit's module asks for by name: each of 16 bytes is the one
+# whose number the other operand has, or 0 where that has its high bit
+SHUFFLE = "@llvm.x86.ssse3.pshuf.b.128("
+OURS = '@"check_page::shuffle"('
+
+
 class Modules(NamedTuple):
     """The module, and the same for browsers without memories of 64 bits."""
 
@@ -83,10 +89,29 @@ def lay_toolchain(kit: Kit, room: str) -> str:
     return tools
 
 
+def shuffle() -> str:
+    """A function of LLVM that does what the instruction of x86-64 does."""
+    lines = [f"define internal <16 x i8> {OURS}<16 x i8> %bytes, <16 x i8> %numbers) {{"]
+    made = "zeroinitializer"
+    for at in range(16):
+        lines += [
+            f"  %n{at} = extractelement <16 x i8> %numbers, i32 {at}",
+            f"  %low{at} = and i8 %n{at}, 15",
+            f"  %byte{at} = extractelement <16 x i8> %bytes, i8 %low{at}",
+            f"  %none{at} = icmp slt i8 %n{at}, 0",
+            f"  %one{at} = select i1 %none{at}, i8 0, i8 %byte{at}",
+            f"  %all{at} = insertelement <16 x i8> {made}, i8 %one{at}, i32 {at}",
+        ]
+        made = f"%all{at}"
+    return "\n".join([*lines, f"  ret <16 x i8> {made}", "}", ""])
+
+
 def retargeted(text: str) -> str:
     """The module of LLVM for WebAssembly: the triple and the layout that it states are overridden
     by the target, as the kit does it, and so are the attributes of its functions."""
     text = text.replace(FOR_X86, FOR_WASM)
+    text = re.sub(rf"^declare [^\n]*{re.escape(SHUFFLE)}[^\n]*\n", "", text, flags=re.M)
+    text = text.replace(SHUFFLE, OURS) + shuffle()
     for left in ("x86-64", "llvm.x86"):
         if left in text:
             raise Refused(f"the kit's module has {left} where it is not known: another kit?")
