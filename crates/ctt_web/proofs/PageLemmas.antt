@@ -1,5 +1,5 @@
 -- The files of a page, and what is said of their faults.
-use Rattle.std.proofs.Common.{◌≡◌, ◌⊎◌, inl, inr, refl, subst, ℕ, List}
+use Rattle.std.proofs.Common.{◌≡◌, inl, inr, refl, subst, ℕ, List}
 use Rattle.ctt_files.specs.Texts.{Held}
 use Rattle.ctt_files.specs.declared.fault.Fault.{Fault}
 use Rattle.ctt_files.specs.declared.fault.Fault.TheVariants.{Machine}

@@ -2,6 +2,7 @@
 // Asks the worker, one question after another, and lets it go where other files have come.
 
 /** @typedef {{ status: number, text: Uint8Array, took: number }} Told */
+/** @typedef {(told: Told | undefined) => void} Taker */
 
 export class Checker {
   /** @param {WebAssembly.Module} module
@@ -10,7 +11,7 @@ export class Checker {
     this.module = module;
     this.address = URL.createObjectURL(new Blob([script], { type: "text/javascript" }));
     this.number = 0;
-    /** @type {Map<number, [(told: Told) => void, (fault: Error) => void]>} */
+    /** @type {Map<number, [Taker, (fault: Error) => void]>} */
     this.waiting = new Map();
     this.worker = this.begun();
   }
@@ -41,10 +42,10 @@ export class Checker {
     waiting.forEach(([, fail]) => fail(new Error(why)));
   }
 
-  /** What is wanted of some files.
+  /** What is wanted of some files, or nothing if that was broken off.
    * @param {string} wanted
    * @param {import("./border.js").Question} question
-   * @returns {Promise<Told>} */
+   * @returns {Promise<Told | undefined>} */
   ask(wanted, question) {
     this.number += 1;
     const { number } = this;
@@ -54,12 +55,14 @@ export class Checker {
     });
   }
 
-  /** Breaks off what is asked, whose answers never come. */
+  /** Breaks off what is asked. */
   stop() {
-    if (this.waiting.size) {
-      this.waiting.clear();
+    const waiting = [...this.waiting.values()];
+    this.waiting.clear();
+    if (waiting.length) {
       this.worker.terminate();
       this.worker = this.begun();
     }
+    waiting.forEach(([take]) => take(undefined));
   }
 }

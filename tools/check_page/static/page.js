@@ -23,6 +23,8 @@ let shown;
 let order = { by: "", isDown: false };
 // each change of the files begins a run, and ends the one before
 let run = 0;
+// what is waited for
+const works = new Set();
 
 const KINDS = { instance: "instance", solution: "solution", barred: "barred rooms",
   blocked: "closures" };
@@ -152,7 +154,7 @@ async function rankAll(mine) {
     byId("progress").hidden = false;
     say("", `Checking ${rows.length + 1} of ${questions.length}: ${question.solution.name}`);
     const told = await checker.ask("row", question);
-    if (mine !== run) {
+    if (!told || mine !== run) {
       return;
     }
     rows.push(rowOf(question, told));
@@ -165,6 +167,7 @@ async function rankAll(mine) {
 /** What is waited for, and what is said where it fails.
  * @param {Promise<void>} work */
 export async function settle(work) {
+  works.add(work);
   document.body.dataset.busy = "yes";
   try {
     await work;
@@ -172,7 +175,8 @@ export async function settle(work) {
     open();
     say("bad", `The module stopped, and says nothing: ${/** @type {Error} */ (fault).message}`);
   }
-  document.body.dataset.busy = "";
+  works.delete(work);
+  document.body.dataset.busy = works.size ? "yes" : "";
 }
 
 async function checkRun() {
