@@ -82,7 +82,7 @@ _office_known() {
     revert) options='--help --name --seat' ;;
     import) options='--help --output' ;;
     export) options='--at --help --output --semicolon --xlsx' ;;
-    publish) options='--follow --from --help --json --whole-term --with-check' ;;
+    publish) options='--follow --from --help --json --lang --whole-term --with-check' ;;
     *) options=--help ;;
     esac
 }

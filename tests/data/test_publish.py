@@ -95,7 +95,7 @@ class Files(Publishing):
                 path = os.path.normpath(os.path.join(os.path.dirname(name), unquote(target)))
                 self.assertIn(path, files)
                 count += 1
-        self.assertEqual(count, 26)
+        self.assertEqual(count, 34)
 
     def test_names_of_files(self):
         codes = ["alg", "a/b", "..", "x.y", "Übung", "a~2fb"]
@@ -331,6 +331,51 @@ class Whole(Publishing):
         self.assertEqual(uids["course"], uids["teacher"])
 
 
+class Readers(Publishing):
+    def test_codes_that_were_made_are_not_shown(self):
+        rows = "course,Linear-Algebra,Linear Algebra\ncourse,x,X\nroom,Hall-2,Hall 2\n"
+        self.labelled(labels="kind,code,name\n" + rows)
+        for path, old in ((SMALL, "new.ctt"), (SMALL_SOL, "new.sol")):
+            with open(path) as file:
+                text = file.read().replace("alg", "Linear-Algebra").replace("A ", "Hall-2 ")
+            self.write(old, text)
+        files = {"instance": self.path("new.ctt"), "start": self.path("new.sol")}
+        day = self.labelled(**files, name="named", labels="kind,code,name\n" + rows)
+        self.publish(day=day.path, to="new")
+        page = self.tree("new")["curriculum/q1.html"].decode()
+        self.assertIn("<b>Linear Algebra</b><p>Hall 2, t1</p>", page)
+        self.assertNotIn("Linear-Algebra", page)
+
+    def test_in_german(self):
+        day = self.labelled()
+        self.publish("--lang", "de")
+        self.accept(day.path, "move geo 1 2 A 1 1", "drop top 0 2")
+        self.publish("--lang", "de")
+        page = self.tree()["teacher/t2.html"].decode()
+        for text in (
+            'lang="de"',
+            "Lehrperson: 1 Veranstaltung",
+            "Alle Wochen",
+            "Adresse des Kalenders",
+            "Do</h2>",
+            "Was sich geändert hat",
+            "Do 12:15, Hall 2, left (A) -&gt; Do 10:15, Hall 2, left (A)",
+        ):
+            self.assertIn(text, page)
+        self.assertIn("top: entfällt am Mo 12:15, B", self.tree()["changes.html"].decode())
+        index = self.tree()["index.html"].decode()
+        self.assertIn("Lehrende", index)
+        self.assertIn("2 Termine geändert", index)
+        self.assertIn("nichts heißt so", index)
+
+    def test_in_the_order_of_letters(self):
+        names = "teacher,t1,Zoe Zander\nteacher,t2,Åke Ånd\n"
+        self.labelled(labels="kind,code,name\n" + names)
+        self.publish()
+        index = self.tree()["index.html"].decode()
+        self.assertLess(index.index("Åke"), index.index("Zoe"))
+
+
 class InABrowser(Publishing):
     @with_browser
     def test_pages(self):
@@ -354,6 +399,12 @@ class InABrowser(Publishing):
         while "Karl" not in (Pages.run("document.title") or "") and time.monotonic() < until:
             time.sleep(0.05)
         self.assertIn("Karl Müller (t2)", Pages.run("document.title"))
+        # that nothing is called so is said
+        Pages.go(index, 400)
+        seen = "document.querySelectorAll('[role=status]:not([hidden])').length"
+        self.assertEqual(Pages.run(seen), 0)
+        Pages.run(f"{field}.value = 'xyz'; {field}.dispatchEvent(new Event('input'))")
+        self.assertEqual(Pages.run(seen), 1)
         # without script all is there
         found = Pages.measure(index, 400, script=False)
         self.assertEqual(found["items"], 8)

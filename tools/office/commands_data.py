@@ -40,6 +40,8 @@ def add_data(commands: Commands) -> None:
     one.add_argument("--follow", action="store_true", help=follow)
     does = "tell whose weeks have changed as JSON, one in a line"
     one.add_argument("--json", action="store_true", help=does)
+    does = "the language of the pages, en or de"
+    one.add_argument("--lang", choices=["en", "de"], default="en", help=does)
     when = one.add_mutually_exclusive_group()
     does = "changes hold from this date on, as 2026-12-01; else from now on"
     when.add_argument("--from", metavar="DATE", dest="since", type=date_of, help=does)
@@ -92,9 +94,11 @@ def do_export(words: argparse.Namespace) -> int:
 
 def do_publish(words: argparse.Namespace) -> int:
     from office.data.own_check import read_page
+    from office.data.page_words import Language
     from office.data.publishing import Wanted, publish
     from office.data.telling import From
 
     since = From(words.since, words.whole_term)
-    wanted = Wanted(since, words.json, read_page() if words.with_check else None)
+    check = read_page() if words.with_check else None
+    wanted = Wanted(since, words.json, check, Language(words.lang))
     return publish(Day(words.day), words.folder, words.follow, wanted)

@@ -5,17 +5,10 @@ from __future__ import annotations
 from typing import Optional
 
 from office.data.alike import key_of, meant
-from office.data.labels import Labels, Name
+from office.data.labels import Labels, Name, word_of
 from office.data.tables import Faults, Row
 
-LONGEST = 24
 NO_NAME = Name("", "")
-
-
-def word_of(name: str, otherwise: str) -> str:
-    """A word without blanks that a name becomes."""
-    letters = "".join(letter if letter.isalnum() else " " for letter in name)
-    return "-".join(letters.split())[:LONGEST].rstrip("-") or otherwise
 
 
 class Names(dict[str, Name]):

@@ -4,15 +4,19 @@ from __future__ import annotations
 
 import datetime
 from collections import Counter
+from copy import copy
 from dataclasses import dataclass
 from typing import NamedTuple, Optional
 
+from office.data.page_words import WEEKDAYS_OF, Language, counted_in, said
 from office.day.lecture import Slot
 from office.refused import CONTENT, Refused
 
 KINDS = ("course", "room", "teacher", "curriculum")
 # the kind of the one label that says what the whole timetable is called
 PLAN = "instance"
+# of a code that is made of a name
+LONGEST = 24
 WEEKDAYS = "Monday Tuesday Wednesday Thursday Friday Saturday Sunday".split()
 
 
@@ -62,6 +66,12 @@ class SingleDate:
     why: str
 
 
+def word_of(name: str, otherwise: str) -> str:
+    """A word without blanks that a name becomes."""
+    letters = "".join(letter if letter.isalnum() else " " for letter in name)
+    return "-".join(letters.split())[:LONGEST].rstrip("-") or otherwise
+
+
 def clock(minute: int) -> str:
     return f"{minute // 60}:{minute % 60:02}"
 
@@ -85,20 +95,40 @@ class Labels:
         # how many have each name, and of how many names that was counted
         self._shared: Counter[tuple[str, str]] = Counter()
         self._counted = 0
+        # that of published pages
+        self.language = Language.ENGLISH
+
+    def published(self, language: Language) -> Labels:
+        """The labels as pages have them."""
+        found = copy(self)
+        found.language = language
+        return found
+
+    def word(self, text: str) -> str:
+        """A word of a page."""
+        return said(self.language, text)
+
+    def counted(self, count: int, noun: str) -> str:
+        return counted_in(self.language, count, noun)
 
     # slots
 
     def day(self, day: int) -> str:
         """`Fri`, or `day 5`."""
         if day in self.weekdays:
-            return WEEKDAYS[self.weekdays[day]][:3]
-        return f"day {day + 1}"
+            return self.weekday(self.weekdays[day])
+        return f"{self.word('day')} {day + 1}"
+
+    def weekday(self, weekday: int) -> str:
+        if self.language in WEEKDAYS_OF:
+            return WEEKDAYS_OF[self.language][weekday]
+        return WEEKDAYS[weekday][:3]
 
     def slot(self, slot: Slot) -> str:
         """`Fri 10:15`, or `day 5, period 2`."""
         if slot in self.times and slot[0] in self.weekdays:
             return f"{self.day(slot[0])} {clock(self.times[slot].begins)}"
-        return f"{self.day(slot[0])}, period {slot[1] + 1}"
+        return f"{self.day(slot[0])}, {self.word('period')} {slot[1] + 1}"
 
     def period(self, period: int) -> str:
         """What stands before a row of a week: `10:15` if it begins then each day, or `2`."""

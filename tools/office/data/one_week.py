@@ -49,19 +49,20 @@ class OneWeek:
         kind, code = self.view
         instance, labels = self.at.instance, self.labels
         if kind == "room":
-            return counted(instance.rooms[code], "seat")
+            return labels.counted(instance.rooms[code], "seat")
         if kind == "course":
             curricula = ", ".join(map(labels.curriculum, instance.curricula_of[code]))
-            students = counted(instance.courses[code].students, "student")
+            students = labels.counted(instance.courses[code].students, "student")
             text = f"{self.teacher(code)}, {students}"
             return shown(f"{text}; {curricula}" if curricula else text)
-        return counted(len(courses_of_view(instance, self.view)), "course")
+        return labels.counted(len(courses_of_view(instance, self.view)), "course")
 
     def missing(self) -> list[str]:
         """What has not been placed."""
-        found = self.at.missing
+        found, labels = self.at.missing, self.labels
+        of = labels.word("of")
         return [
-            shown(f"{counted(found[course], 'lecture')} of {self.labels.course(course)}")
+            shown(f"{labels.counted(found[course], 'lecture')} {of} {labels.course(course)}")
             for course in courses_of_view(self.at.instance, self.view)
             if course in found
         ]
@@ -91,7 +92,7 @@ class OneWeek:
 
     def when(self, slot: Slot) -> str:
         """When a slot is on its day: from when to when, or its period."""
-        return self.labels.span(slot) or f"period {slot[1] + 1}"
+        return self.labels.span(slot) or f"{self.labels.word('period')} {slot[1] + 1}"
 
 
 def cost_line(at: At) -> str:

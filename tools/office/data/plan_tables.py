@@ -5,9 +5,9 @@ import os
 from typing import Optional, Sequence
 
 from office.data import exceptions
-from office.data.codes import Codes, word_of
+from office.data.codes import Codes
 from office.data.label_files import SLOTS, TIMES_COLUMNS, take_labels
-from office.data.labels import KINDS, PLAN
+from office.data.labels import KINDS, PLAN, word_of
 from office.data.readings import read_minute, read_weekday
 from office.data.sources import Source
 from office.data.start_faults import find_faults

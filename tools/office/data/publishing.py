@@ -14,6 +14,7 @@ from typing import NamedTuple, Optional
 from office.data.changed_weeks import by_view, changes_between
 from office.data.label_files import check_zone, read_labels
 from office.data.own_check import SHOWN, check_of
+from office.data.page_words import Language
 from office.data.plan_book import FILE as BOOK, Book, book_in, book_text, new_book, newer, read_book
 from office.data.site import CHECK, Published, Site
 from office.data.telling import From, Told, first_book
@@ -148,6 +149,8 @@ class Wanted(NamedTuple):
     is_json: bool = False
     # the page in which visitors check the timetable, before files are in it
     check: Optional[str] = None
+    # of the pages
+    language: Language = Language.ENGLISH
 
 
 def book_of(day: Day, folder: Folder, state: Optional[State], plan: str) -> Book:
@@ -177,14 +180,15 @@ def publish_once(day: Day, folder: Folder, wanted: Wanted) -> None:
     now = datetime.datetime.now(datetime.timezone.utc)
     state = read_state(folder.old(STATE))
     book = book_of(day, folder, state, at.instance.name)
-    told = Told(book, at, labels, wanted.since.text(now, labels.zone), f"{now:%Y%m%dT%H%M%SZ}")
+    public = labels.published(wanted.language)
+    told = Told(book, at, public, wanted.since.text(now, labels.zone), f"{now:%Y%m%dT%H%M%SZ}")
     holds = told.since[:10] if labels.term else ""
     changed = changes_between(state.lectures, at.lectures) if state else []
     history = state.history if state else []
     if changed or not history:
         when = time.strftime("%Y-%m-%d %H:%M", time.localtime(now.timestamp()))
         history = [*history, Published(when, changed, holds)][-REMEMBERED:]
-    site = Site(at, labels, history, told.book, has_check=wanted.check is not None)
+    site = Site(at, public, history, told.book, has_check=wanted.check is not None)
     files = site.files()
     if wanted.check is not None:
         files[CHECK] = check_of(wanted.check, at, labels).encode()

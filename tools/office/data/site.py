@@ -9,15 +9,17 @@ from html import escape
 from typing import Any, NamedTuple, Optional
 from urllib.parse import quote
 
+from office.data.alike import key_of
 from office.data.calendars import Events, calendar_of, timeless, why_none
 from office.data.changed_weeks import by_view
-from office.data.labels import KINDS, WEEKDAYS, Labels
+from office.data.labels import KINDS, Labels
 from office.data.one_week import OneWeek
+from office.data.page_words import Language
 from office.data.plan_book import Book, Event
 from office.data.week_page import FOLLOW, HERE, page, week_page
 from office.day.shifts import Shift
 from office.past.timetable_at import At
-from office.words.text import counted, shown
+from office.words.text import shown
 from office.words.wording import Wording
 from office.work.week import View, all_views
 
@@ -35,9 +37,6 @@ class Published(NamedTuple):
     time: str
     changes: list[Shift]
     since: str = ""
-
-    def title(self) -> str:
-        return f"{self.time}, from {self.since} on" if self.since else self.time
 
 
 def file_name(code: str) -> str:
@@ -60,12 +59,14 @@ def link(path: str, text: str, kind: str = "") -> str:
     return f'<a{of_kind} href="{quote(path)}">{escape(text)}</a>'
 
 
-def single_date(event: Event) -> str:
+def single_date(labels: Labels, event: Event) -> str:
     """A lecture on a date on which it is not as in its week, as a page says it."""
     date = datetime.date.fromisoformat(event.begins[:10])
-    when = f"{WEEKDAYS[date.weekday()][:3]} {date} {event.begins[11:]}\N{EN DASH}{event.ends[11:]}"
+    span = f"{event.begins[11:]}\N{EN DASH}{event.ends[11:]}"
+    when = f"{labels.weekday(date.weekday())} {date} {span}"
     why = f" ({event.why})" if event.why else ""
-    what = "off" if event.is_off else f"{event.what.location}, on this date alone"
+    alone = f"{event.what.location}, {labels.word('on this date alone')}"
+    what = labels.word("off") if event.is_off else alone
     return f"{when}: {event.what.summary}: {what}{why}"
 
 
@@ -136,46 +137,71 @@ class Site:
         return calendar_of(self.events, self.labels, week.view)
 
     def week(self, week: OneWeek, has_calendar: bool) -> bytes:
-        links = [link(f"../{INDEX}", "All weeks")]
+        links = [link(f"../{INDEX}", self.labels.word("All weeks"))]
         if has_calendar:
             file = os.path.basename(path_of(week.view, "ics"))
-            links.append(link(file, "Calendar for a telephone", "calendar"))
+            links.append(link(file, self.labels.word("Calendar for a telephone"), "calendar"))
+            # to be copied where a telephone does not open the other one
+            links.append(link(file, self.labels.word("Address of the calendar")))
         nav = f"<nav>{' '.join(links)}</nav>\n"
         script = FOLLOW if has_calendar else ""
         below = self.single_dates(week.view) + self.changes_of(week.view)
         return self.encoded(week_page(week, False, nav, script=script, below=below))
 
+    def title_of(self, published: Published) -> str:
+        """When something was published, and from when on it holds."""
+        if not published.since:
+            return published.time
+        on = " on" if self.labels.language is Language.ENGLISH else ""
+        return f"{published.time}, {self.labels.word('from')} {published.since}{on}"
+
+    def shift(self, shift: Shift) -> str:
+        """A change in words."""
+        if self.labels.language is Language.ENGLISH or None not in shift:
+            return self.wording.shifts([shift])
+        word = "placed on" if shift.was is None else "taken out of"
+        place = shift.now or shift.was
+        assert place is not None
+        where = f"{self.labels.word(word)} {self.wording.place(place)}"
+        return f"{self.wording.course(shift.course)}: {where}"
+
     def single_dates(self, view: View) -> str:
         """The dates on which something is not as in the week."""
         rows = [
-            f"<li>{escape(shown(single_date(event)))}</li>\n"
+            f"<li>{escape(shown(single_date(self.labels, event)))}</li>\n"
             for _, event in self.events.of.get(view, [])
             if event.is_off or event.is_moved
         ]
-        return f"<h2>Single dates</h2>\n<ul>\n{''.join(rows)}</ul>\n" if rows else ""
+        title = self.labels.word("Single dates")
+        return f"<h2>{title}</h2>\n<ul>\n{''.join(rows)}</ul>\n" if rows else ""
 
     def changes_of(self, view: View) -> str:
         """What has changed in a week since it was first published."""
         rows = [
-            f"<li>{escape(f'{published.title()}: {self.wording.shifts([shift])}')}</li>\n"
+            f"<li>{escape(f'{self.title_of(published)}: {self.shift(shift)}')}</li>\n"
             for published, shifts in self.changed.get(view, [])[:SHOWN]
             for shift in shifts
         ]
         if not rows:
             return ""
-        return f'<div class="history"><h2>What has changed</h2>\n<ul>\n{"".join(rows)}</ul></div>\n'
+        title = self.labels.word("What has changed")
+        items = f"<ul>\n{''.join(rows)}</ul>"
+        return f'<div class="history"><h2>{title}</h2>\n{items}</div>\n'
 
     def index(self) -> bytes:
         newest = self.history[-1]
         parts = [f"<header>\n<h1>{escape(self.title)}</h1>\n"]
         if self.labels.term is not None:
             name = f"{self.labels.term.name}, " if self.labels.term.name else ""
-            dates = f"{name}{self.labels.term.first} to {self.labels.term.last}"
+            to = self.labels.word("to")
+            dates = f"{name}{self.labels.term.first} {to} {self.labels.term.last}"
             parts.append(f"<p>{escape(dates)}</p>\n")
-        count = f"{counted(len(newest.changes), 'lecture')} changed" if newest.changes else "new"
+        word, found = self.labels.word, len(newest.changes)
+        lectures = self.labels.counted(found, "lecture")
+        count = f"{lectures} {word('changed')}" if found else word("new")
         parts.append(f"<p>{newest.time}: {link(CHANGES, count)}</p>\n")
         if self.has_check:
-            parts.append(f"<p>{link(CHECK, 'Check this timetable yourself')}</p>\n")
+            parts.append(f"<p>{link(CHECK, word('Check this timetable yourself'))}</p>\n")
         parts.append("</header>\n<main>\n")
         views = all_views(self.at.instance)
         for kind, title in TITLES.items():
@@ -183,24 +209,37 @@ class Site:
             names = {view: self.wording.name(*view) for view in of_kind}
             rows = [
                 f"<li>{link(path_of(view, 'html'), names[view])}</li>\n"
-                for view in sorted(of_kind, key=lambda view: (names[view].casefold(), view.name))
+                for view in sorted(of_kind, key=lambda view: (key_of(names[view]), view.name))
             ]
-            parts.append(f"<section>\n<h2>{title}</h2>\n<ul>\n{''.join(rows)}</ul>\n</section>\n")
+            items = f"<ul>\n{''.join(rows)}</ul>\n"
+            parts.append(f"<section>\n<h2>{word(title)}</h2>\n{items}</section>\n")
         with open(os.path.join(HERE, "index.js"), encoding="utf-8") as file:
-            parts.append(f"</main>\n<script>\n{file.read()}</script>\n")
-        return self.encoded(page(self.title, "".join(parts)))
+            parts.append(f"</main>\n<script>\n{self.script(file.read())}</script>\n")
+        return self.encoded(self.page(self.title, "".join(parts)))
+
+    def script(self, text: str) -> str:
+        """The script of the index, in the language of the pages."""
+        for words in ("name or code", "nothing is called so"):
+            text = text.replace(words, self.labels.word(words))
+        return text
 
     def changes(self) -> bytes:
-        parts = [f"<nav>{link(INDEX, 'All weeks')}</nav>\n<main class=\"changes\">\n"]
-        parts.append(f"<h1>What has changed: {escape(self.title)}</h1>\n")
+        back = link(INDEX, self.labels.word("All weeks"))
+        first = self.labels.word("published for the first time")
+        parts = [f'<nav>{back}</nav>\n<main class="changes">\n']
+        title = f"{self.labels.word('What has changed')}: {self.title}"
+        parts.append(f"<h1>{escape(title)}</h1>\n")
         for published in reversed(self.history):
             rows = "".join(
-                f"<li>{escape(self.wording.shifts([shift]))}</li>\n" for shift in published.changes
+                f"<li>{escape(self.shift(shift))}</li>\n" for shift in published.changes
             )
-            items = f"<ul>\n{rows}</ul>\n" if rows else "<p>published for the first time</p>\n"
-            parts.append(f"<section>\n<h2>{published.title()}</h2>\n{items}</section>\n")
+            items = f"<ul>\n{rows}</ul>\n" if rows else f"<p>{first}</p>\n"
+            parts.append(f"<section>\n<h2>{self.title_of(published)}</h2>\n{items}</section>\n")
         parts.append("</main>\n")
-        return self.encoded(page(f"What has changed: {self.title}", "".join(parts)))
+        return self.encoded(self.page(title, "".join(parts)))
+
+    def page(self, title: str, body: str) -> str:
+        return page(title, body, language=self.labels.language.value)
 
     def encoded(self, text: str) -> bytes:
         return text.encode("utf-8", "surrogateescape")

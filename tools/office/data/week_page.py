@@ -28,11 +28,11 @@ def style() -> str:
         return file.read()
 
 
-def page(title: str, body: str, letters: str = "10pt") -> str:
+def page(title: str, body: str, letters: str = "10pt", language: str = "en") -> str:
     """A page that needs nothing else, with letters of this size on paper."""
     return (
         '<!DOCTYPE html>\n'
-        f'<html lang="en" style="--print: {letters}">\n<head>\n<meta charset="utf-8">\n'
+        f'<html lang="{language}" style="--print: {letters}">\n<head>\n<meta charset="utf-8">\n'
         '<meta name="viewport" content="width=device-width, initial-scale=1">\n'
         f"<title>{escape(title)}</title>\n<style>\n{style()}</style>\n</head>\n<body>\n{body}"
         "</body>\n</html>\n"
@@ -103,10 +103,10 @@ def head_lines(week: OneWeek) -> list[str]:
     """What stands below the title: whose week it is, of which timetable, and when."""
     labels = week.labels
     term = labels.term
-    lines = [f"{week.view.kind.capitalize()}: {week.facts()}"]
+    lines = [f"{labels.word(week.view.kind.capitalize())}: {week.facts()}"]
     if term is not None:
         name = f"{term.name}, " if term.name else ""
-        lines.append(f"{name}{term.first} to {term.last}")
+        lines.append(f"{name}{term.first} {labels.word('to')} {term.last}")
     return lines
 
 
@@ -123,7 +123,8 @@ def week_page(
     title = f"{week.title()} \N{EN DASH} {shown(week.labels.title or week.at.instance.name)}"
     heads = "".join(f"<p>{escape(line)}</p>\n" for line in head_lines(week))
     missing = "; ".join(week.missing())
-    absent = f'<p class="missing">Not placed: {escape(missing)}</p>\n' if missing else ""
+    word = week.labels.word("Not placed")
+    absent = f'<p class="missing">{word}: {escape(missing)}</p>\n' if missing else ""
     costs = f"<p>Whole timetable: {escape(cost_line(week.at))}</p>\n" if has_costs else ""
     notes = f'<section class="changes">\n{below}</section>\n' if below else ""
     footer = f"<footer><p>{escape(foot)}</p></footer>\n" if foot else ""
@@ -132,4 +133,5 @@ def week_page(
         f"{links}<main>\n<header>\n<h1>{escape(week.title())}</h1>\n{heads}{absent}</header>\n"
         f"{grid(week, has_costs)}{costs}{notes}</main>\n{footer}{script}",
         print_size(week, has_costs),
+        week.labels.language.value,
     )
