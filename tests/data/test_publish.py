@@ -20,7 +20,7 @@ from office.data.site import file_name
 from office.day.instance import read_instance
 from office.day.lecture import Lecture
 
-MOVED = "Geometrie für Anfänger (geo): Thu 12:15, Hall 2, left (A) -> Thu 10:15, Hall 2, left (A)"
+MOVED = "Geometrie für Anfänger: Thu 12:15, Hall 2, left -> Thu 10:15, Hall 2, left"
 # publishes with a stop before so many files are written
 STOPPED = """
 import os, signal, sys
@@ -211,7 +211,7 @@ class Changed(Publishing):
         self.assertEqual(same, set(after) - changed)
         self.assertEqual(
             printed,
-            f"curriculum Mathematics (q1): {MOVED}\nteacher t2: {MOVED}\n",
+            f"curriculum Mathematics: {MOVED}\nteacher t2: {MOVED}\n",
         )
         self.assertIn(MOVED.replace(">", "&gt;"), after["changes.html"].decode())
         self.assertIn("1 lecture changed", after["index.html"].decode())
@@ -237,7 +237,7 @@ class Changed(Publishing):
         printed, said = self.publish()
         self.assertEqual(printed, "")
         self.assertIn("0 lectures changed", said)
-        self.assertIn("Karl Müller (t2)", self.tree()["teacher/t2.html"].decode())
+        self.assertIn("Karl Müller", self.tree()["teacher/t2.html"].decode())
         self.assertNotIn("Karl", self.tree()["changes.html"].decode())
 
     def test_pairs(self):
@@ -332,20 +332,6 @@ class Whole(Publishing):
 
 
 class Readers(Publishing):
-    def test_codes_that_were_made_are_not_shown(self):
-        rows = "course,Linear-Algebra,Linear Algebra\ncourse,x,X\nroom,Hall-2,Hall 2\n"
-        self.labelled(labels="kind,code,name\n" + rows)
-        for path, old in ((SMALL, "new.ctt"), (SMALL_SOL, "new.sol")):
-            with open(path) as file:
-                text = file.read().replace("alg", "Linear-Algebra").replace("A ", "Hall-2 ")
-            self.write(old, text)
-        files = {"instance": self.path("new.ctt"), "start": self.path("new.sol")}
-        day = self.labelled(**files, name="named", labels="kind,code,name\n" + rows)
-        self.publish(day=day.path, to="new")
-        page = self.tree("new")["curriculum/q1.html"].decode()
-        self.assertIn("<b>Linear Algebra</b><p>Hall 2, t1</p>", page)
-        self.assertNotIn("Linear-Algebra", page)
-
     def test_in_german(self):
         day = self.labelled()
         self.publish("--lang", "de")
@@ -359,7 +345,7 @@ class Readers(Publishing):
             "Adresse des Kalenders",
             "Do</h2>",
             "Was sich geändert hat",
-            "Do 12:15, Hall 2, left (A) -&gt; Do 10:15, Hall 2, left (A)",
+            "Do 12:15, Hall 2, left -&gt; Do 10:15, Hall 2, left",
         ):
             self.assertIn(text, page)
         self.assertIn("top: entfällt am Mo 12:15, B", self.tree()["changes.html"].decode())
@@ -398,7 +384,7 @@ class InABrowser(Publishing):
         until = time.monotonic() + PATIENCE
         while "Karl" not in (Pages.run("document.title") or "") and time.monotonic() < until:
             time.sleep(0.05)
-        self.assertIn("Karl Müller (t2)", Pages.run("document.title"))
+        self.assertIn("Karl Müller", Pages.run("document.title"))
         # that nothing is called so is said
         Pages.go(index, 400)
         seen = "document.querySelectorAll('[role=status]:not([hidden])').length"
