@@ -80,8 +80,8 @@ class Codes:
                 known = self.names[other].name or other
                 cause = (
                     f"the {self.kind} {name} is typed as {known} in row {self.rows[other]} but for "
-                    f"signs and blanks: did you mean {known}? If both are meant, labels.csv has a "
-                    "row for each"
+                    f"case, signs and blanks: did you mean {known}? If both are meant, "
+                    "labels.csv has a row for each"
                 )
                 faults.add(self.file, self.rows[code], cause)
 
