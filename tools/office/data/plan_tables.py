@@ -62,7 +62,7 @@ COLUMNS = {
     ),
     "lectures.csv": (Column("course"), Column("room"), DAY, PERIOD._replace(is_needed=True)),
 }
-NEEDED = ("courses.csv", "rooms.csv", "curricula.csv", "unavailable.csv")
+NEEDED = ("courses.csv", "rooms.csv", "curricula.csv")
 LIMITS = {"course": 2000, "room": 1000, "curriculum": 20_000}
 # how many lectures a course has whose number could not be read, so that nothing follows from it
 MANY = 1_000_000
