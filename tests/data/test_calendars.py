@@ -267,6 +267,8 @@ class Kept(Publishing):
         name = "Geometrie für Anfänger"
         self.assertIn(f"Fri 2026-12-04 08:15\N{EN DASH}09:45: {name}: Town hall, on this", page)
         self.assertIn(f"Thu 2026-12-10 12:15\N{EN DASH}13:45: {name}: off (ill)", page)
+        shown = self.office("show", self.path("day"), "--teacher", "t2")[1]
+        self.assertIn("single dates\n  2026-12-03: geo: moved to 2026-12-04, 8:15, Town", shown)
         calendar = self.tree()["teacher/t2.ics"].replace(b"\r\n ", b"")
         self.assertIn(b"STATUS:CANCELLED", calendar)
         self.assertIn(b"DTSTART;TZID=Europe/Berlin:20261204T081500", calendar)

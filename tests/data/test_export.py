@@ -181,11 +181,11 @@ class ThereAndBack(Tables):
         for slot in instance.slots():
             self.assertEqual(new.slot(slot), old.slot(slot))
         for course in instance.courses.values():
-            self.assertEqual(new.course(course.name), old.course(course.name))
-            self.assertEqual(new.teacher(course.teacher), old.teacher(course.teacher))
+            for kind, code in ("course", course.name), ("teacher", course.teacher):
+                self.assertEqual(new.name(kind, code), old.name(kind, code))
         for room in instance.rooms:
-            self.assertEqual(new.room(room), old.room(room))
-            if old.short("room", room) != room:
+            self.assertEqual(new.name("room", room), old.name("room", room))
+            if ("room", room) in old.names and old.names["room", room].short:
                 self.assertEqual(new.short("room", room), old.short("room", room))
 
 

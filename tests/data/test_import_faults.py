@@ -167,8 +167,14 @@ class Wrong(Tables):
     def test_missing_files(self):
         os.mkdir(self.path("college"))
         found = self.faults()
-        wanted = ["times", "courses", "rooms", "curricula", "unavailable"]
+        wanted = ["times", "courses", "rooms", "curricula"]
         self.assertEqual([line.split(".csv: the file is missing")[0] for line in found], wanted)
+
+    def test_nobody_is_unavailable(self):
+        self.tables()
+        os.remove(self.path("college/unavailable.csv"))
+        self.imported()
+        self.assertIn("Constraints: 0\n", self.read("plan/instance.ctt"))
 
     def test_bytes_of_another_encoding(self):
         self.tables()

@@ -8,6 +8,7 @@ import subprocess
 import sys
 import time
 import unittest
+import xml.etree.ElementTree as ElementTree
 from urllib.parse import unquote
 
 from browser import Pages, read_calendar, with_browser, with_reader
@@ -20,7 +21,7 @@ from office.data.site import file_name
 from office.day.instance import read_instance
 from office.day.lecture import Lecture
 
-MOVED = "Geometrie für Anfänger (geo): Thu 12:15, Hall 2, left (A) -> Thu 10:15, Hall 2, left (A)"
+MOVED = "Geometrie für Anfänger: Thu 12:15, Hall 2, left -> Thu 10:15, Hall 2, left"
 # publishes with a stop before so many files are written
 STOPPED = """
 import os, signal, sys
@@ -70,7 +71,7 @@ class Files(Publishing):
         self.labelled()
         printed, said = self.publish()
         self.assertEqual(printed, "")
-        self.assertIn("office: day, at its start: 0 lectures changed, 20 files of 20 written", said)
+        self.assertIn("office: day, at its start: 0 lectures changed, 23 files of 23 written", said)
         instance = instance_of(SMALL)
         wanted = {"index.html", "changes.html", "published.json", "plan.json"}
         for kind, codes in (
@@ -79,7 +80,8 @@ class Files(Publishing):
             ("teacher", instance.teachers),
             ("curriculum", instance.curricula),
         ):
-            wanted |= {f"{kind}/{code}.{ending}" for code in codes for ending in ("html", "ics")}
+            endings = ["html", "ics", *(["atom"] if kind in ("teacher", "curriculum") else [])]
+            wanted |= {f"{kind}/{code}.{ending}" for code in codes for ending in endings}
         self.assertEqual(set(self.tree()), wanted)
 
     def test_each_link_leads_somewhere(self):
@@ -95,7 +97,7 @@ class Files(Publishing):
                 path = os.path.normpath(os.path.join(os.path.dirname(name), unquote(target)))
                 self.assertIn(path, files)
                 count += 1
-        self.assertEqual(count, 34)
+        self.assertEqual(count, 37)
 
     def test_names_of_files(self):
         codes = ["alg", "a/b", "..", "x.y", "Übung", "a~2fb"]
@@ -205,13 +207,14 @@ class Changed(Publishing):
         weeks = {"course/geo", "curriculum/q1", "room/A", "teacher/t2"}
         wanted = {f"{week}.{ending}" for week in weeks for ending in ("html", "ics")}
         others = {"index.html", "changes.html", "published.json", "plan.json"}
+        others |= {"curriculum/q1.atom", "teacher/t2.atom"}
         self.assertEqual(changed, wanted | others)
         # the others are the same files, so that their times are the old ones
         same = {n for n in after if os.stat(self.path(f"site/{n}")).st_ino == times[n]}
         self.assertEqual(same, set(after) - changed)
         self.assertEqual(
             printed,
-            f"curriculum Mathematics (q1): {MOVED}\nteacher t2: {MOVED}\n",
+            f"curriculum Mathematics: {MOVED}\nteacher t2: {MOVED}\n",
         )
         self.assertIn(MOVED.replace(">", "&gt;"), after["changes.html"].decode())
         self.assertIn("1 lecture changed", after["index.html"].decode())
@@ -237,7 +240,7 @@ class Changed(Publishing):
         printed, said = self.publish()
         self.assertEqual(printed, "")
         self.assertIn("0 lectures changed", said)
-        self.assertIn("Karl Müller (t2)", self.tree()["teacher/t2.html"].decode())
+        self.assertIn("Karl Müller", self.tree()["teacher/t2.html"].decode())
         self.assertNotIn("Karl", self.tree()["changes.html"].decode())
 
     def test_pairs(self):
@@ -359,7 +362,7 @@ class Readers(Publishing):
             "Adresse des Kalenders",
             "Do</h2>",
             "Was sich geändert hat",
-            "Do 12:15, Hall 2, left (A) -&gt; Do 10:15, Hall 2, left (A)",
+            "Do 12:15, Hall 2, left -&gt; Do 10:15, Hall 2, left",
         ):
             self.assertIn(text, page)
         self.assertIn("top: entfällt am Mo 12:15, B", self.tree()["changes.html"].decode())
@@ -367,6 +370,24 @@ class Readers(Publishing):
         self.assertIn("Lehrende", index)
         self.assertIn("2 Termine geändert", index)
         self.assertIn("nichts heißt so", index)
+
+    def test_a_feed(self):
+        day = self.labelled()
+        self.publish()
+        first = ElementTree.fromstring(self.tree()["teacher/t2.atom"])
+        name = "{http://www.w3.org/2005/Atom}"
+        self.assertEqual(first.findall(f"{name}entry"), [])
+        self.accept(day.path, "move geo 1 2 A 1 1")
+        self.publish()
+        feed = ElementTree.fromstring(self.tree()["teacher/t2.atom"])
+        self.assertEqual(feed.find(f"{name}id").text, first.find(f"{name}id").text)
+        entries = feed.findall(f"{name}entry")
+        self.assertEqual([one.find(f"{name}content").text for one in entries], [MOVED])
+        self.assertEqual(entries[0].find(f"{name}updated").text, feed.find(f"{name}updated").text)
+        # who has no change has the same feed
+        self.assertEqual(
+            ElementTree.fromstring(self.tree()["teacher/t1.atom"]).findall(f"{name}entry"), []
+        )
 
     def test_in_the_order_of_letters(self):
         names = "teacher,t1,Zoe Zander\nteacher,t2,Åke Ånd\n"
@@ -398,7 +419,7 @@ class InABrowser(Publishing):
         until = time.monotonic() + PATIENCE
         while "Karl" not in (Pages.run("document.title") or "") and time.monotonic() < until:
             time.sleep(0.05)
-        self.assertIn("Karl Müller (t2)", Pages.run("document.title"))
+        self.assertIn("Karl Müller", Pages.run("document.title"))
         # that nothing is called so is said
         Pages.go(index, 400)
         seen = "document.querySelectorAll('[role=status]:not([hidden])').length"

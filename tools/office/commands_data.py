@@ -24,8 +24,7 @@ def add_data(commands: Commands) -> None:
     one = commands.add_parser(
         "import", help=does, description=does[0].upper() + does[1:] + ".", allow_abbrev=False
     )
-    tables = "the tables: courses.csv, rooms.csv .., or a workbook"
-    one.add_argument("folder", metavar="FOLDER", help=tables)
+    one.add_argument("folder", metavar="FOLDER", help="the tables: courses.csv, rooms.csv .., or a workbook")
     add_output(one, "DIR")
     one.set_defaults(do=do_import)
     one = add_command(commands, "export", "write the tables of a day, with its timetable")
@@ -99,6 +98,7 @@ def do_publish(words: argparse.Namespace) -> int:
     from office.data.publishing import Wanted, publish
     from office.data.telling import From
 
-    since, language = From(words.since, words.whole_term), Language(words.lang)
-    wanted = Wanted(since, language, words.json, read_page() if words.with_check else None)
+    since = From(words.since, words.whole_term)
+    check = read_page() if words.with_check else None
+    wanted = Wanted(since, words.json, check, Language(words.lang))
     return publish(Day(words.day), words.folder, words.follow, wanted)

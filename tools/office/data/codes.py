@@ -5,17 +5,10 @@ from __future__ import annotations
 from typing import Optional
 
 from office.data.alike import key_of, meant
-from office.data.labels import Labels, Name
+from office.data.labels import Labels, Name, word_of
 from office.data.tables import Faults, Row
 
-LONGEST = 24
 NO_NAME = Name("", "")
-
-
-def word_of(name: str, otherwise: str) -> str:
-    """A word without blanks that a name becomes."""
-    letters = "".join(letter if letter.isalnum() else " " for letter in name)
-    return "-".join(letters.split())[:LONGEST].rstrip("-") or otherwise
 
 
 class Names(dict[str, Name]):
@@ -87,8 +80,8 @@ class Codes:
                 known = self.names[other].name or other
                 cause = (
                     f"the {self.kind} {name} is typed as {known} in row {self.rows[other]} but for "
-                    f"signs and blanks: did you mean {known}? If both are meant, labels.csv has a "
-                    "row for each"
+                    f"case, signs and blanks: did you mean {known}? If both are meant, "
+                    "labels.csv has a row for each"
                 )
                 faults.add(self.file, self.rows[code], cause)
 

@@ -15,6 +15,8 @@ from office.refused import CONTENT, Refused
 KINDS = ("course", "room", "teacher", "curriculum")
 # the kind of the one label that says what the whole timetable is called
 PLAN = "instance"
+# of a code that is made of a name
+LONGEST = 24
 WEEKDAYS = "Monday Tuesday Wednesday Thursday Friday Saturday Sunday".split()
 
 
@@ -64,6 +66,12 @@ class SingleDate:
     why: str
 
 
+def word_of(name: str, otherwise: str) -> str:
+    """A word without blanks that a name becomes."""
+    letters = "".join(letter if letter.isalnum() else " " for letter in name)
+    return "-".join(letters.split())[:LONGEST].rstrip("-") or otherwise
+
+
 def clock(minute: int) -> str:
     return f"{minute // 60}:{minute % 60:02}"
 
@@ -84,11 +92,11 @@ class Labels:
         self.single_dates: list[SingleDate] = []
         # what the whole timetable is called
         self.title = ""
-        # in which language pages say it
-        self.language = Language.ENGLISH
         # how many have each name, and of how many names that was counted
         self._shared: Counter[tuple[str, str]] = Counter()
         self._counted = 0
+        # that of published pages
+        self.language = Language.ENGLISH
 
     def published(self, language: Language) -> Labels:
         """The labels as pages have them."""

@@ -4,6 +4,7 @@ from __future__ import annotations
 
 from typing import NamedTuple
 
+from office.data.exceptions import words_of
 from office.data.labels import Labels, clock
 from office.day.costs import COSTS
 from office.day.lecture import Lecture, Slot
@@ -67,6 +68,15 @@ class OneWeek:
             if course in found
         ]
 
+    def single_dates(self) -> list[str]:
+        """What is not as in the week on a single date."""
+        courses = {lecture.course for lecture in self.lectures()}
+        return [
+            words_of(one)
+            for one in self.labels.single_dates
+            if courses & {*self.labels.called("course", one.course, list(courses))}
+        ]
+
     def words(self, lecture: Lecture) -> LectureWords:
         """A lecture without what the title says already."""
         course, room = self.labels.course(lecture.course), self.labels.room(lecture.room)
@@ -117,6 +127,8 @@ def text_of(week: OneWeek, has_costs: bool) -> str:
         lines += ["", "no lectures"]
     if week.missing():
         lines += ["", f"not placed: {'; '.join(week.missing())}"]
+    if week.single_dates():
+        lines += ["", "single dates", *(f"  {one}" for one in week.single_dates())]
     if has_costs:
         lines += ["", f"whole timetable: {cost_line(week.at)}"]
     return "".join(f"{line}\n" for line in lines)

@@ -12,10 +12,10 @@ class Language(Enum):
 GERMAN = {
     "All weeks": "Alle Wochen",
     "Calendar for a telephone": "Kalender fürs Telefon",
-    "Check this timetable yourself": "Diesen Stundenplan selbst prüfen",
     "Address of the calendar": "Adresse des Kalenders",
     "News of this week": "Neues zu dieser Woche",
     "What has changed": "Was sich geändert hat",
+    "Check this timetable yourself": "Diesen Stundenplan selbst prüfen",
     "Single dates": "Einzelne Termine",
     "published for the first time": "zum ersten Mal veröffentlicht",
     "new": "neu",

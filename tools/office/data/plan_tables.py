@@ -5,9 +5,9 @@ import os
 from typing import Optional, Sequence
 
 from office.data import exceptions
-from office.data.codes import Codes, word_of
+from office.data.codes import Codes
 from office.data.label_files import SLOTS, TIMES_COLUMNS, take_labels
-from office.data.labels import KINDS, PLAN
+from office.data.labels import KINDS, PLAN, word_of
 from office.data.readings import read_minute, read_weekday
 from office.data.sources import Source
 from office.data.start_faults import find_faults
@@ -62,7 +62,7 @@ COLUMNS = {
     ),
     "lectures.csv": (Column("course"), Column("room"), DAY, PERIOD._replace(is_needed=True)),
 }
-NEEDED = ("courses.csv", "rooms.csv", "curricula.csv", "unavailable.csv")
+NEEDED = ("courses.csv", "rooms.csv", "curricula.csv")
 LIMITS = {"course": 2000, "room": 1000, "curriculum": 20_000}
 # how many lectures a course has whose number could not be read, so that nothing follows from it
 MANY = 1_000_000

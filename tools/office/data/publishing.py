@@ -16,7 +16,7 @@ from office.data.label_files import check_zone, read_labels
 from office.data.own_check import SHOWN, check_of
 from office.data.page_words import Language
 from office.data.plan_book import FILE as BOOK, Book, book_in, book_text, new_book, newer, read_book
-from office.data.site import CHECK, Published, Site
+from office.data.site import CHECK, PEOPLE, Published, Site
 from office.data.telling import From, Told, first_book
 from office.day.folder import Day
 from office.day.lecture import Lecture
@@ -32,8 +32,6 @@ STATE = "published.json"
 REMEMBERED = 100
 # how many seconds `--follow` waits before it looks again
 PACE = 0.5
-# whose weeks are told of: a room and a course read no mail
-PEOPLE = ("teacher", "curriculum")
 
 
 class State(NamedTuple):
@@ -50,7 +48,7 @@ def read_state(text: Optional[bytes]) -> Optional[State]:
     history = []
     for one in found["history"]:
         changes = [Shift(*(row and Lecture(*row) for row in pair)) for pair in one["changes"]]
-        history.append(Published(one["time"], changes, one.get("since", "")))
+        history.append(Published(one["time"], changes, one.get("since", ""), one.get("stamp", "")))
     return State([Lecture(*row) for row in found["lectures"]], history)
 
 
@@ -145,11 +143,12 @@ class Wanted(NamedTuple):
 
     # the date from which on it holds
     since: From
-    language: Language = Language.ENGLISH
     # to tell of changes in a form for programs
     is_json: bool = False
     # the page in which visitors check the timetable, before files are in it
     check: Optional[str] = None
+    # of the pages
+    language: Language = Language.ENGLISH
 
 
 def book_of(day: Day, folder: Folder, state: Optional[State], plan: str) -> Book:
@@ -186,7 +185,8 @@ def publish_once(day: Day, folder: Folder, wanted: Wanted) -> None:
     history = state.history if state else []
     if changed or not history:
         when = time.strftime("%Y-%m-%d %H:%M", time.localtime(now.timestamp()))
-        history = [*history, Published(when, changed, holds)][-REMEMBERED:]
+        newest = Published(when, changed, holds, f"{now:%Y-%m-%dT%H:%M:%SZ}")
+        history = [*history, newest][-REMEMBERED:]
     site = Site(at, public, history, told.book, has_check=wanted.check is not None)
     files = site.files()
     if wanted.check is not None:

@@ -12,6 +12,7 @@ from urllib.parse import quote
 from office.data.alike import key_of
 from office.data.calendars import Events, calendar_of, timeless, why_none
 from office.data.changed_weeks import by_view
+from office.data.feed import Entry, feed
 from office.data.labels import KINDS, Labels
 from office.data.one_week import OneWeek
 from office.data.page_words import Language
@@ -28,6 +29,9 @@ TITLES = {"teacher": "Teachers", "curriculum": "Curricula", "room": "Rooms", "co
 LONGEST = 60
 # how many publishings with changes in a week are told on its page
 SHOWN = 10
+# whose weeks are told of: a room and a course read no mail
+PEOPLE = ("teacher", "curriculum")
+NEWS = "News of this week"
 
 
 class Published(NamedTuple):
@@ -37,6 +41,8 @@ class Published(NamedTuple):
     time: str
     changes: list[Shift]
     since: str = ""
+    # when, in UTC
+    stamp: str = ""
 
 
 def file_name(code: str) -> str:
@@ -113,6 +119,8 @@ class Site:
             if calendar is not None:
                 found[path_of(view, "ics")] = calendar
             found[path_of(view, "html")] = self.week(week, calendar is not None)
+            if view.kind in PEOPLE:
+                found[path_of(view, "atom")] = self.feed(view)
         found.update(self.old_links(found))
         return found
 
@@ -143,6 +151,8 @@ class Site:
             links.append(link(file, self.labels.word("Calendar for a telephone"), "calendar"))
             # to be copied where a telephone does not open the other one
             links.append(link(file, self.labels.word("Address of the calendar")))
+        if week.view.kind in PEOPLE:
+            links.append(link(os.path.basename(path_of(week.view, "atom")), self.labels.word(NEWS)))
         nav = f"<nav>{' '.join(links)}</nav>\n"
         script = FOLLOW if has_calendar else ""
         below = self.single_dates(week.view) + self.changes_of(week.view)
@@ -164,6 +174,21 @@ class Site:
         assert place is not None
         where = f"{self.labels.word(word)} {self.wording.place(place)}"
         return f"{self.wording.course(shift.course)}: {where}"
+
+    def feed(self, view: View) -> bytes:
+        """What has changed in a week, for who wants to be told."""
+        entries = [
+            Entry(
+                published.stamp or published.time,
+                published.stamp or f"{published.time.replace(' ', 'T')}:00Z",
+                self.title_of(published),
+                [self.shift(shift) for shift in shifts],
+            )
+            for published, shifts in self.changed.get(view, [])[:SHOWN]
+        ]
+        name = f"urn:timedesk:{self.book.plan}:{quote(f'{view.kind}/{view.name}')}"
+        page_file = os.path.basename(path_of(view, "html"))
+        return feed(name, shown(self.labels.said(*view)), quote(page_file), entries)
 
     def single_dates(self, view: View) -> str:
         """The dates on which something is not as in the week."""
