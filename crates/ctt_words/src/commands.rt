@@ -279,7 +279,7 @@ const DESK_COMMANDS: &[Outline] = &[
             ),
             Argument::Flag(
                 "byte",
-                "Take the number as that of a byte, from 0, as the faults I1, S1 and J1 count them",
+                "Take the number as that of a byte, from 0, as I1, S1, B1, L1, J1 and torn minutes count it",
             ),
         ],
     },
