@@ -128,7 +128,7 @@ def check_drawn(folder):
             if refused:
                 ended, _, complaint = call("check", given[0], files[-1], *given[2:])
                 check(f"drawn solutions {n}: refused", (ended, complaint[:19]), (1, "timedesk: solution "))
-                points += [complaint.replace("timedesk: ", f"timedesk: {files[-1]}: ", 1), f"{files[-1]}:1:1: S3: no course one\n"]
+                points += [complaint.replace("timedesk: ", f"timedesk: {files[-1]}: ", 1), f"{files[-1]}:1:1: S3: lecture 1: course: no course one\n"]
                 said += points[-2]
                 left_out.append((len(files) - 1, refused_row([*columns(instance), "fault"], files[-1], complaint[19:].rstrip("\n"))))
             else:
