@@ -113,7 +113,7 @@ Example: timedesk check spring.ctt spring.sol --explain",
             BLOCKED,
             Argument::Flag(
                 "sort",
-                "Print the lawful and complete ones first, then the lawful ones, each by their costs",
+                "Print those that break the hard rules least first, and of these the cheapest",
             ),
             Argument::Flag("csv", "Print the rows as CSV"),
             Argument::Flag("json", "Print the rows as a JSON array"),
