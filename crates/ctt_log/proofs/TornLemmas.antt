@@ -1,10 +1,8 @@
 -- Where what is torn begins, and minutes that are cut there.
-use Rattle.std.proofs.Common.{◌≡◌, ◌∙◌, ◌≤◌, ◌-◌, ◌+◌, ◌⊎◌, inl, inr, ℕ, zero, suc, Bool, true, false, List, [], ◌∷◌, ◌++◌, Option, Some, None, Ok, append-nil, append_assoc, ap, arith, drop, is_some, length, refl, subst, sym, take, take-append-drop}
-use Rattle.std.proofs.lemmas.List.{length-append, take-append-le, take-take, take_all}
+use Rattle.std.proofs.Common.{◌≡◌, ◌∙◌, ◌≤◌, ◌-◌, ◌+◌, ◌⊎◌, inl, inr, ℕ, false, List, [], ◌∷◌, ◌++◌, Option, Some, None, Ok, append-nil, append_assoc, ap, arith, drop, is_some, length, refl, subst, sym, take, take-append-drop}
+use Rattle.std.proofs.lemmas.List.{length-append, take-append-le, take_all}
 use Rattle.ctt_text.specs.Forms.{Form, read}
 use Rattle.ctt_text.specs.Left.{Left}
-use Rattle.ctt_text.specs.Reading.{reading}
-use Rattle.ctt_text.specs.TextPlaces.{before_word}
 use Rattle.ctt_text.specs.Words.{words}
 use Rattle.ctt_text.proofs.FormLaws.{fills_read, read_fills}
 use Rattle.ctt_problem.specs.Problem.{Problem}
@@ -12,7 +10,7 @@ use Rattle.ctt_core.specs.declared.journal.JournalEntry.{JournalEntry}
 use Rattle.ctt_script.specs.Journals.{entry_form}
 use Rattle.ctt_script.specs.JournalWords.{missing_word}
 use Rattle.ctt_log.specs.Blocks.{AreBlocks}
-use Rattle.ctt_log.specs.Recovery.{AreEntries, BeginsLineOf, CutLosesNothing, EndsLine, HasNoNewline, HasWordsBefore, IsRecovered, IsStop, IsTail, IsTornAfter, IsTornAt, IsTornIn, IsTornPlace, SharesLine}
+use Rattle.ctt_log.specs.Recovery.{AreEntries, CutLosesNothing, EndsLine, IsRecovered, IsStop, IsTail, IsTornAfter, SharesLine}
 use Rattle.ctt_log.proofs.RecoveryLemmas.{lines_apart}
 
 -- ---- what blocks take of the words
@@ -121,25 +119,3 @@ cut_loses_nothing i text entries at is =
     by : ((at ≤ length is.lines) × IsRecovered i (take at is.lines) entries false) ⊎ SharesLine is.lines at → IsRecovered i (take at text) entries false ⊎ SharesLine is.lines at
     by (inl kept) = inl (subst (λ t. IsRecovered i t entries false) (sym (ap (take at) is.all ∙ take-append-le at is.lines is.tail kept.0)) kept.1)
     by (inr shares) = inr shares
-
--- ---- the place of an entry
-
-length_take : (n : ℕ) (xs : List ℕ) → n ≤ length xs → length (take n xs) ≡ n
-length_take zero xs le = refl
-length_take (suc n) [] le = absurd (omega (arith, le))
-length_take (suc n) (x ∷ xs) le = (let less : n ≤ length xs = omega (arith, le) in let more = length_take n xs less in omega (arith, more))
-
--- the line that begins there, and the word that begins there
-pub line_begins : (lines : List ℕ) (n word line : ℕ) → word ≤ length lines → take word lines ≡ before_word n lines → line ≤ length (take word lines) → EndsLine (take line (take word lines)) → HasNoNewline (drop line (take word lines))
-    → BeginsLineOf lines n line
-line_begins lines n word line in_lines front in_front ends unended =
-    let size = length_take word lines in_lines in
-    let before : line ≤ word = omega (arith, in_front, size) in
-    record {
-      within = omega (arith, before, in_lines);
-      ends = subst EndsLine (take-take line word lines before) ends;
-      unended = subst (λ bytes. HasNoNewline (drop line bytes)) front unended;
-    }
-
-pub word_begins : (lines : List ℕ) (n word : ℕ) → word ≤ length lines → take word lines ≡ before_word n lines → word ≡ length (before_word n lines)
-word_begins lines n word in_lines front = sym (length_take word lines in_lines) ∙ ap length front
