@@ -1,4 +1,4 @@
-use Rattle.std.proofs.Common.{◌≡◌, is_some, subst}
+use Rattle.std.proofs.Common.{is_some, subst}
 use Rattle.std.proofs.lemmas.Option.{IfSome_then}
 use Rattle.ctt_log.specs.Recovery.{AreEntries}
 use Rattle.ctt_log.proofs.RecoveryLemmas.{entries_fit, entries_hold, entries_short}
