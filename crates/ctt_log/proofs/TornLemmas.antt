@@ -38,11 +38,11 @@ blocks_front missing form left rest (a ∷ xs) is =
       all = r.all ∙ ap (λ ws. r.front ++ ws) o.all ∙ sym (append_assoc r.front o.front rest.words);
       next = omega (arith, r.next, o.next, long);
       alone = λ more. (
-          record { words = o.front ++ more; next = is.0.next },
-          ap (λ ws. read missing form ws left.next) (append_assoc r.front o.front more)
-              ∙ fills_read missing form r.front (o.front ++ more) left.next a r.fills
-              ∙ ap (λ n. Ok (a, record { words = o.front ++ more; next = n })) (sym r.next),
-          o.alone more,
+        record { words = o.front ++ more; next = is.0.next },
+        ap (λ ws. read missing form ws left.next) (append_assoc r.front o.front more)
+            ∙ fills_read missing form r.front (o.front ++ more) left.next a r.fills
+            ∙ ap (λ n. Ok (a, record { words = o.front ++ more; next = n })) (sym r.next),
+        o.alone more,
       );
     }
 

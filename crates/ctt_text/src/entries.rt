@@ -125,7 +125,7 @@ fn curriculum_in(words: &mut Words, count: u32, place: u64) -> (u32, u64)
 fn curriculum_entry(alloc: Global, text: &[u8], place: u64) -> Result<String, AllocError>
     ensures { IfOk result (λ entry. string_bytes entry
         ≡ curriculum_at (curriculum_in (stated 12 (words text.now)) 0 place
-            (after_rooms (words text.now))) (stated 12 (words text.now))) }
+        (after_rooms (words text.now))) (stated 12 (words text.now))) }
 {
     let count = stated(text, 12);
     let before = 17 + 5 * u64::from(stated(text, 4)) + 2 * u64::from(stated(text, 6));

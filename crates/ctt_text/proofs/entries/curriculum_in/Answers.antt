@@ -22,9 +22,9 @@ loop-number-preserved c =
     let less : n < count = omega (arith, c.loop-number-test.true) in
     let after : 2 + stated 2 ws ≤ left = omega (arith, c.if-left-len.false, made.len) in (
       ap (λ m. curriculum_in (count - (n + 1)) (n + 1) (left - m) c.skip_curriculum-len.new.words) made.len
-      ∙ ap (curriculum_in (count - (n + 1)) (n + 1) (left - (2 + stated 2 ws))) made.rest
-      ∙ sym (place_after_curriculum ws n count left less after)
-      ∙ c.loop-number.invariant.0,
+          ∙ ap (curriculum_in (count - (n + 1)) (n + 1) (left - (2 + stated 2 ws))) made.rest
+          ∙ sym (place_after_curriculum ws n count left less after)
+          ∙ c.loop-number.invariant.0,
       omega (arith, less),
     )
 
