@@ -90,10 +90,10 @@ _office_known() {
 
 # Adds the options of a command that are not given yet.
 _timedesk_options() {
-    local option options='' one='--(course|curriculum|room|teacher)'
+    local option options='' one='--(course|curriculum|grids|room|teacher)'
     _timedesk_known "$2"
     for option in $options; do
-        # a week is that of one thing alone
+        # a week is that of one thing alone, and grids of a kind are all of them
         if [[ $3 != *" $option "* ]] && ! [[ $option =~ ^$one$ && $3 =~ \ $one\  ]]; then
             _timedesk_words "$1" "$option"
         fi

@@ -12,6 +12,7 @@ import random
 import subprocess
 import sys
 import tempfile
+import unicodedata
 
 sys.dont_write_bytecode = True
 from drawn import draw_blocked, draw_instance, draw_solution  # noqa: E402
@@ -54,10 +55,9 @@ def words(cells):
 
 
 def rank(cells):
-    """What a row of an instance is sorted by: lawful and complete, then lawful, then the others, then those that are refused; by the
-    total, and by the bytes of the name."""
-    kind = 3 if cells["lawful"] is None else 0 if cells["complete"] else 1 if cells["lawful"] else 2
-    return kind, cells["total"] or 0, cells["file"].encode()
+    """What a row of an instance is sorted by: those that are read before those that are refused; by violations, by the total, and by
+    the bytes of the name."""
+    return cells["lawful"] is None, cells["violations"] or 0, cells["total"] or 0, cells["file"].encode()
 
 
 def aligned(head, rows):
@@ -128,7 +128,7 @@ def check_drawn(folder):
             if refused:
                 ended, _, complaint = call("check", given[0], files[-1], *given[2:])
                 check(f"drawn solutions {n}: refused", (ended, complaint[:19]), (1, "timedesk: solution "))
-                points += [complaint.replace("timedesk: ", f"timedesk: {files[-1]}: ", 1), f"{files[-1]}:1:1: S3: no course one\n"]
+                points += [complaint.replace("timedesk: ", f"timedesk: {files[-1]}: ", 1), f"{files[-1]}:1:1: S3: lecture 1: course: no course one\n"]
                 said += points[-2]
                 left_out.append((len(files) - 1, refused_row([*columns(instance), "fault"], files[-1], complaint[19:].rstrip("\n"))))
             else:
@@ -186,8 +186,8 @@ def check_list(name, text, head, groups, folder):
     check(f"{name}: of standard input", (done.returncode, done.stdout.decode(), done.stderr.decode()), wanted)
 
 
-def check_refused_list(name, text, fault, folder):
-    """Compares what is said of a list of pairs that is refused, and of its point."""
+def check_refused_list(name, text, fault, folder, begins=""):
+    """Compares what is said of a list of pairs that is refused, and of its point; `begins` is what is said of how it begins."""
     file = os.path.join(folder, "list.txt")
     write(file, text)
     said = f"timedesk: pairs {fault}\n"
@@ -197,6 +197,7 @@ def check_refused_list(name, text, fault, folder):
         "P1": "a name that is not UTF-8",
         "P2": "expected two words, an instance and a solution of it",
         "P3": "a name is that of a file, not of standard input",
+        "P4": begins,
     }[code]
     said += f"{file}:{line}:1: {code}: {sentence}\n"
     check_run(f"{name}: its point", "compare", "--pairs", file, "--point", said=said, status=1)
@@ -241,6 +242,15 @@ def check_pairs(folder):
     ):
         check_refused_list(f"pairs {text}", text.encode(), fault, folder)
     check_refused_list("pairs of bytes", pair.encode() + b"a\xff b\n", "P1 2", folder)
+    for said, text in [
+        ("the file begins with a byte order mark", b"\xef\xbb\xbf" + pair.encode()),
+        ("the file begins with a byte order mark", b"\xef\xbb\xbf\n" + pair.encode()),
+        ("the file is UTF-16, not UTF-8", b"\xff\xfe" + pair.encode("utf-16-le")),
+        ("the file is UTF-16, not UTF-8", b"\xfe\xff" + pair.encode("utf-16-be")),
+        ("the file is UTF-32, not UTF-8", b"\xff\xfe\0\0" + pair.encode("utf-32-le")),
+        ("the file is UTF-32, not UTF-8", b"\0\0\xfe\xff" + pair.encode("utf-32-be")),
+    ]:
+        check_refused_list(f"pairs that begin with {text[:4]!r}", text, "P4 1", folder, said)
     none = os.path.join(folder, "none")
     check_run("no list of pairs", "compare", "--pairs", none, said=f"timedesk: cannot read {none}\n", status=3)
     beside = "timedesk: --pairs names the files: no INSTANCE, SOLUTION, --barred or --blocked beside it\n"
@@ -270,9 +280,22 @@ def shown(file, text, number):
     start = begins[number - 1]
     lead = text[text.rfind(b"\n", 0, start) + 1:start].decode()
     line = text[start - len(lead.encode()):].split(b"\n")[0].decode()
-    mark = "".join("\t" if character == "\t" else " " for character in lead) + "^"
+    mark = below(lead) + "^"
     word = text[start:].split()[0].decode()
     return f"{file}:{1 + text.count(bytes([10]), 0, start)}:{1 + len(lead)}: {word}\n{line}\n{mark}\n"
+
+
+def below(lead):
+    """What is below a line before the mark: a tab below a tab, and as many blanks below another character as it is wide."""
+    return "".join("\t" if character == "\t" else " " * (unicodedata.category(character) != "Cc") * width(character) for character in lead)
+
+
+def below_bytes(lead):
+    """The same below bytes, which are one blank wide where they are not UTF-8."""
+    try:
+        return below(lead.decode()).encode()
+    except UnicodeDecodeError:
+        return b"".join(b"\t" if byte == 9 else b" " for byte in lead if byte & 0xC0 != 0x80)
 
 
 def place(file, front):
@@ -289,7 +312,7 @@ def check_bytes(folder):
         front, what = text[:number], text[number]
         lead = front.split(b"\n")[-1]
         line = lead + text[number:].split(b"\n")[0]
-        mark = b"".join(b"\t" if byte == 9 else b" " for byte in lead if byte & 0xC0 != 0x80) + b"^"
+        mark = below_bytes(lead) + b"^"
         wanted = f"{place(file, front)}0x{what:02x}\n".encode() + line + b"\n" + mark + b"\n"
         done = subprocess.run([PROGRAM, "where", file, str(number), "--byte"], capture_output=True, timeout=300)
         check(f"byte {number}", (done.returncode, done.stdout, done.stderr), (0, wanted, b""))

@@ -66,7 +66,8 @@ offers $'--explain' timedesk check --e
 offers $'--barred\n--blocked\n--course\n--curriculum\n--help\n--point\n--room\n--teacher' timedesk week small.ctt monday.sol --
 offers $'--barred\n--blocked\n--help\n--point' timedesk week small.ctt monday.sol --room A --
 offers $'--barred\n--blocked\n--course\n--curriculum\n--days\n--grids\n--help\n--plain\n--point\n--room\n--teacher' timedesk page small.ctt monday.sol --
-offers $'--barred\n--blocked\n--days\n--grids\n--help\n--point' timedesk page small.ctt monday.sol --plain --teacher t1 --
+offers $'--barred\n--blocked\n--days\n--help\n--point' timedesk page small.ctt monday.sol --plain --teacher t1 --
+offers $'--barred\n--blocked\n--days\n--help\n--plain\n--point' timedesk page small.ctt monday.sol --grids rooms --
 offers $'courses\ncurricula\nrooms\nteachers' timedesk page small.ctt monday.sol --grids ''
 offers $'t1\nt2' timedesk page small.ctt monday.sol --plain --teacher ''
 offers 'mon,tue,wed,thu,fri' timedesk page small.ctt monday.sol --days ''

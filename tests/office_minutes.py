@@ -102,6 +102,7 @@ def cuts():
         if call("journal", SMALL, path) != (0, journal, said):
             wrong.append(length)
     check("minutes cut at each byte", wrong, [])
+    torn_elsewhere(path, entries)
     for name, text, word in [
         ("a word that is none", "entry 0 0\nfoo 0 0\n", 4),
         ("a planner that is none", "entry 1000 0\n", 2),
@@ -111,6 +112,31 @@ def cuts():
         with open(path, "w") as file:
             file.write(text)
         check(name, call("journal", SMALL, path), (1, "", f"timedesk: journal J3 {word}\n"))
+
+
+def torn_elsewhere(path, entries):
+    """The byte at which an entry is torn in minutes that no desk has written so; who cuts there loses no entry."""
+    journal = f"journal 2\n{entries[0]}{entries[1]}END.\n"
+    for name, changed in [
+        ("returns", lambda text: text.replace("\n", "\r\n")),
+        ("doubled blanks", lambda text: text.replace(" ", " \t ")),
+        ("leading zeros", lambda text: text.replace(" 0", " 000")),
+        ("empty lines", lambda text: text.replace("\n", "\n\n \n")),
+    ]:
+        whole = changed(entries[0] + entries[1]).encode()
+        for torn in "entry 0 3", "entry 0 3\n", "entry 0 3\nplace geo A 0 1\ndone", "entry 0 3\nplace geo A 0 1\ndone\n":
+            text = whole + changed(torn).encode()
+            with open(path, "wb") as file:
+                file.write(text)
+            status, printed, said = call("journal", SMALL, path)
+            check(f"{name}: torn {torn!r}", (status, printed, said), (0, journal, f"timedesk: torn at byte {len(whole)}\n"))
+            with open(path, "wb") as file:
+                file.write(text[:len(whole)])
+            check(f"{name}: cut {torn!r}", call("journal", SMALL, path), (0, journal, ""))
+    with open(path, "w") as file:
+        file.write(entries[1].strip() + " entry 0 1\nplace geo\n")
+    said = "timedesk: torn at byte 10\n"
+    check("torn in the line of a whole entry", call("journal", SMALL, path), (0, "journal 1\nentry 0 0\nEND.\n", said))
 
 
 def lists():

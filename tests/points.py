@@ -40,28 +40,32 @@ class Reader:
     """Reads the words of a text one after another."""
 
     def __init__(self, text, kind):
-        self.text, self.kind, self.at = text, kind, 0
+        self.text, self.kind, self.at, self.entry = text, kind, 0, ""
         self.words = [(found.start(), found.group()) for found in re.finditer(rb"[^\t-\r ]+", text)]
 
     def fail(self, code, sentence):
         """The word that was read last is wrong."""
         byte, _ = self.words[self.at - 1]
         if self.at == 1 and self.text[:3] == b"\xef\xbb\xbf":
-            sentence = "the file begins with a byte order mark"
-        raise Broken(Fault(self.kind + code, self.at, byte, sentence))
+            raise Broken(Fault(self.kind + code, self.at, byte, "the file begins with a byte order mark"))
+        raise Broken(Fault(self.kind + code, self.at, byte, self.entry + sentence))
+
+    def field(self, entry="", field=""):
+        """Which entry the next word is in, and which of its fields; nothing if it is in none."""
+        self.entry = f"{entry}: {field}: " if entry else ""
 
     def word(self, end):
         """The next word; `end` says where the words end that lack it."""
         if self.at == len(self.words):
             byte = len(self.text[:self.words[-1][0]] + self.words[-1][1]) if self.words else 0
-            raise Broken(Fault(self.kind + "2", self.at + 1, byte, f"the words end {end}"))
+            raise Broken(Fault(self.kind + "2", self.at + 1, byte, f"{self.entry}the words end {end}"))
         self.at += 1
         return self.words[self.at - 1][1].decode()
 
     def fixed(self, end, wanted):
         word = self.word(end)
         if word not in wanted:
-            if word == "Min_Max_Daily_Lectures:" and self.kind == "I":
+            if word == "Min_Max_Daily_Lectures:" and self.kind == "I" and self.at == 13:
                 self.fail("3", "this is the extended format (.ectt), which is not read")
             self.fail("3", f"expected {wanted[0] if len(wanted) == 1 else 'room, teacher or course'}, found {shown(word)}")
         return word
@@ -117,37 +121,66 @@ def read_instance(text):
         old.append(word)
 
     reader.fixed("before COURSES:", ["COURSES:"])
-    for _ in range(courses):
+    for number in range(1, courses + 1):
+        entry = f"course {number} of {courses}"
+        reader.field(entry, "name")
         new_name("before a course, which has five", names)
+        reader.field(entry, "teacher")
         reader.word("in a course, which has five")
-        for _ in range(3):
+        for field in ("lectures", "days", "students"):
+            reader.field(entry, field)
             reader.number("in a course, which has five", "4")
+    reader.field()
     reader.fixed("before ROOMS:", ["ROOMS:"])
     old = []
-    for _ in range(rooms):
+    for number in range(1, rooms + 1):
+        entry = f"room {number} of {rooms}"
+        reader.field(entry, "name")
         new_name("before a room, which has two", old)
+        reader.field(entry, "seats")
         reader.number("in a room, which has two", "4")
+    reader.field()
     reader.fixed("before CURRICULA:", ["CURRICULA:"])
-    old, end = [], "in the curricula, each a name, a number and so many courses"
-    for _ in range(curricula):
-        new_name(end, old)
-        for _ in range(reader.number(end, "4")):
-            reader.name(end, "7", names, "no course")
+    read_curricula(reader, curricula, names, new_name)
+    reader.field()
     reader.fixed("before UNAVAILABILITY_CONSTRAINTS:", ["UNAVAILABILITY_CONSTRAINTS:"])
-    for _ in range(constraints):
+    for number in range(1, constraints + 1):
+        entry = f"unavailability {number} of {constraints}"
+        reader.field(entry, "course")
         reader.name("before an unavailability, which has three", "7", names, "no course")
-        for limits in day_and_period(days, periods, "89"):
+        for field, limits in zip(("day", "period"), day_and_period(days, periods, "89")):
+            reader.field(entry, field)
             reader.number("in an unavailability, which has three", "4", limits)
+    reader.field()
     reader.fixed("before END.", ["END."])
+
+
+def read_curricula(reader, curricula, names, new_name):
+    old, end = [], "in the curricula, each a name, a number and so many courses"
+    for number in range(1, curricula + 1):
+        entry = f"curriculum {number} of {curricula}"
+        reader.field(entry, "name")
+        new_name(end, old)
+        reader.field(entry, "number of courses")
+        count = reader.number(end, "4")
+        reader.field(entry, "course")
+        for _ in range(count):
+            reader.name(end, "7", names, "no course")
 
 
 def read_solution(text, instance):
     reader, seen = Reader(text, "S"), set()
     end = "in an entry, which has four"
     while reader.at < len(reader.words):
+        entry = f"lecture {reader.at // 4 + 1}"
+        reader.field(entry, "course")
         course = reader.name(end, "3", [it[0] for it in instance.courses], "no course")
+        reader.field(entry, "room")
         reader.name(end, "4", [it[0] for it in instance.rooms], "no room")
-        slot = [reader.number(end, "5", limits) for limits in day_and_period(instance.days, instance.periods, "67")]
+        slot = []
+        for field, limits in zip(("day", "period"), day_and_period(instance.days, instance.periods, "67")):
+            reader.field(entry, field)
+            slot.append(reader.number(end, "5", limits))
         if (course, *slot) in seen:
             reader.fail("8", f"the course has a lecture in this slot already: period {shown(reader.words[reader.at - 1][1].decode())}")
         seen.add((course, *slot))
@@ -156,9 +189,13 @@ def read_solution(text, instance):
 def read_pairs(text, instance):
     reader = Reader(text, "B")
     reader.fixed("before Barred:", ["Barred:"])
-    for _ in range(reader.number("before the number of entries", "4", [("5", 2000000, "more than 2,000,000 pairs: WORD")])):
+    count = reader.number("before the number of entries", "4", [("5", 2000000, "more than 2,000,000 pairs: WORD")])
+    for number in range(1, count + 1):
+        reader.field(f"pair {number} of {count}", "course")
         reader.name("before a pair, which has two", "6", [it[0] for it in instance.courses], "no course")
+        reader.field(f"pair {number} of {count}", "room")
         reader.name("in a pair, which has two", "7", [it[0] for it in instance.rooms], "no room")
+    reader.field()
     reader.fixed("before END.", ["END."])
 
 
@@ -166,11 +203,17 @@ def read_closures(text, instance):
     reader = Reader(text, "L")
     names = {"room": [it[0] for it in instance.rooms], "teacher": instance.teachers, "course": [it[0] for it in instance.courses]}
     reader.fixed("before Blocked:", ["Blocked:"])
-    for _ in range(reader.number("before the number of entries", "4", [("5", 2000000, "more than 2,000,000 entries: WORD")])):
+    count = reader.number("before the number of entries", "4", [("5", 2000000, "more than 2,000,000 entries: WORD")])
+    for number in range(1, count + 1):
+        entry = f"entry {number} of {count}"
+        reader.field(entry, "kind")
         kind = reader.fixed("before an entry, which has four", list(names))
+        reader.field(entry, "name")
         reader.name("in an entry, which has four", "6", names[kind], f"no {kind}")
-        for limits in day_and_period(instance.days, instance.periods, "78"):
+        for field, limits in zip(("day", "period"), day_and_period(instance.days, instance.periods, "78")):
+            reader.field(entry, field)
             reader.number("in an entry, which has four", "4", limits, star=True)
+    reader.field()
     reader.fixed("before END.", ["END."])
 
 
@@ -187,14 +230,21 @@ READERS = {"instance": lambda text, _: read_instance(text), "solution": read_sol
            "journal": read_journal}
 
 
+def wide(text):
+    """What is said of a text that begins as one of UTF-32 or UTF-16 does."""
+    for said, marks in (("UTF-32", (b"\xff\xfe\0\0", b"\0\0\xfe\xff")), ("UTF-16", (b"\xff\xfe", b"\xfe\xff"))):
+        if text.startswith(marks):
+            return f"the file is {said}, not UTF-8"
+    return ""
+
+
 def fault_of(kind, text, instance):
     """The first fault of a text, or none."""
     try:
         text.decode()
     except UnicodeDecodeError as fault:
-        is_utf16 = text[:2] in (b"\xff\xfe", b"\xfe\xff")
         code = {"blocked": "L"}.get(kind, kind[0].upper())
-        return Fault(code + "1", fault.start, fault.start, "the file is UTF-16, not UTF-8" if is_utf16 else "not UTF-8 from this byte on")
+        return Fault(code + "1", fault.start, fault.start, wide(text) or "not UTF-8 from this byte on")
     try:
         READERS[kind](text, instance)
     except Broken as broken:
@@ -216,6 +266,8 @@ def break_text(draw, text, ways):
         return b"\xef\xbb\xbf" + text
     if way == "UTF-16":
         return draw.choice((b"\xff\xfe", b"\xfe\xff")) + text.decode().encode(draw.choice(("utf-16-le", "utf-16-be")))
+    if way == "UTF-32":
+        return text.decode().encode("utf-32") if draw.random() < 0.5 else b"\0\0\xfe\xff" + text.decode().encode("utf-32-be")
     if way == "empty" or not words:
         return draw.choice((b"", b" \r\n\t", "ö".encode()))
     number = draw.randrange(len(words))

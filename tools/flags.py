@@ -30,7 +30,7 @@ COMPLETION = DOCS / "completion.bash"
 
 # what no help says: of these options one may be given; these are given together
 EITHER = (
-    ("--curriculum", "--teacher", "--course", "--room"),
+    ("--curriculum", "--teacher", "--course", "--room", "--grids"),
     ("--csv", "--json"),
     ("--html", "--csv", "--ics"),
     ("--socket", "--port"),

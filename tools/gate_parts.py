@@ -44,7 +44,7 @@ EDITS = Part("edits")
 # These rows are worked on at the same time, each in turn. Edits are tried, and the page of checks
 # is made, over what the proofs leave; tests of screens wait more than they work.
 ROWS = (
-    (test("script.sh"), test("proved.py"), test("gate.py"), test("edits_tool.py")),
+    (*map(test, ("script.sh", "proved.py", "named.py", "gate.py", "edits_tool.py")),),
     (PROOFS, test("check_page.py", Need.PROGRAM), EDITS),
     (
         *tests_of_program("runs.py", "findings.py", "points.py", "peeks.py", "week.py"),

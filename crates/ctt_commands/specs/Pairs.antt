@@ -1,10 +1,11 @@
 -- The text of pairs: lines of an instance and a solution of it, by the names of their files.
-use Rattle.std.specs.Prelude.{◌≡◌, ℕ, ◌+◌, ◌==◌, ◌&&◌, ◌||◌, Bool, not, List, [], ◌∷◌, ◌++◌, Result, Ok, Err, codes, filter, map, string_bytes, if◌then◌else◌}
+use Rattle.std.specs.Prelude.{◌≡◌, ℕ, ◌+◌, ◌==◌, ◌&&◌, ◌||◌, Bool, not, List, [], ◌∷◌, ◌++◌, Option, Some, None, Result, Ok, Err, codes, filter, is_some, map, string_bytes, if◌then◌else◌}
 use Rattle.std.specs.Fmt.{decimal}
 use Rattle.std.specs.Global.{Global}
 use Rattle.std.specs.List.{list_any, slice_split}
 use Rattle.std.specs.Str.{bytes_eq, is_utf8}
 use Rattle.std.specs.declared.string.String.{String}
+use Rattle.ctt_text.specs.Points.{encoding_said}
 use Rattle.ctt_text.specs.Words.{words}
 use Rattle.ctt_files.specs.declared.fault.ContentsFault.TheVariants.{Pairs}
 use Rattle.ctt_files.specs.declared.fault.Fault.{Fault}
@@ -48,9 +49,9 @@ pairs_from n (line ∷ lines) = joined_pairs n (pair_in (words line)) (pairs_fro
 abbrev pub lines_in : List ℕ → List (List ℕ)
 lines_in text = slice_split (λ b. b == 10) text
 
--- the pairs in a text
+-- the pairs in a text; one that begins as no list does is refused in its first line
 abbrev pub pairs_in : List ℕ → Result (List NamePair) (ℕ × ℕ)
-pairs_in text = pairs_from 1 (lines_in text)
+pairs_in text = if is_some (encoding_said text) then Err (4, 1) else pairs_from 1 (lines_in text)
 
 -- what a line has
 abbrev pub line_value : Line → Result (List NamePair) ℕ
@@ -65,29 +66,33 @@ pairs_sentence number = if number == 1 then codes "a name that is not UTF-8"
     else codes "a name is that of a file, not of standard input"
 
 -- the line that says where the text of the file of this name is refused, and why
-abbrev pub pairs_point : List ℕ → ℕ → ℕ → List ℕ
-pairs_point file number at = file ++ (codes ":" ++ (decimal at ++ (codes ":1: P"
-    ++ (decimal number ++ (codes ": " ++ (pairs_sentence number ++ codes "\n"))))))
+abbrev pub pairs_point : List ℕ → ℕ → ℕ → List ℕ → List ℕ
+pairs_point file number at sentence = file ++ (codes ":" ++ (decimal at ++ (codes ":1: P"
+    ++ (decimal number ++ (codes ": " ++ (sentence ++ codes "\n"))))))
 
--- the fault of this number in this line of the file of this name
-abbrev pub IsPairsFault : List ℕ → ℕ → ℕ → Fault → Type 0
-IsPairsFault file number at fault = (point : String Global)
-    × (string_bytes point ≡ pairs_point file number at)
+-- the fault of this number in this line of the file of this name, with what is said of it
+abbrev pub IsPairsFault : List ℕ → ℕ → ℕ → List ℕ → Fault → Type 0
+IsPairsFault file number at sentence fault = (point : String Global)
+    × (string_bytes point ≡ pairs_point file number at sentence)
     × (fault ≡ Contents (Pairs number at point))
 
 -- the fault of a line with this number in the file of this name
 abbrev pub IsFaultOfLine : List ℕ → ℕ → List ℕ → Fault → Type 0
 IsFaultOfLine file at line fault =
-    (number : ℕ) × (pair_in (words line) ≡ Err number) × IsPairsFault file number at fault
+    (number : ℕ) × (pair_in (words line) ≡ Err number) × IsPairsFault file number at (pairs_sentence number) fault
 
 -- the fault of a text with these lines
 abbrev pub IsFaultOfLines : List ℕ → List (List ℕ) → Fault → Type 0
 IsFaultOfLines file lines fault =
-    (number at : ℕ) × (pairs_from 1 lines ≡ Err (number, at)) × IsPairsFault file number at fault
+    (number at : ℕ) × (pairs_from 1 lines ≡ Err (number, at)) × IsPairsFault file number at (pairs_sentence number) fault
 
--- the text of the pairs in the file of this name is refused
+-- the text of the pairs in the file of this name is refused: for how it begins, or for a line
+abbrev pub IsNoPairsOf : List ℕ → List ℕ → Option (List ℕ) → Fault → Type 0
+IsNoPairsOf file text (Some said) fault = IsPairsFault file 4 1 said fault
+IsNoPairsOf file text None fault = IsFaultOfLines file (lines_in text) fault
+
 abbrev pub IsNoPairs : List ℕ → List ℕ → Fault → Type 0
-IsNoPairs file text fault = IsFaultOfLines file (lines_in text) fault
+IsNoPairs file text fault = IsNoPairsOf file text (encoding_said text) fault
 
 -- ---- the pairs by their instances
 

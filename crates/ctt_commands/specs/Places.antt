@@ -1,7 +1,9 @@
 -- The place of a word or a byte in a text, and what `where` prints of it.
-use Rattle.std.specs.Prelude.{◌≡◌, ◌⊎◌, ◌-◌, ◌/◌, ◌%◌, ◌≤◌, ◌<◌, ℕ, zero, Bool, true, false, List, [], ◌∷◌, ◌++◌, Option, Some, None, codes, decimal, drop, flat_map, length, string_bytes, take, ◌==◌, if◌then◌else◌}
+use Rattle.std.specs.Prelude.{◌≡◌, ◌⊎◌, ◌-◌, ◌/◌, ◌%◌, ◌≤◌, ◌<◌, ℕ, zero, Bool, true, false, List, [], ◌∷◌, ◌++◌, Option, Some, None, chars, codes, decimal, drop, flat_map, length, replicate, string_bytes, take, unwrap_or, ◌==◌, if◌then◌else◌}
+use Rattle.unicode_width.specs.Width.{char_width}
 use Rattle.std.specs.Fmt.{digits}
 use Rattle.std.specs.Global.{Global}
+use Rattle.std.specs.Str.{is_utf8}
 use Rattle.std.specs.declared.string.String.{String}
 use Rattle.ctt_text.specs.Numbers.{number_of}
 use Rattle.ctt_text.specs.TextPlaces.{HasNoWord, IsWordAt, before_word, begins_char, first_line, last_line, place_text}
@@ -33,15 +35,24 @@ IsNoNumber byte asked file fault = (told name : String Global) × (string_bytes 
 
 -- ---- the place
 
--- what is below a byte of the line before the mark: a tab below a tab, and a blank below another
--- character
-abbrev pub below : ℕ → List ℕ
-below b = if b == 9 then 9 ∷ [] else (if begins_char b then 32 ∷ [] else [])
+-- what is below a character of the line before the mark: a tab below a tab, and as many blanks
+-- below another character as it takes columns of a terminal
+abbrev pub below_char : ℕ → List ℕ
+below_char c = if c == 9 then 9 ∷ [] else replicate (unwrap_or (char_width false c) 0) 32
+
+-- what is below a byte of a line that is not UTF-8: a tab below a tab, and a blank below another
+-- one that begins a character
+abbrev pub below_byte : ℕ → List ℕ
+below_byte b = if b == 9 then 9 ∷ [] else (if begins_char b then 32 ∷ [] else [])
+
+-- what is below the line before the mark
+abbrev pub below : List ℕ → List ℕ
+below line = if is_utf8 line then flat_map below_char (chars line) else flat_map below_byte line
 
 -- the line around a place, with a mark below the character there
 abbrev pub marked_line : List ℕ → ℕ → List ℕ
 marked_line text start = last_line (take start text) ++ (first_line (drop start text)
-    ++ (codes "\n" ++ (flat_map below (last_line (take start text)) ++ codes "^\n")))
+    ++ (codes "\n" ++ (below (last_line (take start text)) ++ codes "^\n")))
 
 -- a place in the text of a file with what is there, its line, and a mark
 abbrev pub shown_place : List ℕ → List ℕ → ℕ → List ℕ → List ℕ

@@ -1,5 +1,5 @@
 -- The order of the rows of a comparison.
-use Rattle.std.specs.Prelude.{◌≡◌, ℕ, Bool, true, false, List, Result, Ok, Err, string_bytes, if◌then◌else◌}
+use Rattle.std.specs.Prelude.{◌≡◌, ℕ, Bool, true, false, List, Result, Ok, Err, string_bytes}
 use Rattle.std.specs.Cmp.Lexicographic.{slice_cmp}
 use Rattle.std.specs.Global.{Global}
 use Rattle.std.specs.List.Sorted.{IsPermutation, IsSorted, IsStable}
@@ -9,20 +9,26 @@ use Rattle.std.specs.declared.string.String.{String}
 use Rattle.ctt_commands.specs.declared.row.Row.{Row}
 use Rattle.ctt_commands.specs.declared.row.Score.{Score}
 
--- 0 if lawful and complete, 1 if lawful, 2 if not, and 3 if the file is refused
+-- 1 if the file is refused
 abbrev pub class_of : Result Score (String Global) → ℕ
-class_of (Ok score) = if score.complete then 0 else (if score.lawful then 1 else 2)
-class_of (Err fault) = 3
+class_of (Ok score) = 0
+class_of (Err fault) = 1
+
+abbrev pub violations_of : Result Score (String Global) → ℕ
+violations_of (Ok score) = score.violations
+violations_of (Err fault) = 0
 
 abbrev pub total_of : Result Score (String Global) → ℕ
 total_of (Ok score) = score.total
 total_of (Err fault) = 0
 
--- by instance, then by class, then by total, then by the name of the file
+-- by instance, then those that are read before those that are refused, then by violations, then by
+-- total, then by the name of the file
 abbrev pub row_cmp : Row → Row → Ordering
-row_cmp = then_cmp (then_cmp (then_cmp
+row_cmp = then_cmp (then_cmp (then_cmp (then_cmp
     (on (λ row. row.number) nat_cmp)
     (on (λ row. class_of row.judged) nat_cmp))
+    (on (λ row. violations_of row.judged) nat_cmp))
     (on (λ row. total_of row.judged) nat_cmp))
     (on (λ row. string_bytes row.file) (slice_cmp nat_cmp))
 

@@ -38,7 +38,7 @@ fn widths(alloc: Global, head: &Texts, rows: &[Texts]) -> Result<Vec<usize>, All
 }
 
 /// Adds blanks.
-fn push_blanks(text: &mut Vec<u8>, count: usize) -> Result<(), AllocError>
+pub(crate) fn push_blanks(text: &mut Vec<u8>, count: usize) -> Result<(), AllocError>
     ensures { OnOk result (text.new.items ≡ text.old.items ++ replicate count 32) }
 {
     for _ in 0..count {

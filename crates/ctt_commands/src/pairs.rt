@@ -9,7 +9,7 @@ ghost use Rattle.ctt_text.specs.Words.{words};
 ghost use Rattle.ctt_commands.specs.Pairs.{IsFaultOfLine, IsFaultOfLines, IsNoPairs, IsPairsFault, NamePair, by_instance, firsts, line_value, lines_in, name_pair, pair_in, pairs_from, pairs_in, pairs_point, pairs_sentence, solutions_of, wanted_of, with_name};
 
 use ctt_files::{ContentsFault, Fault};
-use ctt_text::Words;
+use ctt_text::{Words, encoding_said};
 use std::alloc::{AllocError, Global};
 
 /// An instance and a solution, by the names of their files.
@@ -109,18 +109,30 @@ fn pairs_sentence(number: u8) -> &'static str
 }
 
 /// Returns the line that says where the text of the file of this name is refused, and why.
-fn pairs_point(alloc: Global, file: &str, number: u8, at: u64) -> Result<String, AllocError>
-    ensures { IfOk result (λ text. string_bytes text ≡ pairs_point file.now number at) }
+fn pairs_point(
+    alloc: Global,
+    file: &str,
+    number: u8,
+    at: u64,
+    sentence: &str,
+) -> Result<String, AllocError>
+    ensures { IfOk result (λ text. string_bytes text
+        ≡ pairs_point file.now number at sentence.now) }
 {
-    let sentence = pairs_sentence(number);
     format!(in alloc; "{file}:{at}:1: P{number}: {sentence}\n")
 }
 
 /// Returns the fault of this number in a line of the file of this name.
-fn refuse_line(alloc: Global, file: &str, number: u8, at: u64) -> Result<Fault, AllocError>
-    ensures { IfOk result (IsPairsFault file.now number at) }
+fn refuse_line(
+    alloc: Global,
+    file: &str,
+    number: u8,
+    at: u64,
+    sentence: &str,
+) -> Result<Fault, AllocError>
+    ensures { IfOk result (IsPairsFault file.now number at sentence.now) }
 {
-    let point = pairs_point(alloc, file, number, at)?;
+    let point = pairs_point(alloc, file, number, at, sentence)?;
     Ok(Fault::Contents(ContentsFault::Pairs { number, at, point }))
 }
 
@@ -140,7 +152,10 @@ fn push_line(
     match read_line(alloc, line)? {
         Line::Blank => Ok(()),
         Line::Pair(pair) => Ok(pairs.push(pair)?),
-        Line::Fault(code) => Err(refuse_line(alloc, file, code, number)?),
+        Line::Fault(code) => {
+            let sentence = pairs_sentence(code);
+            Err(refuse_line(alloc, file, code, number, sentence)?)
+        }
     }
 }
 
@@ -166,6 +181,9 @@ pub(crate) fn read_pairs(alloc: Global, file: &str, text: &[u8]) -> Result<Vec<P
     ensures cause { IfErr result (λ fault. (fault ≡ Machine OutOfMemory)
         ⊎ IsNoPairs file.now text.now fault) }
 {
+    if let Some(said) = encoding_said(text) {
+        return Err(refuse_line(alloc, file, 4, 1, said)?);
+    }
     read_lines(alloc, file, &lines(alloc, text)?)
 }
 

@@ -1,28 +1,29 @@
 //! The order of the rows of a comparison.
 
 ghost use Rattle.std.specs.Prelude.{◌≡◌, IfOk, filter};
-ghost use Rattle.ctt_commands.specs.RowOrder.{AreOrdered, AreBestFirst, class_of, row_cmp, total_of};
+ghost use Rattle.ctt_commands.specs.RowOrder.{AreOrdered, AreBestFirst, class_of, row_cmp, total_of, violations_of};
 
 use crate::row::{Row, Score};
 use std::alloc::AllocError;
 use std::cmp::Ordering;
 
-/// Returns 0 if the solution is lawful and complete, 1 if it is lawful, 2 if it is neither, and 3
-/// if its file is refused.
+/// Returns 1 if the file is refused, and else 0.
 fn class(judged: &Result<Score, String>) -> u8
     ensures { result ≡ class_of judged.now }
 {
     match judged {
-        Ok(score) => {
-            if score.complete {
-                0
-            } else if score.lawful {
-                1
-            } else {
-                2
-            }
-        }
-        Err(_) => 3,
+        Ok(_) => 0,
+        Err(_) => 1,
+    }
+}
+
+/// Returns how often a solution breaks a hard rule, or 0 if its file is refused.
+fn violations(judged: &Result<Score, String>) -> u64
+    ensures { result ≡ violations_of judged.now }
+{
+    match judged {
+        Ok(score) => score.violations,
+        Err(_) => 0,
     }
 }
 
@@ -36,15 +37,20 @@ fn total(judged: &Result<Score, String>) -> u64
     }
 }
 
-/// Compares rows by instance, class, total and name.
+/// Compares rows by instance, class, violations, total and name.
 fn compare_rows(a: &Row, b: &Row) -> Ordering
     ensures { result ≡ row_cmp a.now b.now }
 {
     let instances = a.number.cmp(&b.number);
     let classes = class(&a.judged).cmp(&class(&b.judged));
+    let violations = violations(&a.judged).cmp(&violations(&b.judged));
     let totals = total(&a.judged).cmp(&total(&b.judged));
     let names = a.file.cmp(&b.file);
-    instances.then(classes).then(totals).then(names)
+    instances
+        .then(classes)
+        .then(violations)
+        .then(totals)
+        .then(names)
 }
 
 /// Sorts rows.

@@ -2,3 +2,4 @@ mod CutLemmas
 pub mod MinutesLemmas
 mod PartLemmas
 mod RecoveryLemmas
+mod TornLemmas

@@ -44,7 +44,7 @@ unfolding read entry_form ◌>>=◌ fixed known one
 lacks_first i n = refl
 
 -- whole lines separate their words from those after them
-lines_apart : (lines rest : List ℕ) → EndsLine lines → words (lines ++ rest) ≡ words lines ++ words rest
+pub lines_apart : (lines rest : List ℕ) → EndsLine lines → words (lines ++ rest) ≡ words lines ++ words rest
 unfolding words
 lines_apart lines rest (inl none) = ap (λ l. words (l ++ rest)) none ∙ sym (ap (λ l. words l ++ words rest) none)
 lines_apart lines rest (inr ended) = ap (λ l. words (l ++ rest)) ended.1 ∙ words_apart ended.0 rest ∙ sym (ap (λ l. words l ++ words rest) ended.1)

@@ -10,11 +10,12 @@ ghost use Rattle.ctt_edits.specs.Fitting.{AreFew};
 ghost use Rattle.ctt_script.specs.Entries.{CanBeWritten, IsShort};
 ghost use Rattle.ctt_script.specs.WrittenText.{entry_text};
 ghost use Rattle.ctt_script.specs.declared.journal_fault.JournalFault.TheVariants.{NoMemory as OutOfMemory};
-ghost use Rattle.ctt_log.specs.Recovery.{EndsLine, IsLinesFault, IsMinutesFault, HasNoNewline, IsReadOf, IsReadWhole, IsRecovered};
+ghost use Rattle.ctt_text.specs.Words.{words};
+ghost use Rattle.ctt_log.specs.Recovery.{EndsLine, HasNoNewline, IsLinesFault, IsMinutesFault, IsReadOf, IsReadWhole, IsRecovered, IsTornAfter, IsTornAt, IsTornIn, IsTornPlace};
 
 use ctt_core::JournalEntry;
-use ctt_script::{JournalFault, read_entry, write_entry};
-use ctt_text::{Instance, NoMemory, Reader, drop_whole};
+use ctt_script::{JournalFault, read_entry};
+use ctt_text::{Instance, Reader, Words, drop_whole, word_place};
 use std::alloc::Global;
 
 /// The most entries that are accepted.
@@ -25,7 +26,7 @@ const ENTRY_LIMIT: u32 = 999_999_999;
 pub struct Blocks {
     /// The entries, in order.
     pub entries: Vec<JournalEntry>,
-    /// The length of these entries in bytes, as a journal has them, if an incomplete entry follows.
+    /// The byte at which what is torn begins, if anything follows these entries.
     pub torn: Option<usize>,
 }
 
@@ -45,41 +46,61 @@ fn lines_len(text: &[u8]) -> usize
     0
 }
 
-/// Returns the length of entries in bytes, as a journal has them.
-fn written_len(
-    alloc: Global,
-    instance: &Instance,
-    entries: &[JournalEntry],
-) -> Result<usize, NoMemory>
-    requires { Each (EntryFits instance.now) entries.now }
-    ensures { IfOk result (λ len.
-        len ≡ length (flat_map (entry_text instance.now) entries.now)) }
+/// Counts the words of a text.
+fn count_words(text: &[u8]) -> usize
+    ensures { result ≡ length (words text.now) }
 {
-    let mut text = String::new(alloc);
-    for entry in entries {
-        write_entry(&mut text, instance, entry.planner, entry.asked.as_slice())?;
-    }
-    Ok(text.len())
+    let _len = text.len();
+    Words::new(text).count()
 }
 
-/// Parses entries to the end, or up to one that lacks a word, and returns whether one does.
+/// Returns the byte at which an incomplete entry begins, by the number of its first word: that of
+/// its line, or that of the word if a whole entry ends in the line.
+fn torn_place(lines: &[u8], number: u64) -> usize
+    ensures { IsTornPlace lines.now number result }
+{
+    let word = word_place(lines, number);
+    let line = lines_len(&lines[..word]);
+    if count_words(&lines[..line]) as u64 == number.saturating_sub(1) {
+        line
+    } else {
+        word
+    }
+}
+
+/// Returns the byte at which what is torn begins: the entry whose first word has this number, or
+/// what follows the lines.
+fn torn_at(lines: &str, lacks: Option<u64>, is_cut: bool) -> Option<usize>
+    ensures torn { is_some result ≡ is_some lacks || is_cut }
+    ensures place { IfSome result (λ at. IsTornAfter lines.now lacks at) }
+{
+    match lacks {
+        Some(number) => Some(torn_place(lines.as_bytes(), number)),
+        None if is_cut => Some(lines.len()),
+        None => None,
+    }
+}
+
+/// Parses entries to the end, or up to one that lacks a word, and returns the number of its first
+/// word.
 fn read_whole(
     alloc: Global,
     reader: &mut Reader,
     instance: &Instance,
     entries: &mut Vec<JournalEntry>,
-) -> Result<bool, JournalFault>
+) -> Result<Option<u64>, JournalFault>
     requires { entries.old.items ≡ [] }
     ensures read { IsReadWhole instance.now reader.old result entries.new.items }
     ensures few { AreFew entries.new.items }
 {
     for _ in 0..ENTRY_LIMIT {
         if reader.is_at_end() {
-            return Ok(false);
+            return Ok(None);
         }
+        let number = reader.next();
         match read_entry(alloc, reader, instance) {
             Ok(entry) => entries.push(entry)?,
-            Err(JournalFault::Missing(_)) => return Ok(true),
+            Err(JournalFault::Missing(_)) => return Ok(Some(number)),
             Err(JournalFault::BadWord(word)) => return Err(JournalFault::BadWord(word)),
             Err(_) => return Err(JournalFault::NoMemory),
         }
@@ -97,8 +118,8 @@ fn read_lines(
     ensures read { IfOk result (λ b. (lacks : Bool)
         × IsReadOf instance.now lines.now b.entries.items lacks
         × (is_some b.torn ≡ lacks || is_cut)) }
-    ensures torn { IfOk result (λ b. IfSome b.torn (λ at.
-        at ≡ length (flat_map (entry_text instance.now) b.entries.items))) }
+    ensures torn { IfOk result (λ b. IfSome b.torn
+        (IsTornIn instance.now lines.now b.entries.items)) }
     ensures fits { IfOk result (λ b. Each (EntryFits instance.now) b.entries.items) }
     ensures few { IfOk result (λ b. AreFew b.entries.items) }
     ensures short { IfOk result (λ b. Each IsShort b.entries.items) }
@@ -114,22 +135,10 @@ fn read_lines(
             return Err(fault);
         }
     };
-    if !lacks && !is_cut {
-        return Ok(Blocks {
-            entries,
-            torn: None,
-        });
-    }
-    match written_len(alloc, instance, &entries) {
-        Ok(len) => Ok(Blocks {
-            entries,
-            torn: Some(len),
-        }),
-        Err(_) => {
-            drop_whole(entries);
-            Err(JournalFault::NoMemory)
-        }
-    }
+    Ok(Blocks {
+        entries,
+        torn: torn_at(lines, lacks, is_cut),
+    })
 }
 
 /// Parses minutes: entries one after another, as a journal has them. An incomplete last entry is
@@ -140,8 +149,8 @@ fn read_lines(
 pub fn read_blocks(alloc: Global, instance: &Instance, text: &[u8]) -> Result<Blocks, JournalFault>
     ensures recovered { IfOk result (λ b.
         IsRecovered instance.now text.now b.entries.items (is_some b.torn)) }
-    ensures torn { IfOk result (λ b. IfSome b.torn (λ at.
-        at ≡ length (flat_map (entry_text instance.now) b.entries.items))) }
+    ensures torn { IfOk result (λ b. IfSome b.torn
+        (IsTornAt instance.now text.now b.entries.items)) }
     ensures fits { IfOk result (λ b. Each (EntryFits instance.now) b.entries.items) }
     ensures few { IfOk result (λ b. AreFew b.entries.items) }
     ensures short { IfOk result (λ b. Each IsShort b.entries.items) }

@@ -5,6 +5,7 @@
 mod begun;
 mod blocks;
 mod durable;
+pub mod log_laws;
 mod log_writer;
 mod write_ahead_log;
 

@@ -1,7 +1,8 @@
 -- Where and why a text is refused: a line of its place, the code of the fault, and a sentence.
-use Rattle.std.specs.Prelude.{ℕ, ◌+◌, ◌-◌, ◌*◌, ◌%◌, List, [], ◌∷◌, ◌++◌, Bool, chars, codes, encode_utf8, flat_map, nat_le, nat_lt, take, ◌==◌, ◌&&◌, ◌||◌, if◌then◌else◌}
+use Rattle.std.specs.Prelude.{ℕ, ◌+◌, ◌-◌, ◌*◌, ◌%◌, List, [], ◌∷◌, ◌++◌, Bool, Option, Some, None, chars, codes, encode_utf8, flat_map, nat_le, nat_lt, take, unwrap_or, ◌==◌, ◌&&◌, ◌||◌, if◌then◌else◌}
 use Rattle.std.specs.Fmt.{take_chars}
 use Rattle.std.specs.Str.{bytes_eq, is_utf8}
+use Rattle.ctt_text.specs.Entries.{closure_entry, instance_entry, lecture_entry, pair_entry}
 use Rattle.ctt_text.specs.FaultCodes.{barred_at, barred_code, blocked_at, blocked_code, instance_at, instance_code, solution_at, solution_code}
 use Rattle.ctt_text.specs.Sections.{fixed_word, limit, nth_word, section_of, stated, unended}
 use Rattle.ctt_text.specs.TextPlaces.{before_word, place_text}
@@ -39,6 +40,19 @@ has_byte_mark text = bytes_eq (take 3 text) (239 ∷ 187 ∷ 191 ∷ [])
 abbrev pub is_utf16 : List ℕ → Bool
 is_utf16 text = bytes_eq (take 2 text) (255 ∷ 254 ∷ []) || bytes_eq (take 2 text) (254 ∷ 255 ∷ [])
 
+-- the text begins as one of UTF-32 does
+abbrev pub is_utf32 : List ℕ → Bool
+is_utf32 text = bytes_eq (take 4 text) (255 ∷ 254 ∷ 0 ∷ 0 ∷ []) || bytes_eq (take 4 text) (0 ∷ 0 ∷ 254 ∷ 255 ∷ [])
+
+-- what is said of a text that begins as one of UTF-32 or of UTF-16 does, of which the first has more
+abbrev pub wide_said : List ℕ → Option (List ℕ)
+wide_said text = if is_utf32 text then Some (codes "the file is UTF-32, not UTF-8")
+    else (if is_utf16 text then Some (codes "the file is UTF-16, not UTF-8") else None)
+
+-- what is said of a text by how it begins
+abbrev pub encoding_said : List ℕ → Option (List ℕ)
+encoding_said text = if has_byte_mark text then Some (codes "the file begins with a byte order mark") else wide_said text
+
 -- the line of a fault after these bytes
 abbrev pub point_line : List ℕ → List ℕ → List ℕ → List ℕ → List ℕ
 point_line file front code sentence = place_text file front ++ (code ++ (codes ": " ++ (sentence ++ codes "\n")))
@@ -51,7 +65,7 @@ word_point file text code n sentence = point_line file (before_word n text) code
 -- a fault of the byte after the first n
 abbrev pub byte_point : List ℕ → List ℕ → List ℕ → ℕ → List ℕ
 byte_point file text code n = point_line file (take n text) code
-    (if is_utf16 text then codes "the file is UTF-16, not UTF-8" else codes "not UTF-8 from this byte on")
+    (unwrap_or (wide_said text) (codes "not UTF-8 from this byte on"))
 
 -- ---- the sentences
 
@@ -73,9 +87,9 @@ no_period words n = about (codes "no period ") words n ++ codes ": periods count
 abbrev pub not_number : List (List ℕ) → ℕ → List ℕ
 not_number words n = about (codes "not a number up to 999,999,999: ") words n
 
--- the extended format has another label where the constraints are counted
+-- the extended format has another label in its seventh line
 abbrev pub is_extended : List (List ℕ) → ℕ → Bool
-is_extended words n = bytes_eq (nth_word n words) (codes "Min_Max_Daily_Lectures:")
+is_extended words n = n == 13 && bytes_eq (nth_word n words) (codes "Min_Max_Daily_Lectures:")
 
 abbrev pub unexpected : List (List ℕ) → ℕ → List ℕ
 unexpected words n = if is_extended words n
@@ -144,20 +158,20 @@ blocked_sentence words (blocked.DayOut n) = no_day words n
 blocked_sentence words (blocked.PeriodOut n) = no_period words n
 blocked_sentence words _ = codes "no memory"
 
--- ---- the lines
+-- ---- the lines: the entry, what of it, and the sentence
 
 abbrev pub instance_point : List ℕ → List ℕ → ReadFault → List ℕ
 instance_point file text (instance.NotText at) = byte_point file text (codes "I1") at
-instance_point file text fault = word_point file text (instance_code fault) (instance_at fault) (instance_sentence (words text) fault)
+instance_point file text fault = word_point file text (instance_code fault) (instance_at fault) (instance_entry (words text) (instance_at fault) ++ instance_sentence (words text) fault)
 
 abbrev pub solution_point : List ℕ → List ℕ → SolutionFault → List ℕ
 solution_point file text (solution.NotText at) = byte_point file text (codes "S1") at
-solution_point file text fault = word_point file text (solution_code fault) (solution_at fault) (solution_sentence (words text) fault)
+solution_point file text fault = word_point file text (solution_code fault) (solution_at fault) (lecture_entry (solution_at fault) ++ solution_sentence (words text) fault)
 
 abbrev pub barred_point : List ℕ → List ℕ → BarredFault → List ℕ
 barred_point file text (barred.NotText at) = byte_point file text (codes "B1") at
-barred_point file text fault = word_point file text (barred_code fault) (barred_at fault) (barred_sentence (words text) fault)
+barred_point file text fault = word_point file text (barred_code fault) (barred_at fault) (pair_entry (words text) (barred_at fault) ++ barred_sentence (words text) fault)
 
 abbrev pub blocked_point : List ℕ → List ℕ → BlockedFault → List ℕ
 blocked_point file text (blocked.NotText at) = byte_point file text (codes "L1") at
-blocked_point file text fault = word_point file text (blocked_code fault) (blocked_at fault) (blocked_sentence (words text) fault)
+blocked_point file text fault = word_point file text (blocked_code fault) (blocked_at fault) (closure_entry (words text) (blocked_at fault) ++ blocked_sentence (words text) fault)

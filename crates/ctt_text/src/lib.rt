@@ -2,6 +2,7 @@
 //! closures.
 #![tactic(auto)]
 
+mod entries;
 mod fault;
 mod fault_codes;
 mod instance;
@@ -29,7 +30,7 @@ pub use numbers::number;
 pub use places::{
     begins_char, count_chars, count_feeds, first_line, last_line, place_text, word_at, word_place,
 };
-pub use point::{about, byte_point, word_point};
+pub use point::{about, byte_point, encoding_said, word_point};
 pub use reader::Reader;
 pub use solution::{read_solution, write_solution};
 pub use text_fault::{TextFault, WordFault};

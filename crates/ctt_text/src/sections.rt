@@ -36,7 +36,7 @@ fn next_stated(words: &mut Words) -> u32
 }
 
 /// Takes the words of a curriculum, and returns their number.
-fn skip_curriculum(words: &mut Words) -> u64
+pub(crate) fn skip_curriculum(words: &mut Words) -> u64
     ensures len { result ≡ 2 + stated 2 words.old }
     ensures rest { words.new ≡ drop (2 + stated 2 words.old) words.old }
     ensures bounded { result ≤ 1000000001 }

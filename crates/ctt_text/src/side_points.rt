@@ -5,9 +5,10 @@ ghost use Rattle.std.specs.String.{string_bytes};
 ghost use Rattle.ctt_text.specs.Points.{barred_point, barred_sentence, blocked_point, blocked_sentence, blocked_word, not_choice, side_end, unknown_name};
 ghost use Rattle.ctt_text.specs.Words.{words};
 
+use crate::entries::{closure_entry, pair_entry};
 use crate::fault::{BarredFault, BlockedFault};
 use crate::places::{nth_word, stated};
-use crate::point::{about, byte_point, no_day, no_period, not_number, other_word, word_point};
+use crate::point::{about, byte_point, entry_point, no_day, no_period, not_number, other_word};
 use crate::shown::shown_word;
 use std::alloc::{AllocError, Global};
 
@@ -61,7 +62,7 @@ impl BarredFault {
     }
 
     /// Returns the line that says where and why the text of this file is refused:
-    /// `FILE:LINE:COLUMN: CODE: SENTENCE`.
+    /// `FILE:LINE:COLUMN: CODE: ENTRY: SENTENCE`.
     pub fn point(&self, alloc: Global, file: &str, text: &[u8]) -> Result<String, AllocError>
         ensures { IfOk result (λ line. string_bytes line
             ≡ barred_point file.now text.now self.now) }
@@ -69,8 +70,9 @@ impl BarredFault {
         if let BarredFault::NotText(at) = self {
             return byte_point(alloc, file, text, "B1", *at);
         }
+        let entry = pair_entry(alloc, text, self.at())?;
         let sentence = self.sentence(alloc, text)?;
-        word_point(alloc, file, text, self.code(), self.at(), &sentence)
+        entry_point(alloc, file, text, self.code(), self.at(), &entry, &sentence)
     }
 }
 
@@ -139,7 +141,7 @@ impl BlockedFault {
     }
 
     /// Returns the line that says where and why the text of this file is refused:
-    /// `FILE:LINE:COLUMN: CODE: SENTENCE`.
+    /// `FILE:LINE:COLUMN: CODE: ENTRY: SENTENCE`.
     pub fn point(&self, alloc: Global, file: &str, text: &[u8]) -> Result<String, AllocError>
         ensures { IfOk result (λ line. string_bytes line
             ≡ blocked_point file.now text.now self.now) }
@@ -147,7 +149,8 @@ impl BlockedFault {
         if let BlockedFault::NotText(at) = self {
             return byte_point(alloc, file, text, "L1", *at);
         }
+        let entry = closure_entry(alloc, text, self.at())?;
         let sentence = self.sentence(alloc, text)?;
-        word_point(alloc, file, text, self.code(), self.at(), &sentence)
+        entry_point(alloc, file, text, self.code(), self.at(), &entry, &sentence)
     }
 }

@@ -6,9 +6,10 @@ ghost use Rattle.ctt_text.specs.Points.{instance_point, instance_sentence, is_ex
 ghost use Rattle.ctt_text.specs.Sections.{section_of, unended};
 ghost use Rattle.ctt_text.specs.Words.{words};
 
+use crate::entries::{instance_entry, lecture_entry};
 use crate::fault::{ReadFault, SolutionFault};
 use crate::places::nth_word;
-use crate::point::{about, byte_point, no_day, no_period, not_number, other_word, word_point};
+use crate::point::{about, byte_point, entry_point, no_day, no_period, not_number, other_word};
 use crate::sections::{fixed_word, limit, section_of, unended};
 use std::alloc::{AllocError, Global};
 
@@ -16,7 +17,7 @@ use std::alloc::{AllocError, Global};
 fn is_extended(text: &[u8], at: u64) -> bool
     ensures { result ≡ is_extended (words text.now) at }
 {
-    nth_word(text, at) == "Min_Max_Daily_Lectures:".as_bytes()
+    at == 13 && nth_word(text, at) == "Min_Max_Daily_Lectures:".as_bytes()
 }
 
 /// Returns the sentence for an instance that lacks a word.
@@ -65,7 +66,7 @@ impl ReadFault {
     }
 
     /// Returns the line that says where and why the text of this file is refused:
-    /// `FILE:LINE:COLUMN: CODE: SENTENCE`.
+    /// `FILE:LINE:COLUMN: CODE: ENTRY: SENTENCE`.
     pub fn point(&self, alloc: Global, file: &str, text: &[u8]) -> Result<String, AllocError>
         ensures { IfOk result (λ line. string_bytes line
             ≡ instance_point file.now text.now self.now) }
@@ -73,8 +74,9 @@ impl ReadFault {
         if let ReadFault::NotText(at) = self {
             return byte_point(alloc, file, text, "I1", *at);
         }
+        let entry = instance_entry(alloc, text, self.at())?;
         let sentence = self.sentence(alloc, text)?;
-        word_point(alloc, file, text, self.code(), self.at(), &sentence)
+        entry_point(alloc, file, text, self.code(), self.at(), &entry, &sentence)
     }
 }
 
@@ -106,7 +108,7 @@ impl SolutionFault {
     }
 
     /// Returns the line that says where and why the text of this file is refused:
-    /// `FILE:LINE:COLUMN: CODE: SENTENCE`.
+    /// `FILE:LINE:COLUMN: CODE: ENTRY: SENTENCE`.
     pub fn point(&self, alloc: Global, file: &str, text: &[u8]) -> Result<String, AllocError>
         ensures { IfOk result (λ line. string_bytes line
             ≡ solution_point file.now text.now self.now) }
@@ -114,7 +116,8 @@ impl SolutionFault {
         if let SolutionFault::NotText(at) = self {
             return byte_point(alloc, file, text, "S1", *at);
         }
+        let entry = lecture_entry(alloc, self.at())?;
         let sentence = self.sentence(alloc, text)?;
-        word_point(alloc, file, text, self.code(), self.at(), &sentence)
+        entry_point(alloc, file, text, self.code(), self.at(), &entry, &sentence)
     }
 }

@@ -35,6 +35,12 @@ grids_said None = None
 grids_said (Some word) = if is_some (grids_of word) then None
     else Some (codes "timedesk: --grids is one of curricula, teachers, courses, rooms\n")
 
+-- grids of a kind are asked for beside one week
+abbrev pub beside_said : Bool → List Row → Option Text
+beside_said grids rows = if grids && nat_lt 0 (count_given (choices rows))
+    then Some (codes "timedesk: --grids has all grids of a kind: no --curriculum, --teacher, --course or --room beside it\n")
+    else None
+
 -- ---- what is compared
 
 -- a comparison has pairs, and neither files of its own nor side files, or it has an instance and
@@ -113,7 +119,7 @@ abbrev pub needs_of : Name → List Row → Option Text
 needs_of by.Compare rows = compared_said (has (codes "pairs") rows) (has (codes "instance") rows) (has (codes "solution") rows)
     (has_sides rows)
 needs_of by.Week rows = several_said rows
-needs_of by.Page rows = or_then (several_said rows) (grids_said (first_of (codes "grids") rows))
+needs_of by.Page rows = or_then (several_said rows) (or_then (grids_said (first_of (codes "grids") rows)) (beside_said (has (codes "grids") rows) rows))
 needs_of _ rows = None
 
 -- the message with which the matches of the command are refused; none if they ask for a job

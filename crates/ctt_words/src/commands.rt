@@ -113,7 +113,7 @@ Example: timedesk check spring.ctt spring.sol --explain",
             BLOCKED,
             Argument::Flag(
                 "sort",
-                "Print the lawful and complete ones first, then the lawful ones, each by their costs",
+                "Print those that break the hard rules least first, and of these the cheapest",
             ),
             Argument::Flag("csv", "Print the rows as CSV"),
             Argument::Flag("json", "Print the rows as a JSON array"),
@@ -279,7 +279,7 @@ const DESK_COMMANDS: &[Outline] = &[
             ),
             Argument::Flag(
                 "byte",
-                "Take the number as that of a byte, from 0, as the faults I1, S1 and J1 count them",
+                "Take the number as that of a byte, from 0, as I1, S1, B1, L1, J1 and torn minutes count it",
             ),
         ],
     },

@@ -3,8 +3,9 @@
 ghost use Rattle.std.specs.Prelude.{◌≡◌, ◌++◌, [], codes, is_some, map, option_map, unwrap_or, IfOk, OnOk};
 ghost use Rattle.std.specs.List.{list_any};
 ghost use Rattle.std.specs.String.{string_bytes};
+ghost use Rattle.ctt_words.specs.declared.outline.Name.TheVariants as by;
 ghost use Rattle.clap.specs.Words.{all_of, first_of, found_of, rows_of};
-ghost use Rattle.ctt_words.specs.Needs.{called_standard, compared_said, grids_of, grids_said, has, has_sides, has_standard_seat, is_standard, needs_of, refusal_of, several_said, standard_among, standard_words, twice_line, twice_said, words_read};
+ghost use Rattle.ctt_words.specs.Needs.{beside_said, called_standard, compared_said, grids_of, grids_said, has, has_sides, has_standard_seat, is_standard, needs_of, refusal_of, several_said, standard_among, standard_words, twice_line, twice_said, words_read};
 
 use crate::arguments::{count, given_text, given_texts};
 use crate::job::Grids;
@@ -69,6 +70,10 @@ const MINUTES: &[(&str, &str)] = &[
 /// The message for files beside pairs.
 const BESIDE_PAIRS: &str =
     "timedesk: --pairs names the files: no INSTANCE, SOLUTION, --barred or --blocked beside it\n";
+
+/// The message for grids of a kind beside one week.
+const BESIDE_GRIDS: &str = "timedesk: --grids has all grids of a kind: \
+     no --curriculum, --teacher, --course or --room beside it\n";
 
 /// The message for nothing to compare.
 const NO_FILES: &str = "timedesk: compare needs an INSTANCE and a SOLUTION, or --pairs\n";
@@ -231,6 +236,18 @@ fn grids_said(given: &ArgMatches<'_>) -> Option<&'static str>
     }
 }
 
+/// Returns the message for grids of a kind beside one week.
+fn beside_said(has_grids: bool, given: &ArgMatches<'_>) -> Option<&'static str>
+    ensures { option_map (λ said. said.now) result
+        ≡ beside_said has_grids (rows_of (found_of given.now)) }
+{
+    if has_grids && count(given, CHOICES) > 0 {
+        Some(BESIDE_GRIDS)
+    } else {
+        None
+    }
+}
+
 /// Returns the message for a comparison without files, or with files and pairs.
 fn compared_said(
     has_pairs: bool,
@@ -268,6 +285,20 @@ fn has_sides(given: &ArgMatches<'_>) -> bool
     has(given, "barred") || has(given, "blocked")
 }
 
+/// Returns the message for what a page is asked for in vain.
+fn page_said(given: &ArgMatches<'_>) -> Option<&'static str>
+    ensures { option_map (λ said. said.now) result
+        ≡ needs_of by.Page (rows_of (found_of given.now)) }
+{
+    if let Some(said) = several_said(given) {
+        return Some(said);
+    }
+    if let Some(said) = grids_said(given) {
+        return Some(said);
+    }
+    beside_said(has(given, "grids"), given)
+}
+
 /// Returns the message for what a command lacks, or has too much.
 fn needs(command: Name, given: &ArgMatches<'_>) -> Option<&'static str>
     ensures { option_map (λ said. said.now) result ≡ needs_of command (rows_of (found_of given.now)) }
@@ -280,10 +311,7 @@ fn needs(command: Name, given: &ArgMatches<'_>) -> Option<&'static str>
             has_sides(given),
         ),
         Name::Week => several_said(given),
-        Name::Page => match several_said(given) {
-            Some(said) => Some(said),
-            None => grids_said(given),
-        },
+        Name::Page => page_said(given),
         _ => None,
     }
 }

@@ -1,8 +1,9 @@
 use Rattle.std.proofs.Common.{◌≡◌, ◌∙◌, ◌||◌, ◌++◌, ap, drop, flat_map, rules, subst, sym, take, take-append-drop}
 use Rattle.std.specs.Str.{IsUtf8}
+use Rattle.std.proofs.lemmas.Option.{IfSome_then}
 use Rattle.std.proofs.lemmas.Result.{IfErr-weaker, IfOk-weaker, MatchResult-from_both}
 use Rattle.ctt_script.specs.WrittenText.{entry_text}
-use Rattle.ctt_log.specs.Recovery.{IsLinesFault, IsReadOf}
+use Rattle.ctt_log.specs.Recovery.{IsLinesFault, IsReadOf, IsTornIn}
 use Rattle.ctt_log.proofs.RecoveryLemmas.{cut_all, lines_are_text, more_than, only_memory, read_first}
 use Rattle.ctt_log.proofs.blocks.read_blocks.Goals as goal
 
@@ -22,6 +23,21 @@ returns-in-Ok-clause-recovered c =
       reads_them = subst (λ lines. IsReadOf i lines b.entries.items r.0) same r.1;
       torn_is = r.2 ∙ ap (λ cut. r.0 || cut) (more_than len text);
     }) c.read_lines.ensures.read
+
+pub returns-in-Ok-clause-torn : goal.returns-in-Ok-clause-torn
+returns-in-Ok-clause-torn c =
+    let i = c.args.instance.now in
+    let text = c.args.text.now in
+    let len = c.lines_len-len.result in
+    let same : c.in-Ok.lines.now ≡ take len text = search rules in
+    IfOk-weaker c.read_lines.result _ _ (λ b torn. IfSome_then b.torn torn (λ at is. record {
+      lines = take len text;
+      tail = drop len text;
+      all = sym (take-append-drop len text);
+      ends = c.lines_len-len.ensures.ends;
+      unended = c.lines_len-len.ensures.unended;
+      torn = subst (λ lines. IsTornIn i lines b.entries.items at) same is;
+    })) c.read_lines.ensures.torn
 
 pub returns-in-Ok-clause-cut : goal.returns-in-Ok-clause-cut
 returns-in-Ok-clause-cut c = λ entries n fit utf8 cut.
