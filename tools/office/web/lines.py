@@ -1,5 +1,5 @@
-"""What windows are told, as lines of JSON, plain or packed: what many are told is written and packed
-once."""
+"""What windows are told, as lines of JSON, plain or packed: what many are told is written and
+packed once."""
 from __future__ import annotations
 
 import functools
