@@ -24,7 +24,8 @@ def add_data(commands: Commands) -> None:
     one = commands.add_parser(
         "import", help=does, description=does[0].upper() + does[1:] + ".", allow_abbrev=False
     )
-    one.add_argument("folder", metavar="FOLDER", help="the tables: courses.csv, rooms.csv .., or a workbook")
+    tables = "the tables: courses.csv, rooms.csv .., or a workbook"
+    one.add_argument("folder", metavar="FOLDER", help=tables)
     add_output(one, "DIR")
     one.set_defaults(do=do_import)
     one = add_command(commands, "export", "write the tables of a day, with its timetable")
