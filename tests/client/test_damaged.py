@@ -100,7 +100,6 @@ class Damaged(OfficeTest):
                 status, _, said = self.office(command, self.path("day"), *more)
                 self.assertNotIn("Traceback", said, (name, command))
                 self.assertTrue(status == 0 or name in said, (name, command, said))
-            self.assertNotEqual(self.office("status", self.path("day"))[0], 0, name)
             os.rmdir(path)
             os.rename(path + ".kept", path)
         self.each()
