@@ -140,14 +140,13 @@ class Gate(SmallTree):
         refused = "prove ctt_trials proved; echo 'rt: ctt_tool NOT PROVED'"
         self.tell(proofs=refused + "; echo '3 passed, 1 failed'; exit 1")
         lines = self.run_gate(status=1)
-        self.assertEqual(
-            set(self.begun()), {"script", "proved", "gate", "edits_tool", "proofs", "edits"}
-        )
+        alone = {"script", "proved", "named", "gate", "edits_tool", "proofs", "edits"}
+        self.assertEqual(set(self.begun()), alone)
         failed = [line for line in lines if line.startswith("FAILED: ")]
         self.assertEqual(failed[0], "FAILED: proofs: 1 failed of 4 (out/test/proofs.txt)")
         told = "the program of ctt_tool was not built, so not run: check_page runs "
         self.assertIn(told, failed[1])
-        self.assertEqual(lines[-1], "8 passed, 2 failed")
+        self.assertEqual(lines[-1], "9 passed, 2 failed")
 
     def test_names(self):
         """Parts that are named are run alone, with the program that stands there."""
