@@ -82,7 +82,7 @@ def office_script():
     check("and is told that it closes", said.startswith("office: the office closes in "), True)
     printed, _ = process.communicate(timeout=PATIENCE)
     check("the office is closed", (process.returncode, printed), (0, "journal 2\ncosts 10 10 2 0\n"))
-    left = ["0.log", "0.sitter", "1.log", "1.sitter", "2.log", "2.sitter", "day.json", "instance.ctt", "minutes", "names", "office", "spare"]
+    left = ["0.log", "0.sitter", "1.log", "1.sitter", "2.log", "2.sitter", "day.json", "instance.ctt", "minutes", "minutes.sums", "names", "office", "spare"]
     check("its pipes are gone", sorted(os.listdir(folder)), left)
     closed = words("close", folder)
     check("the day is closed", (closed.returncode, closed.stdout.split("\n")[0]), (0, "day: 2 drafts accepted, the audit agrees"))
