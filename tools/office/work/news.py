@@ -19,7 +19,7 @@ from office.words.notice import Notice, say
 
 
 # what is known of so many drafts, the last ones, is at hand; of older ones it is read again
-KEPT = 500
+KEPT = 20_000
 
 
 @dataclass(frozen=True)
@@ -80,8 +80,9 @@ class Commits:
             if number not in self._facts:
                 self._read_log(planner, [one for one in all_known if one.entry.planner == planner])
             found = self._facts[number]
-            for old in sorted(self._facts)[:-KEPT]:
-                del self._facts[old]
+            if len(self._facts) > 2 * KEPT:
+                for old in sorted(self._facts)[:-KEPT]:
+                    del self._facts[old]
             return found
 
     def _keep(self, notes: Iterable[CommitNote]) -> None:
