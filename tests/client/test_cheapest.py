@@ -35,14 +35,16 @@ class Cheapest(Two):
         self.assertEqual(lines_of(anna.planning.edits()), ["reroom c0049 r04 0 0"])
 
     def test_is_said_anew(self):
-        """A move that becomes a swap has another cheapest."""
+        """A move that becomes a swap has another cheapest, also where the lecture stands best."""
         anna, _ = self.boards()
-        self.go_to(anna, "room r04", (2, 3))
-        self.assertIn("Cheapest: ", self.type_keys(anna, "enter"))
-        before = said(anna.planning)
-        text = self.type_keys(anna, "s")
-        self.assertNotIn(before, text)
-        self.assertRegex(text, r"Cheapest: \S+ with c\d+, day")
+        for slot, told in (((0, 1), "Cheapest: "), ((2, 3), "It stands best: ")):
+            self.go_to(anna, "room r04", slot)
+            self.assertIn(told, self.type_keys(anna, "enter"))
+            before = said(anna.planning)
+            text = self.type_keys(anna, "s")
+            self.assertNotIn(before, text)
+            self.assertRegex(text, r"Cheapest: \S+ with c\d+, day")
+            self.type_keys(anna, "escape")
 
     def test_no_slot_is_left_open(self):
         """Where a thousand offers would not be enough for the grid, each slot is told."""

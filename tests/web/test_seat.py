@@ -93,7 +93,7 @@ class Seats(BrowserTest):
         anna.press("ArrowDown", "Enter")
         anna.sees("your draft: 1 edit", "#costs")
         self.has_focus(anna)
-        anna.run("document.querySelector('#draft [data-id=\"undo\"]').focus()")
+        anna.run("document.querySelector('#draft [data-id=\"undo 0\"]').focus()")
         anna.press("Enter")
         anna.sees("your draft: 0 edits", "#costs")
         self.has_focus(anna)

@@ -33,6 +33,12 @@ export function listenToKeys(acts, keys) {
   // the letters that were pressed last, one after another: perhaps a name that is looked for
   let run = "";
 
+  // any other key ends it, also one that a box or a line has
+  /** @type {(event: KeyboardEvent) => void} */
+  function endRun(event) {
+    if (event.key.length > 1) run = "";
+  }
+
   /** @type {(event: KeyboardEvent) => void} */
   function inWeek(event) {
     run = event.key.length === 1 ? run + event.key : "";
@@ -70,6 +76,7 @@ export function listenToKeys(acts, keys) {
   document.addEventListener("pointerdown", () => {
     run = "";
   });
+  document.addEventListener("keydown", endRun, true);
   document.addEventListener("keydown", anywhere);
   find("help-button").addEventListener("click", () => acts.act("help"));
   find("skip").addEventListener("click", (event) => {
