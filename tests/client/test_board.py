@@ -288,25 +288,6 @@ class Shown(OfficeTest):
         self.assertIn("数学の時間", text_of(board))
         self.assertEqual(board.planning.missing(), {})
 
-    def test_cheapest_place_in_under_ten_keys(self):
-        """Who has seen no page finds the cheapest place of a lecture by what the screen says, and
-        commits it."""
-        self.open("day", SPRING, "1", "--start", SPRING_SOL)
-        board = Board(self.planning("day", 0))
-        board.begin()
-        self.assertIn("Enter pick up", text_of(board))
-        # the first one stands best, the one beside it does not
-        told = [
-            (["enter"], "It stands best: no slot is cheaper."),
-            (["escape", "right", "enter"], "b goes there"),
-            (["b", "enter", "c", "enter"], "Committed as draft 1: 1 edit, on the disk."),
-        ]
-        for keys, text in told:
-            for key in keys:
-                board.press(key)
-            self.assertIn(text, text_of(board))
-        self.assertLess(sum(len(keys) for keys, _ in told), 10)
-
     def test_typed_lines(self):
         self.open("day", SMALL, "1", "--start", SMALL_SOL)
         board = Board(self.planning("day", 0))

@@ -1,8 +1,8 @@
 """The cheapest of what is offered, and each slot of it."""
 import random
 
-from support import lines_of, said
-from two_screens import Two
+from support import SPRING, SPRING_SOL, lines_of, said
+from two_screens import Two, text_of
 
 from office.terminal.board import Board
 from office.work.carry import MOVE, SWAP, Carry
@@ -45,6 +45,25 @@ class Cheapest(Two):
             self.assertNotIn(before, text)
             self.assertRegex(text, r"Cheapest: \S+ with c\d+, day")
             self.type_keys(anna, "escape")
+
+    def test_cheapest_place_in_under_ten_keys(self):
+        """Who has seen no page finds the cheapest place of a lecture by what the screen says, and
+        commits it."""
+        self.open("day", SPRING, "1", "--start", SPRING_SOL)
+        board = Board(self.planning("day", 0))
+        board.begin()
+        self.assertIn("Enter pick up", text_of(board))
+        # the first one stands best, the one beside it does not
+        told = [
+            (["enter"], "It stands best: no slot is cheaper."),
+            (["escape", "right", "enter"], "b goes there"),
+            (["b", "enter", "c", "enter"], "Committed as draft 1: 1 edit, on the disk."),
+        ]
+        for keys, text in told:
+            for key in keys:
+                board.press(key)
+            self.assertIn(text, text_of(board))
+        self.assertLess(sum(len(keys) for keys, _ in told), 10)
 
     def test_no_slot_is_left_open(self):
         """Where a thousand offers would not be enough for the grid, each slot is told."""

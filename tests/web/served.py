@@ -319,6 +319,7 @@ __all__ = [
     "EDITS",
     "HERE",
     "OFFICE",
+    "READY",
     "SMALL",
     "Shared",
     "WebTest",

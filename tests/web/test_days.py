@@ -8,6 +8,7 @@ from served import (
     BOX,
     DONE,
     OFFICE,
+    READY,
     SMALL,
     SPRING,
     SPRING_SOL,
@@ -34,6 +35,8 @@ BUSY = """
 return document.activeElement.matches('input')
   || !!document.querySelector('dialog[open], .menu-box, #week.holding');
 """
+# whether the seat was left
+LEFT = "return !!document.querySelector('#banner [data-id=\"sit\"]')"
 HEARD = "return Number(document.querySelector('#news .count')?.innerText || 0) === arguments[0]"
 # what a week shows: the slots of its lectures with their rooms
 SHOWN = """
@@ -61,6 +64,9 @@ class Days(BrowserTest):
             terminal.press("v", *"c0014", "Enter", "s", "b", "Enter", "c")
             terminal.wait("Why?")
             terminal.press(*"exam", "Enter")
+            # behind the key of the box it may be a word; the same once more is the reason
+            terminal.wait("cexam is a name or a word")
+            terminal.press("Enter")
             terminal.wait("Committed as draft 1")
             ben.sees("“exam”", "#news")
         else:
@@ -114,6 +120,7 @@ class Days(BrowserTest):
         done = 0
         while done < ACTS:
             window = draw.choice(windows)
+            self.sit_again(window)
             count = draw.randint(1, 6)
             if draw.random() < 0.2:
                 self.click_somewhere(window, draw)
@@ -156,11 +163,18 @@ class Days(BrowserTest):
             draw.randrange(1000),
         )
 
+    def sit_again(self, window):
+        """Who has left the seat sits down again."""
+        if window.run(LEFT):
+            window.click("#banner button")
+            window.wait(f"return !({LEFT[7:]}) && ({READY[7:]})")
+
     def settle(self, window):
         """All is done that was pressed, and nothing is in front or held."""
         until = time.monotonic() + 30
         while True:
             window.wait(DONE)
+            self.sit_again(window)
             if not window.run(BUSY):
                 return
             self.assertLess(time.monotonic(), until, window.seen())
@@ -174,7 +188,8 @@ class Days(BrowserTest):
         if "draft" in window.text("#costs .state") and "no draft" not in window.text("#costs"):
             window.press("a")
             window.wait(BOX)
-            window.press("Enter")
+            # Enter alone goes back
+            window.press("y")
             window.sees("no draft open", "#costs")
             window.wait(DONE)
         self.show(window, course)

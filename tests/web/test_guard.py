@@ -192,8 +192,9 @@ class Guarded(Shared):
         """Who reads has weeks, and nothing of seats, logs or reasons."""
         status, found = self.ask("hello", {}, "reader")
         self.assertEqual(status, 200)
-        told = {"days", "periods", "slots", "named", "picture", "day", "closes", "now"}
+        told = {"days", "periods", "slots", "named", "picture", "day", "closes", "now", "again"}
         self.assertEqual(set(found), told)
+        self.assertIs(found["again"], False)
         status, found = self.ask("show", {"view": ["room", "A"]}, "reader")
         self.assertEqual((status, found["picture"]["week"]["title"]), (200, "A"))
         for verb in ("act", "pick_up", "put_down", "line", "about", "answer", "take_out"):

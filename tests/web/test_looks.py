@@ -157,7 +157,7 @@ class Looks(BrowserTest):
         self.assertEqual(anna.run(PLACES), before)
         anna.press("a")
         anna.sees("Give them up", "#box")
-        anna.press("Enter")
+        anna.press("y")
         anna.sees("no draft open", "#costs")
         for number, (width, height, zoom) in enumerate((SIZES[0], SIZES[2], SIZES[4])):
             anna.set_size(width, height, zoom=zoom)

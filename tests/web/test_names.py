@@ -35,16 +35,19 @@ class Told(WebTest):
         self.ask("hello", {"name": "anna"})
         self.assertEqual(self.title(), "geo")
         self.write("day/labels.csv", HEAD + "course,geo,Geometry,Geo\n")
-        self.assertTrue(wait_until(lambda: self.title() == "Geometry (geo)"))
+        self.assertTrue(wait_until(lambda: self.title() == "Geometry"))
         self.write("day/labels.csv", HEAD + "course,geo,Geometry,Geo\ncourse,geo,Again,Geo\n")
         time.sleep(0.6)
-        self.assertEqual(self.title(), "Geometry (geo)")
+        self.assertEqual(self.title(), "Geometry")
         self.write("day/times.csv", TIMES)
         self.write("day/labels.csv", HEAD + "course,geo,Shapes,Sha\n")
-        self.assertTrue(wait_until(lambda: self.title() == "Shapes (geo)"))
+        self.assertTrue(wait_until(lambda: self.title() == "Shapes"))
         found = self.ask("hello", {}, "reader")[1]
         self.assertEqual(found["slots"][0][:2], ["Mon 8:15", "Mon 10:15"])
-        self.assertIn(["geo", "Shapes (geo)"], found["named"]["course"])
+        self.assertIn(["geo", "Shapes"], found["named"]["course"])
+        # a code stands beside a name that two have
+        self.write("day/labels.csv", HEAD + "course,geo,Shapes,Sha\ncourse,alg,Shapes,Alg\n")
+        self.assertTrue(wait_until(lambda: self.title() == "Shapes (geo)"))
         os.remove(self.path("day/labels.csv"))
         self.assertTrue(wait_until(lambda: self.title() == "geo"))
 

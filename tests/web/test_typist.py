@@ -1,5 +1,6 @@
 """Who types names, words and accents at the page publishes nothing, and loses nothing."""
 import random
+import signal
 
 from served import BOX, DONE, EDITS, SPRING, SPRING_SOL, BrowserTest, cell, skip_without_browser
 
@@ -15,7 +16,7 @@ class Typist(BrowserTest):
     def setUp(self):
         super().setUp()
         self.open("day", SPRING, "2", "--start", SPRING_SOL)
-        self.serve("day")
+        self.server = self.serve("day")
         self.anna = self.planner()
         self.show(self.anna, "c0109")
         self.move(self.anna, FROM, BEST)
@@ -39,6 +40,22 @@ class Typist(BrowserTest):
         anna.press("Escape")
         self.committed(anna, "the hall is free")
         self.assertEqual(self.accepted(), 1)
+
+    def test_typed_before_the_box(self):
+        """What was typed before the box of a commit has come is in it, and is asked about."""
+        anna = self.anna
+        self.to_week()
+        self.server.send_signal(signal.SIGSTOP)
+        try:
+            anna.press(*"chemistry", "Enter")
+        finally:
+            self.server.send_signal(signal.SIGCONT)
+        anna.wait(BOX)
+        anna.wait(DONE)
+        self.assertEqual(anna.run("return document.getElementById('why').value"), "hemistry")
+        anna.press("Enter")
+        anna.sees("chemistry is a name or a word", "#box")
+        self.assertEqual(self.accepted(), 0)
 
     def test_same_once_more(self):
         self.commit(self.anna, "0109")

@@ -38,9 +38,9 @@ test("an offer in a few letters", () => {
 });
 
 test("a lecture in a sentence: who reads is told of no seats", () => {
-  const lecture = { said: "Optics", room_said: "Hall", teacher_said: "Ada", students: 90 };
+  const start = "Optics, Great Hall, Ada Byron";
+  const lecture = { said: "Opt", room_said: "Hall", teacher_said: "Ada", told: start, students: 90 };
   const told = { ...lecture, seats: 69, short: 21, alone: 2 };
-  const start = "Optics in Hall, teacher Ada";
   assert.equal(cardSaid({ ...lecture, seats: null, short: 0, alone: 0 }), start);
   const seats = "90 students, 69 seats, 21 students without a seat";
   assert.equal(cardSaid(told), `${start}, ${seats}, alone on its day, 2 points`);

@@ -72,7 +72,6 @@ class Shown:
         self.ask(None)
         return act()
 
-
     def line_of(self, reason: Reason) -> Line:
         """The line for a reason that is needed."""
         meant = Asking(self).meant(True)

@@ -1,5 +1,6 @@
 // @ts-check
 // What each key, button and drag does: it is asked of the office, with what was seen.
+import { opensBy } from "./ahead.js";
 import * as boxes from "./boxes.js";
 import { announce, find, isTyping, save } from "./dom.js";
 import { chosen, heldSaid, heldShort } from "./held.js";
@@ -208,6 +209,8 @@ export class Acts {
       next: () => this.rooms(slot, lecture),
       "lay down": () => this.layDown(),
     }[name];
-    return own ? own() : this.turn("act", { name, lecture, at: slot, key });
+    if (own) return own();
+    opensBy(key);
+    return this.turn("act", { name, lecture, at: slot, key });
   }
 }

@@ -1,5 +1,6 @@
 // @ts-check
 // Boxes in front of the week: what is to be read or answered.
+import { goOn, takeAhead } from "./ahead.js";
 import { choiceList } from "./choices.js";
 import { costTable } from "./costs.js";
 import { button, el, find, key, name, weekCell } from "./dom.js";
@@ -172,7 +173,8 @@ function linePart({ code, text }) {
 /** @type {(why: WhyData, go: () => void) => (?HTMLElement)[]} */
 function reasonParts({ label, text, doubt }, go) {
   keepTyped();
-  const value = kept.label === label ? kept.text : text;
+  const ahead = takeAhead();
+  const value = kept.label === label ? kept.text : text || ahead;
   const more = { maxlength: "200", autofocus: true, value };
   const asked = doubt ? el("p", { cls: "warn", role: "alert" }, name(doubt), ONCE_MORE) : null;
   return [...field("why", label, more, go), asked];
@@ -228,7 +230,7 @@ export function ask(question, acts) {
       letters: Object.fromEntries(answers.map((one) => [one.key, go(one.name)])),
     }
   );
-  if (why?.doubt) find("why").setSelectionRange(-1, -1);
+  if (why) goOn(why);
   isAsked = true;
 }
 

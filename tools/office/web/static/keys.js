@@ -1,6 +1,7 @@
 // @ts-check
 // The keyboard. Letters are keys only in the week, so that they disturb nobody who types or
 // dictates elsewhere.
+import { pressedNow } from "./ahead.js";
 import { find, isTyping } from "./dom.js";
 import { isMenuOpen } from "./menu.js";
 import { slotOf } from "./numbers.js";
@@ -33,15 +34,16 @@ export function listenToKeys(acts, keys) {
   // the letters that were pressed last, one after another: perhaps a name that is looked for
   let run = "";
 
-  // any other key ends it, also one that a box or a line has
+  // any other key ends it, also one that a box or a line has; not while a box may be coming
   /** @type {(event: KeyboardEvent) => void} */
   function endRun(event) {
-    if (event.key.length > 1) run = "";
+    if (event.key.length > 1 && document.body.dataset.acts === "0") run = "";
   }
 
   /** @type {(event: KeyboardEvent) => void} */
   function inWeek(event) {
-    run = event.key.length === 1 ? run + event.key : "";
+    if (event.key.length === 1 && isPlain(event)) run += event.key;
+    pressedNow(run);
     const slot = slotOf(/** @type {HTMLElement} */ (event.target).dataset.at || "0,0");
     if (event.key === "ContextMenu" || (event.shiftKey && event.key === "F10")) {
       event.preventDefault();

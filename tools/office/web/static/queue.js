@@ -28,7 +28,11 @@ export function makeQueue(app) {
     const [question, menu] = [hasLater() ? null : app.question, menuInFront()];
     const isFree = () => app.question === question && (!menuInFront() || menuInFront() === menu);
     tell(1);
-    const done = last.then(() => (isFree() ? act() : typedAhead()));
+    const done = last.then(() => {
+      if (isFree()) return act();
+      typedAhead();
+      return null;
+    });
     // those after one that fails have their turn all the same
     last = done.catch(failed).then(() => tell(-1));
     return done;
