@@ -50,7 +50,7 @@ abbrev pub lines_in : List ℕ → List (List ℕ)
 lines_in text = slice_split (λ b. b == 10) text
 
 -- the pairs in a text; one that begins as no list does is refused in its first line
-abbrev pub pairs_in : List ℕ → Result (List NamePair) (ℕ × ℕ)
+unfoldable pub pairs_in : List ℕ → Result (List NamePair) (ℕ × ℕ)
 pairs_in text = if is_some (encoding_said text) then Err (4, 1) else pairs_from 1 (lines_in text)
 
 -- what a line has

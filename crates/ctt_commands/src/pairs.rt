@@ -176,6 +176,7 @@ fn read_lines(alloc: Global, file: &str, lines: &[&[u8]]) -> Result<Vec<Pair>, F
 }
 
 /// Parses the list of pairs in the file of this name.
+#[tactic(auto, unfolding(crate::specs::Pairs::pairs_in))]
 pub(crate) fn read_pairs(alloc: Global, file: &str, text: &[u8]) -> Result<Vec<Pair>, Fault>
     ensures pairs { IfOk result (λ pairs. pairs_in text.now ≡ Ok (map name_pair pairs.items)) }
     ensures cause { IfErr result (λ fault. (fault ≡ Machine OutOfMemory)
