@@ -68,6 +68,8 @@ class Typist(BrowserTest):
         anna = self.anna
         self.to_week()
         anna.type("analysis")
+        # the question may come behind the letters
+        anna.wait(BOX)
         anna.press("Enter")
         anna.wait(f"return !({BOX[7:]}) && {DONE[7:]}")
         self.assertEqual(anna.run(EDITS), 1)
@@ -88,6 +90,8 @@ class Typist(BrowserTest):
         anna = self.anna
         self.to_week()
         anna.type("quantum")
+        # the question may come behind the letters
+        anna.wait(BOX)
         anna.press("Enter")
         anna.wait(f"return !({BOX[7:]}) && {DONE[7:]}")
         self.assertEqual(anna.run(EDITS), 1)
