@@ -21,7 +21,7 @@ from office.terminal.board import Board  # noqa: E402
 ROUND = (
     ["tab", "enter", "b", "tab", "backtab", "enter", "w", "w", "enter", "right", "down", "escape"]
     + ["tab", "s", "b", "enter", "u", "v", "c", "0", "enter", "tab", "enter", "left", "up", "escape"]
-    + ["tab", "x", "m", "enter", "b", "enter", "e", "q", "?", "q", "c", "w", "enter"]
+    + ["tab", "x", "m", "enter", "b", "enter", "e", "escape", "?", "q", "c", "w", "enter", "enter"]
     + ["tab", "h", "escape", "i", "escape"]
 )
 

@@ -60,11 +60,11 @@ class Refusals(OfficeTest):
         self.refused([latin, "2"], 1, f"{latin}:1:7: I1: not UTF-8 from this byte on\n")
         self.refused([os.devnull, "2"], 1, "/dev/null:1:1: I2: the words end in the header\n")
         self.refused([SMALL_SOL, "2"], 1, f"{SMALL_SOL}:1:1: I3: expected Name:, found alg\n")
-        said = f"{bad}:1:14: S2: lecture 1: period: the words end in an entry, which has four\n"
+        said = f"{bad}:1:14: S2: lecture 2: room: the words end in an entry, which has four\n"
         self.refused([SMALL, "2", "--start", bad], 1, said)
         said = f"{latin}:1:7: S1: not UTF-8 from this byte on\n"
         self.refused([SMALL, "2", "--start", latin], 1, said)
-        said = f"{SPRING_SOL}:1:1: S3: no course c0001\n"
+        said = f"{SPRING_SOL}:1:1: S3: lecture 1: course: no course c0001\n"
         self.refused([SMALL, "2", "--start", SPRING_SOL], 1, said)
         barred = ["--barred", self.write("barred", "Barred: 1 geo A END.")]
         self.refused(

@@ -209,9 +209,7 @@ class FullDisk(OfficeTest):
         hard = resource.getrlimit(resource.RLIMIT_FSIZE)[1]
         resource.setrlimit(resource.RLIMIT_FSIZE, (os.path.getsize(log) + 100, hard))
         try:
-            board.press("enter")
-            board.press("b")
-            board.press("enter")
+            self.assertTrue(make_edit(board.planning, "move c0109 4 1 r04 4 3"))
             text = Faults.text(board)
         finally:
             resource.setrlimit(resource.RLIMIT_FSIZE, (hard, hard))

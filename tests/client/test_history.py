@@ -90,6 +90,7 @@ class History(OfficeTest):
         """If nobody says what can go back, nothing is done, and the reason is said."""
         day = Day(self.path("day"))
         facts = day.facts()
+        self.write("nowhere", "#!/nowhere\n", 0o755)
         day.write_facts({**facts, "program": [self.path("nowhere")]})
         self.at_geo()
         self.press("h", "enter", "t")
@@ -97,11 +98,13 @@ class History(OfficeTest):
         self.assertIn(f"Draft 2 is not taken back: cannot run {self.path('nowhere')}", told)
         self.assertFalse(self.anna.is_open)
         self.anna.seat.go()
+        named = self.environment.pop("TIMEDESK")
         found = self.office("revert", self.path("day"), "2", "--seat", "0")
         wanted = f"office: Draft 2 is not taken back: cannot run {self.path('nowhere')}"
         self.assertEqual(found[:2], (3, ""))
         self.assertTrue(found[2].startswith(wanted), found[2])
         day.write_facts(facts)
+        self.environment["TIMEDESK"] = named
         found = self.office("revert", self.path("day"), "2", "--seat", "0")
         self.assertEqual(found[0], 0)
 

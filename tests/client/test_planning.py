@@ -94,7 +94,7 @@ class Planners(OfficeTest):
         anna = self.planning("day", 0, "anna")
         board = Board(anna)
         board.press("e")
-        text = "\n".join(row[0][0] for row in board.rows(24, 80))
+        text = "\n".join(row[0][0] for row in board.rows(24, 100))
         self.assertIn("2. c0001: taken out of day 2, period 3, r14", text)
         self.assertIn(f"1. {TOLD}: no lecture of c0109 stands", text)
         board.press("escape")

@@ -160,5 +160,5 @@ class Told(OfficeTest):
         labels.names["curriculum", "q1"] = Name("First year", "Y1")
         wording = Wording(KeyNames(), labels)
         notice = slot_reason(self.instance, "alg", (0, 1), Fault("clash", "geo"))
-        told = "curriculum First year (q1) has Geometry (geo) then"
+        told = "curriculum First year has Geometry then"
         self.assertEqual(wording.notice(notice), told)

@@ -57,7 +57,8 @@ class Screens(AtTerminals):
         )
         anna.press("e")
         self.sees(anna, "The edits of your draft: 1", f"1. {SAID}")
-        anna.press("q")
+        anna.press("Escape")
+        self.sees(anna, "draft open: 1 edit,")
 
     def test_stale_and_redo(self):
         self.open("day", SPRING, "2", "--start", SPRING_SOL)
@@ -94,6 +95,8 @@ class Screens(AtTerminals):
         anna.press(*TO_BEST, "b", "Enter")
         self.sees(anna, "draft open: 1 edit")
         anna.press("q")
+        self.sees(anna, "Leave the seat?", "Your draft stays as it is")
+        anna.press("y")
         self.sees(anna, "office: your draft stays as it is", "ended 0")
         said = self.path("said")
         words = [OFFICE, "sit", self.path("day"), "0"]

@@ -43,6 +43,7 @@ class Variants(Two):
             make_edit(anna.planning, edit)
             self.type_keys(anna, "n", *edit.split(" ")[0], "enter")
         day = Day(self.path("day"))
+        self.write("nowhere", "#!/nowhere\n", 0o755)
         day.write_facts({**day.facts(), "program": [self.path("nowhere")]})
         text = self.type_keys(anna, "N")
         told = "1 edit; the program does not say what it would bring now"
