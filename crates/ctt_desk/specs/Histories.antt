@@ -11,7 +11,9 @@ use Rattle.ctt_draft.specs.declared.asked.Asked.{Asked}
 use Rattle.ctt_core.specs.Runs.{after, Legal}
 use Rattle.ctt_core.specs.declared.journal.JournalEntry.{JournalEntry}
 use Rattle.ctt_desk.specs.declared.locked.Cause.{Cause}
-use Rattle.ctt_desk.specs.declared.locked.Cause.TheVariants.{NotYours, Stale, NoMemory}
+use Rattle.ctt_desk.specs.declared.locked.Cause.TheVariants.{NotYours, Stale, NoMemory, NotWritten}
+use Rattle.ctt_desk.specs.declared.minutes.Unwritten.{Unwritten}
+use Rattle.ctt_desk.specs.declared.minutes.Unwritten.TheVariants.{NoMemory as OutOfMemory, Failed as DeviceFailed}
 
 -- the entries of planner p
 abbrev pub own : ℕ → List JournalEntry → List JournalEntry
@@ -57,8 +59,26 @@ IsNotHis journal p committed old new count =
     ((new ≡ old) × (count ≡ length journal) × (count < length old))
     ⊎ (IsSeen journal old new × (count ≡ length (own p journal)) × (count ≢ committed))
 
--- why the draft d of planner p is not accepted after the journal; his front was old and is now new
-abbrev pub IsCause : Problem → List Placed → List JournalEntry → ℕ → ℕ → List JournalEntry → List JournalEntry → DraftValue → Cause → Type 0
-IsCause i opening journal p committed old new d (NotYours count) = IsNotHis journal p committed old new count
-IsCause i opening journal p committed old new d (Stale row) = IsSeen journal old new × IsHis journal p committed × (stale i d.base (after i opening journal) (calls_of d.asked) ≡ Some row)
-IsCause i opening journal p committed old new d NoMemory = (new ≡ old) × IsPrefix old journal × IsFreshAt i opening journal p committed d
+-- the cause that a draft is not in the minutes
+abbrev pub want_of : Unwritten → Cause
+want_of OutOfMemory = NoMemory
+want_of DeviceFailed = NotWritten
+
+-- the cause is want of memory, or that the draft could not be written, as a device has failed
+abbrev pub IsWantAt : Type 0 → Cause → Type 0
+IsWantAt Failed (NotYours count) = ⊥
+IsWantAt Failed (Stale row) = ⊥
+IsWantAt Failed NoMemory = Unit {0}
+IsWantAt Failed NotWritten = Failed
+
+-- the draft would have been accepted, and the front is as it was
+abbrev pub IsWanting : Problem → List Placed → List JournalEntry → ℕ → ℕ → List JournalEntry → List JournalEntry → DraftValue → Type 0
+IsWanting i opening journal p committed old new d = (new ≡ old) × IsPrefix old journal × IsFreshAt i opening journal p committed d
+
+-- why the draft d of planner p is not accepted after the journal; his front was old and is now new;
+-- Failed says that the device of the minutes has failed
+abbrev pub IsCause : Type 0 → Problem → List Placed → List JournalEntry → ℕ → ℕ → List JournalEntry → List JournalEntry → DraftValue → Cause → Type 0
+IsCause Failed i opening journal p committed old new d (NotYours count) = IsNotHis journal p committed old new count
+IsCause Failed i opening journal p committed old new d (Stale row) = IsSeen journal old new × IsHis journal p committed × (stale i d.base (after i opening journal) (calls_of d.asked) ≡ Some row)
+IsCause Failed i opening journal p committed old new d NoMemory = IsWanting i opening journal p committed old new d
+IsCause Failed i opening journal p committed old new d NotWritten = Failed × IsWanting i opening journal p committed old new d

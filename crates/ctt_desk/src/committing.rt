@@ -6,6 +6,7 @@ ghost use Rattle.ctt_desk.specs.Refusals.{IsRefused};
 
 use crate::drafting::{Drafting, end_draft};
 use crate::locked::Cause;
+use crate::minutes::Minutes;
 use crate::naming::Naming;
 use crate::planner::Planner;
 use crate::receipt::Receipt;
@@ -17,14 +18,15 @@ use std::sync::{MutexGuard, Wait};
 
 impl<'i, S: Sheet<'i>, J: Naming> Drafting<'i, S, J> {
     /// Commits the draft, which is accepted only if no row that it read has changed since it was
-    /// opened or last refreshed.
-    pub fn commit<R: Wait>(
+    /// opened or last refreshed, and once it is in the minutes: nobody sees it before.
+    pub fn commit<R: Wait, M: Minutes<J>>(
         self,
         rt: &R,
-        desk: &SharedDesk<S, J>,
+        desk: &SharedDesk<S, J, M>,
     ) -> Result<(Planner<S, J>, Receipt<J>), Refusal<'i, S, J>>
         ensures ok { IfOk result (λ done. IsAccepted J.problem J.opening self.entry done.0 done.1) }
-        ensures err { IfErr result (IsRefused J.problem J.opening self.entry) }
+        ensures kept { IfOk result (λ done. M.kept done.1) }
+        ensures err { IfErr result (IsRefused M.failed J.problem J.opening self.entry) }
     {
         let Drafting {
             planner,
@@ -48,6 +50,11 @@ impl<'i, S: Sheet<'i>, J: Naming> Drafting<'i, S, J> {
                     Err(Refusal::Stale(planner.seeing(front), row, asked))
                 }
                 Cause::NoMemory => Err(Refusal::NoMemory(Drafting {
+                    planner,
+                    draft,
+                    since,
+                })),
+                Cause::NotWritten => Err(Refusal::NotWritten(Drafting {
                     planner,
                     draft,
                     since,

@@ -1,14 +1,14 @@
 //! The state under the desk's lock.
 
-ghost use Rattle.std.specs.Prelude.{◌≡◌, ◌++◌, ◌∷◌, [], ◌<◌, None, Some, IfOk, IfErr};
+ghost use Rattle.std.specs.Prelude.{◌≡◌, ◌++◌, ◌∷◌, [], ◌<◌, None, Some, IfOk, IfErr, OnErr, OnOk};
 ghost use mathlib.Core.List.{IsPrefix};
-ghost use Rattle.ctt_draft.specs.Drafts.{calls_of, stale};
+ghost use Rattle.ctt_draft.specs.Drafts.{calls_of, replies, replies_in, stale};
 ghost use Rattle.ctt_draft.specs.DraftValues.{Settles};
 ghost use Rattle.ctt_core.specs.Runs.{after, Legal};
-ghost use Rattle.ctt_desk.specs.Histories.{entry_of, CountsDrafts, IsFreshAt, IsCause};
-ghost use Rattle.ctt_desk.specs.declared.locked.Cause.TheVariants.{NoMemory as OutOfMemory};
+ghost use Rattle.ctt_desk.specs.Histories.{entry_of, CountsDrafts, IsFreshAt, IsCause, IsWantAt, want_of};
 
 use crate::closed::Closed;
+use crate::minutes::{Minutes, Unwritten};
 use crate::naming::Naming;
 use crate::observed_prefix::{Head, ObservedPrefix, extend};
 use crate::publisher::Publisher;
@@ -35,6 +35,18 @@ pub(crate) enum Cause {
     Stale(Row),
     /// There is not enough memory.
     NoMemory,
+    /// The draft could not be written into the minutes.
+    NotWritten,
+}
+
+/// Returns the cause that a draft is not in the minutes.
+fn want_of(fault: Unwritten) -> Cause
+    ensures { result ≡ want_of fault }
+{
+    match fault {
+        Unwritten::NoMemory => Cause::NoMemory,
+        Unwritten::Failed => Cause::NotWritten,
+    }
 }
 
 /// The desk's opening, its journal, the current timetable, and the writer that publishes it.
@@ -94,6 +106,33 @@ fn put_back<S: Timetable, J: Naming>(slot: &mut Option<Publisher<S, J>>, publish
     let None = before else { unreachable!() };
 }
 
+/// Writes the entry of a draft into the minutes, which have the history `front`.
+fn enter<'i, S: Sheet<'i>, J: Naming, M: Minutes<J>>(
+    minutes: &mut M,
+    front: &ObservedPrefix<J>,
+    planner: PlannerNo,
+    draft: &Draft<'i, S>,
+) -> Result<(), Cause>
+    requires problem { draft.now.problem ≡ J.problem }
+    requires told { replies_in draft.now.asked
+        ≡ replies J.problem (after J.problem J.opening front.now) (calls_of draft.now.asked) }
+    requires minutes { M.have minutes.old front.now }
+    ensures written { OnOk result
+        (M.have minutes.new (front.now ++ entry_of planner draft.now.asked ∷ [])) }
+    ensures kept { OnOk result (M.kept (front.now ++ entry_of planner draft.now.asked ∷ [])) }
+    ensures unwritten { OnErr result (M.have minutes.new front.now) }
+    ensures legal { Legal J.problem J.opening (front.now ++ entry_of planner draft.now.asked ∷ []) }
+    ensures cause { IfErr result (IsWantAt M.failed) }
+{
+    front.len();
+    draft.instance().limits_hold();
+    draft.lawful();
+    match minutes.enter(draft.instance(), planner, draft.asked()) {
+        Ok(()) => Ok(()),
+        Err(fault) => Err(want_of(fault)),
+    }
+}
+
 impl<S: Timetable, J: Naming> Locked<S, J> {
     /// Starts a desk with an empty journal, whose opening is already published.
     pub(crate) fn new(
@@ -148,30 +187,34 @@ impl<S: Timetable, J: Naming> Locked<S, J> {
 }
 
 impl<'i, S: Sheet<'i>, J: Naming> Locked<S, J> {
-    /// Accepts a draft if the journal has as many of the planner's drafts as he committed and no
-    /// row that the draft read has changed; `front` is then the journal. A refused draft is
-    /// returned with the cause.
-    pub(crate) fn commit<R: Wait>(
+    /// Accepts a draft if the journal has as many of the planner's drafts as he committed, no row
+    /// that the draft read has changed, and it is in the minutes; `front` is then the journal. A
+    /// refused draft is returned with the cause.
+    pub(crate) fn commit<R: Wait, M: Minutes<J>>(
         &mut self,
         rt: &R,
         planner: PlannerNo,
         committed: u64,
         front: &mut ObservedPrefix<J>,
         draft: Box<Draft<'i, S>>,
+        minutes: &mut M,
     ) -> Result<(), (Box<Draft<'i, S>>, Cause)>
         requires problem { draft.value.problem ≡ J.problem }
         requires planner { planner < J.planners }
+        requires minutes { M.have minutes.old self.old }
+        ensures minutes { M.have minutes.new self.new }
         ensures legal { Legal J.problem J.opening self.old }
         ensures fresh { IfOk result (λ _.
             IsFreshAt J.problem J.opening self.old planner committed draft.entry.value) }
         ensures journal { IfOk result (λ _.
             self.new ≡ self.old ++ entry_of planner draft.entry.value.asked ∷ []) }
+        ensures kept { IfOk result (λ _. M.kept self.new) }
         ensures front { IfOk result (λ _. front.new ≡ self.new) }
         ensures begins { IfOk result (λ _. IsPrefix front.old self.old) }
         ensures seen { Legal J.problem J.opening front.new }
         ensures err { IfErr result (λ refused. (self.new ≡ self.old)
             × (refused.0 ≡ draft.entry)
-            × IsCause J.problem J.opening self.old planner committed front.old front.new
+            × IsCause M.failed J.problem J.opening self.old planner committed front.old front.new
             draft.entry.value refused.1) }
     {
         if !front.begins(&self.front) {
@@ -186,7 +229,7 @@ impl<'i, S: Sheet<'i>, J: Naming> Locked<S, J> {
             *front = self.front.again();
             return Err((draft, Cause::Stale(row)));
         }
-        self.accept(rt, planner, draft)?;
+        self.accept(rt, planner, draft, minutes)?;
         *front = self.front.again();
         Ok(())
     }
@@ -203,27 +246,36 @@ impl<'i, S: Sheet<'i>, J: Naming> Locked<S, J> {
         draft.stale(sheet).unwrap()
     }
 
-    /// Settles a draft, appends it to the journal, and publishes its changes. All memory is
-    /// allocated before the history grows, and nothing fails after that.
-    fn accept<R: Wait>(
+    /// Writes a draft into the minutes, settles it, appends it to the journal, and publishes its
+    /// changes. All memory is allocated before it is written, and nothing fails once the history
+    /// has grown.
+    fn accept<R: Wait, M: Minutes<J>>(
         &mut self,
         rt: &R,
         planner: PlannerNo,
         draft: Box<Draft<'i, S>>,
+        minutes: &mut M,
     ) -> Result<(), (Box<Draft<'i, S>>, Cause)>
         requires problem { draft.value.problem ≡ J.problem }
         requires planner { planner < J.planners }
         requires settles { Settles draft.value (after J.problem J.opening self.old) }
+        requires minutes { M.have minutes.old self.old }
+        ensures minutes { M.have minutes.new self.new }
         ensures journal { IfOk result (λ _.
             self.new ≡ self.old ++ entry_of planner draft.entry.value.asked ∷ []) }
+        ensures kept { IfOk result (λ _. M.kept self.new) }
         ensures err { IfErr result (λ refused. (self.new ≡ self.old)
-            × (refused.0 ≡ draft.entry) × (refused.1 ≡ OutOfMemory)) }
+            × (refused.0 ≡ draft.entry) × IsWantAt M.failed refused.1) }
     {
         if self.journal.reserve(1).is_err() {
             return Err((draft, Cause::NoMemory));
         }
         draft.lawful();
+        if let Err(cause) = enter(minutes, &self.front, planner, &draft) {
+            return Err((draft, cause));
+        }
         let Some(front) = extend(&self.front, &self.head, planner, &draft) else {
+            minutes.shut();
             return Err((draft, Cause::NoMemory));
         };
         let work = Box::into_inner(draft).finish();

@@ -24,6 +24,9 @@ pub enum Refusal<'i, S: Timetable, J: Naming> {
     /// There is not enough memory. The draft is unchanged.
     #[error("no memory")]
     NoMemory(Drafting<'i, S, J>),
+    /// The draft could not be written into the minutes. It is unchanged.
+    #[error("not written")]
+    NotWritten(Drafting<'i, S, J>),
 }
 
 /// Why a draft was not refreshed.
@@ -47,6 +50,7 @@ impl<'i, S: Timetable, J: Naming> Debug for Refusal<'i, S, J> {
             Refusal::NotYours(..) => "NotYours(..)",
             Refusal::Stale(..) => "Stale(..)",
             Refusal::NoMemory(_) => "NoMemory(..)",
+            Refusal::NotWritten(_) => "NotWritten(..)",
         })
     }
 }
