@@ -1,196 +1,139 @@
-//! The writer of minutes: the accepted drafts, in the order of their commits, on a durable writer.
+//! The writer of minutes: the accepted drafts, in the order of their commits, in a durable file.
 
-ghost use Rattle.std.specs.Prelude.{◌≡◌, ◌+◌, ◌<◌, ◌≤◌, ◌↔◌, ◌⊎◌, [], length, true, false, IsTrue, OnErr, OnOk};
-ghost use Rattle.std.specs.Io.KnownBytes.{Appends};
-ghost use Rattle.ctt_files.specs.Output.{AppendsFront};
-ghost use mathlib.Core.List.{IsPrefix};
+ghost use Rattle.std.specs.Prelude.{◌≡◌, ◌⊎◌, ℕ, [], List, None, true, false, OnErr, OnOk};
+ghost use Rattle.std.specs.Io.KnownBytes.{Appends, Keeps};
 ghost use Rattle.ctt_core.specs.Runs.{Legal};
-ghost use Rattle.ctt_log.specs.Minutes.{AreFrontOf, AreMinutesOf, EndsWith, CouldNotEnter, IsEntered, IsInMinutes, IsPartOf, IsSound, Stays, last_history};
-ghost use Rattle.ctt_log.specs.declared.log_writer.Attempt.TheVariants.{Entered, Failed as NotEntered, NotYet};
+ghost use Rattle.ctt_core.specs.declared.journal.JournalEntry.{JournalEntry};
+ghost use Rattle.ctt_files.specs.Output.{AppendsFront};
+ghost use Rattle.ctt_log.specs.Minutes.{AreMinutesOf, Cuts, Have, IsPartOf, Stays};
 
 use crate::begun::Begun;
 use crate::durable::Durable;
-use ctt_board::Timetable;
-use ctt_desk::{Closed, Naming, Planner, Receipt};
-use ctt_files::{Failed, put_whole};
-use ctt_text::drop_whole;
-use std::marker::Model;
+use ctt_core::PlannerNo;
+use ctt_desk::{Minutes, Naming, Unwritten};
+use ctt_draft::Asked;
+use ctt_files::Failed;
+use ctt_script::write_entry;
+use ctt_text::Instance;
+use std::alloc::Global;
+use std::marker::{Model, PhantomData};
 
-/// The outcome of an attempt to write an entry.
-#[derive(Clone, Copy, PartialEq, Eq)]
-pub enum Attempt {
-    /// The entry is written and durable.
-    Entered,
-    /// An earlier entry is still to be written.
-    NotYet,
-    /// The entry is not written, and no later one will be.
-    Failed,
-}
-
-/// A durable writer, and the receipt of the last draft whose entry was written. If the entry could
-/// not be written, a prefix of it may have been.
+/// The minutes of a desk in a durable file.
 #[derive(Drop)]
 pub struct LogWriter<W: Durable, J: Naming + Begun> {
+    alloc: Global,
     writer: W,
-    last: Option<Receipt<J>>,
-    /// Whether an entry could not be written. If so, no later one is written.
-    failed: bool,
+    /// Why no further entry is taken, if none is. Part of one that was not accepted may then follow
+    /// the others.
+    shut: Option<Unwritten>,
+    desk: PhantomData<J>,
 }
 
 impl<W: Durable, J: Naming + Begun> Model for LogWriter<W, J> {
-    ghost use Rattle.std.specs.Prelude.{◌≡◌, false, true};
-    ghost use Rattle.ctt_log.specs.Minutes.{AreFrontOf, AreMinutesOf, IsOut, LogValue, last_history};
+    ghost use Rattle.std.specs.Prelude.{◌≡◌, Some, true};
+    ghost use Rattle.ctt_desk.specs.declared.minutes.Unwritten.TheVariants.{Failed as DeviceFailed};
+    ghost use Rattle.ctt_log.specs.Minutes.{LogValue};
 
     ghost Value = { LogValue };
 
-    ghost view = { λ p. record {
-      taken = W.Sink.taken p.writer;
-      kept = W.kept p.writer;
-      history = last_history p.last;
-      failed = p.failed;
-      marked = W.Sink.has_failed p.writer;
-    } };
+    ghost view = { λ p. record { bytes = W.bytes p.writer; shut = p.shut } };
 
-    ghost invariant = { λ p. (p.failed ≡ false
-        → AreMinutesOf J.problem (last_history p.last) J.start (W.Sink.taken p.writer))
-        × (p.failed ≡ true
-        → IsOut W.Sink.taken W.Sink.has_failed J.problem J.start (last_history p.last) p.writer)
-        × AreFrontOf J.problem (last_history p.last) J.start (W.Sink.taken p.writer) };
+    ghost invariant = { λ p. p.shut ≡ Some DeviceFailed → W.has_failed p.writer ≡ true };
 }
 
 /// Writes an entry and makes it durable.
 #[tactic(auto, using(crate::proofs::MinutesLemmas::all_kept))]
 fn write<W: Durable>(writer: &mut W, entry: &[u8]) -> Result<(), Failed>
-    ensures taken { OnOk result
-        (Appends (W.Sink.taken writer.old) (W.Sink.taken writer.new) entry.now) }
+    ensures all { OnOk result (Appends (W.bytes writer.old) (W.bytes writer.new) entry.now) }
     ensures front { OnErr result
-        (AppendsFront (W.Sink.taken writer.old) (W.Sink.taken writer.new) entry.now) }
-    ensures kept { OnOk result (Stays (W.kept writer.new) (W.Sink.taken writer.new)) }
-    ensures marked { OnErr result (W.Sink.has_failed writer.new ≡ true) }
+        (AppendsFront (W.bytes writer.old) (W.bytes writer.new) entry.now) }
+    ensures kept { OnOk result (Stays (W.kept writer.new) (W.bytes writer.new)) }
+    ensures marked { OnErr result (W.has_failed writer.new ≡ true) }
 {
-    put_whole(writer, entry)?;
+    writer.append(entry)?;
     writer.sync()
 }
 
-/// Returns the number of drafts in the history of a receipt, or 0 if there is none.
-fn count<J: Naming>(last: &Option<Receipt<J>>) -> u64
-    ensures number { result ≡ length (last_history last.now) }
-    ensures legal { Legal J.problem J.opening (last_history last.now) }
+/// Cuts a file to a length, and makes that durable.
+fn take_back<W: Durable>(writer: &mut W, size: u64) -> Result<(), Failed>
+    ensures cut { OnOk result (Cuts size (W.bytes writer.old) (W.bytes writer.new)) }
+    ensures perhaps { OnErr result (Keeps (W.bytes writer.old) (W.bytes writer.new)
+        ⊎ Cuts size (W.bytes writer.old) (W.bytes writer.new)) }
+    ensures marked { OnErr result (W.has_failed writer.new ≡ true) }
 {
-    match last {
-        Some(receipt) => receipt.number(),
-        None => 0,
-    }
-}
-
-/// Returns whether the history of `receipt` begins with that of `last`, which is empty if there is
-/// none.
-fn begins<J: Naming>(last: &Option<Receipt<J>>, receipt: &Receipt<J>) -> bool
-    ensures begins { IsTrue result → IsPrefix (last_history last.now) receipt.now }
-    ensures shorter { IsTrue result ↔ (length (last_history last.now) ≤ length receipt.now) }
-{
-    match last {
-        Some(last) => last.begins(receipt),
-        None => true,
-    }
+    writer.cut(size)?;
+    writer.sync()
 }
 
 impl<W: Durable, J: Naming + Begun> LogWriter<W, J> {
-    /// Creates a log in which nothing is written.
-    pub fn new(writer: W) -> Self
-        requires { J.start ≡ W.Sink.taken writer }
-        ensures { result ≡ record {
-          taken = W.Sink.taken writer;
-          kept = W.kept writer;
-          history = [];
-          failed = false;
-          marked = W.Sink.has_failed writer;
-        } }
+    /// Creates minutes in which nothing is written.
+    pub fn new(alloc: Global, writer: W) -> Self
+        requires { J.start ≡ W.bytes writer }
+        ensures { Have J.problem J.opening J.start result [] }
     {
         LogWriter {
+            alloc,
             writer,
-            last: None,
-            failed: false,
+            shut: None,
+            desk: PhantomData,
         }
     }
 
-    /// Returns whether an entry could not be written.
-    pub fn has_failed(&self) -> bool
-        ensures failed { result ≡ self.now.failed }
-        ensures minutes { result ≡ false
-            → AreMinutesOf J.problem self.now.history J.start self.now.taken }
-        ensures sound { result ≡ false → IsSound W.Sink.taken J.problem J.start }
-        ensures cause { result ≡ true
-            → CouldNotEnter W.Sink.taken W.Sink.has_failed J.problem J.start }
-    {
-        self.failed
-    }
-
-    /// Lets a planner see the drafts up to the last one whose entry was to be written.
-    pub fn show<S: Timetable>(&self, planner: &mut Planner<S, J>)
-        ensures { IsPrefix self.now.history planner.new.front }
-    {
-        match &self.last {
-            Some(receipt) => planner.learn(receipt),
-            None => {}
-        }
-    }
-
-    /// Returns the writer when the desk is closed, and whether it has the entry of each draft of
-    /// the journal. `is_seen` says that the journal begins with the drafts that the log shows.
-    pub fn end<S: Timetable>(self, closed: &Closed<S, J>, is_seen: bool) -> (W, bool)
-        requires { is_seen ≡ true → IsPrefix self.history closed.now }
-        ensures whole { result.1 ≡ true
-            → AreMinutesOf J.problem closed.now J.start (W.Sink.taken result.0) }
-        ensures part { IsPartOf W.Sink.taken J.problem J.opening J.start result.0 }
+    /// Returns the file, and whether it has the entries of the accepted drafts and nothing else.
+    pub fn end(self) -> (W, bool)
+        ensures whole { result.1 ≡ true → (history : List JournalEntry)
+            → Have J.problem J.opening J.start self history
+            → AreMinutesOf J.problem history J.start (W.bytes result.0) }
+        ensures part { (history : List JournalEntry) → Legal J.problem J.opening history
+            → Have J.problem J.opening J.start self history
+            → IsPartOf W.bytes J.problem J.opening J.start history result.0 }
     {
         let LogWriter {
+            alloc: _,
             writer,
-            last,
-            failed,
+            shut,
+            desk: _,
         } = self;
-        let written = count(&last);
-        drop_whole(last);
-        if failed || !is_seen || written != closed.accepted() {
-            return (writer, false);
+        (writer, shut.is_none())
+    }
+}
+
+impl<W: Durable, J: Naming + Begun> Minutes<J> for LogWriter<W, J> {
+    ghost use Rattle.std.specs.Prelude.{◌≡◌, true};
+    ghost use Rattle.ctt_log.specs.Minutes.{Have, IsInMinutes};
+
+    ghost have = { λ log history. Have J.problem J.opening J.start log history };
+
+    ghost kept = { λ history. IsInMinutes W.bytes W.kept J.problem J.start history };
+
+    ghost failed = { (now : W) × (W.has_failed now ≡ true) };
+
+    fn enter(
+        &mut self,
+        instance: &Instance,
+        planner: PlannerNo,
+        asked: &[Asked],
+    ) -> Result<(), Unwritten> {
+        if let Some(why) = self.shut {
+            return Err(why);
         }
-        (writer, true)
+        let mut entry = String::new(self.alloc);
+        if write_entry(&mut entry, instance, planner, asked).is_err() {
+            return Err(Unwritten::NoMemory);
+        }
+        let Ok(size) = self.writer.size() else {
+            return Err(Unwritten::Failed);
+        };
+        if write(&mut self.writer, entry.as_bytes()).is_ok() {
+            return Ok(());
+        }
+        if take_back(&mut self.writer, size).is_err() {
+            self.shut = Some(Unwritten::Failed);
+        }
+        Err(Unwritten::Failed)
     }
 
-    /// Writes the entry of the last draft in the history of a receipt, if it is the next one.
-    #[tactic(auto, using(crate::proofs::MinutesLemmas::nothing_of))]
-    pub fn enter(&mut self, receipt: &Receipt<J>, entry: &[u8]) -> Attempt
-        requires { EndsWith J.problem receipt.now entry.now }
-        ensures entered { result ≡ Entered → IsEntered receipt.now entry.now self.old self.new }
-        ensures not_yet { result ≡ NotYet
-            → (self.new ≡ self.old) × (length self.old.history + 1 < length receipt.now) }
-        ensures kept { result ≡ Entered
-            → IsInMinutes W.Sink.taken W.kept J.problem J.start receipt.now }
-        ensures failed { result ≡ NotEntered → self.new.failed ≡ true }
-        ensures out { result ≡ NotEntered
-            → CouldNotEnter W.Sink.taken W.Sink.has_failed J.problem J.start }
-        ensures cause { result ≡ NotEntered → (self.old.failed ≡ true)
-            ⊎ (length receipt.now ≤ length self.old.history) ⊎ (self.new.marked ≡ true) }
-        ensures front { result ≡ NotEntered
-            → AppendsFront self.old.taken self.new.taken entry.now }
-        ensures shut { self.old.failed ≡ true → (result ≡ NotEntered) × (self.new ≡ self.old) }
-    {
-        let (written, number) = (count(&self.last), receipt.number());
-        if self.failed || number <= written || !begins(&self.last, receipt) {
-            self.failed = true;
-            return Attempt::Failed;
-        }
-        if number - written > 1 {
-            return Attempt::NotYet;
-        }
-        let written = write(&mut self.writer, entry);
-        self.last = Some(receipt.again());
-        match written {
-            Ok(()) => Attempt::Entered,
-            Err(_) => {
-                self.failed = true;
-                Attempt::Failed
-            }
-        }
+    fn shut(&mut self) {
+        self.shut = Some(Unwritten::NoMemory);
     }
 }
