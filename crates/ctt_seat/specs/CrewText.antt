@@ -15,7 +15,7 @@ use Rattle.ctt_script.specs.Entries.{AnswerFits}
 use Rattle.ctt_line.specs.Lines.{line}
 use Rattle.ctt_script.specs.WrittenWords.{cost_words}
 use Rattle.ctt_seat.specs.declared.seat.SeatAnswer.{SeatAnswer}
-use Rattle.ctt_seat.specs.declared.seat.SeatAnswer.TheVariants.{Answer as Answered, NotYours, NoPlace, Stale}
+use Rattle.ctt_seat.specs.declared.seat.SeatAnswer.TheVariants.{Answer as Answered, NotWritten, NotYours, NoPlace, Stale}
 
 -- an answer that can be written
 abbrev pub SeatAnswerFits : Problem → SeatAnswer → Type 0
@@ -23,6 +23,7 @@ SeatAnswerFits i (Answered answer) = AnswerFits i answer
 SeatAnswerFits i (Stale row asked) = AnswerFits i (StaleAnswer row)
 SeatAnswerFits i (NotYours n) = Unit {0}
 SeatAnswerFits i NoPlace = Unit {0}
+SeatAnswerFits i NotWritten = Unit {0}
 
 -- the answer to a planner who could not read: that he got no place, or that memory ran out
 abbrev pub unread_answer : SharedFault → SeatAnswer
@@ -36,6 +37,7 @@ seat_answer_words i (Answered answer) = answer_words i answer
 seat_answer_words i (Stale row asked) = answer_words i (StaleAnswer row)
 seat_answer_words i (NotYours n) = codes "not" ∷ codes "yours" ∷ decimal n ∷ []
 seat_answer_words i NoPlace = codes "no" ∷ codes "place" ∷ []
+seat_answer_words i NotWritten = codes "not" ∷ codes "written" ∷ []
 
 -- the answers of the planners from number p on, each after a heading
 abbrev pub planners_text : ℕ → List (List ℕ) → List ℕ

@@ -13,7 +13,7 @@ use Rattle.ctt_core.specs.declared.event.Event.{Event}
 use Rattle.ctt_core.specs.declared.event.Event.TheVariants.{Open, Ask, Peek, Status, Commit, Refresh, Abandon, Show}
 use Rattle.ctt_core.specs.declared.journal.JournalEntry.{JournalEntry}
 use Rattle.ctt_core.specs.declared.draft_status.DraftStatus.{DraftStatus}
-use Rattle.ctt_desk.specs.Histories.{IsHis, entry_of}
+use Rattle.ctt_desk.specs.Histories.{IsHis}
 use Rattle.ctt_desk.specs.Planners.{PlannerValue, DraftingValue, IsAccepted, IsForeign, IsFreshSomewhere, IsOpen, IsRefreshed, IsSameDraft, IsStale, IsStatus, IsViewed, asked_also, present_of}
 use Rattle.ctt_desk.specs.Refusals.{HasNotRead}
 use Rattle.ctt_desk.specs.declared.shared_fault.SharedFault.{SharedFault}
@@ -21,11 +21,10 @@ use Rattle.ctt_draft.specs.declared.asked.Asked.{Asked}
 use Rattle.ctt_script.specs.AnswerText.{bad_line}
 use Rattle.ctt_seat.specs.CrewText.{seat_answer_words, unread_answer}
 use Rattle.ctt_line.specs.Lines.{line}
-use Rattle.ctt_script.specs.WrittenText.{entry_text}
 use Rattle.ctt_seat.specs.declared.seat.Seat.{Seat}
 use Rattle.ctt_seat.specs.declared.seat.Seat.TheVariants.{Free, Drafting}
 use Rattle.ctt_seat.specs.declared.seat.SeatAnswer.{SeatAnswer}
-use Rattle.ctt_seat.specs.declared.seat.SeatAnswer.TheVariants.{Answer as Answered, NotYours, NoPlace, Stale}
+use Rattle.ctt_seat.specs.declared.seat.SeatAnswer.TheVariants.{Answer as Answered, NotWritten, NotYours, NoPlace, Stale}
 
 -- a seat, whatever its desk: a planner, with or without an open draft
 abbrev pub SeatValue : Type 0
@@ -68,21 +67,22 @@ States i t0 (Free p) after told = IsOnlyAnswered (Free p) after (Answered answer
 States i t0 (Drafting d) (Drafting e) told = IsSameDraft d e × (((s : DraftStatus) × IsStatus i t0 d e s × (told ≡ Answered (answer.Draft s))) ⊎ IsUnreadAnswer i t0 d.planner e.planner told)
 States i t0 (Drafting d) (Free q) told = ⊥
 
--- the draft d is refused: it is not the planner's, it is stale, or memory ran out for the commit,
--- and then it is still open
-abbrev pub IsCommitRefused : Problem → List Placed → DraftingValue → SeatValue → SeatAnswer → Type 0
-IsCommitRefused i t0 d after told =
+-- the draft d is refused: it is not the planner's, or stale; or it is still open, as memory ran out
+-- for the commit, or as it could not be written, and then Failed holds
+abbrev pub IsCommitRefused : Type 0 → Problem → List Placed → DraftingValue → SeatValue → SeatAnswer → Type 0
+IsCommitRefused Failed i t0 d after told =
     ((q : PlannerValue) × (count : ℕ) × IsForeign i t0 d q count × (after ≡ Free q) × (told ≡ NotYours count))
     ⊎ (((q : PlannerValue) × (row : Row) × (asked : List Asked) × IsStale i t0 d q row asked × IsHis q.front q.number q.committed × (after ≡ Free q) × (told ≡ Stale row asked))
-    ⊎ (IsFreshSomewhere i t0 d × IsOnlyAnswered (Drafting d) after (Answered answer.NoMemory) told))
+    ⊎ ((IsFreshSomewhere i t0 d × IsOnlyAnswered (Drafting d) after (Answered answer.NoMemory) told)
+    ⊎ (Failed × IsFreshSomewhere i t0 d × IsOnlyAnswered (Drafting d) after NotWritten told)))
 
--- a draft is accepted, and the history is that of the receipt; or it is refused, and the answer
--- says why
-abbrev pub Commits : Problem → List Placed → SeatValue → SeatValue → Result (List JournalEntry) SeatAnswer → Type 0
-Commits i t0 (Free p) after (Ok history) = ⊥
-Commits i t0 (Free p) after (Err told) = IsOnlyAnswered (Free p) after (Answered answer.NoDraft) told
-Commits i t0 (Drafting d) after (Ok history) = (q : PlannerValue) × IsAccepted i t0 d q history × (after ≡ Free q)
-Commits i t0 (Drafting d) after (Err told) = IsCommitRefused i t0 d after told
+-- a draft is accepted, the history is that of the receipt, and it is kept; or the draft is refused,
+-- and the answer says why
+abbrev pub Commits : (List JournalEntry → Type 0) → Type 0 → Problem → List Placed → SeatValue → SeatValue → Result (List JournalEntry) SeatAnswer → Type 0
+Commits Kept Failed i t0 (Free p) after (Ok history) = ⊥
+Commits Kept Failed i t0 (Free p) after (Err told) = IsOnlyAnswered (Free p) after (Answered answer.NoDraft) told
+Commits Kept Failed i t0 (Drafting d) after (Ok history) = (q : PlannerValue) × IsAccepted i t0 d q history × (after ≡ Free q) × Kept history
+Commits Kept Failed i t0 (Drafting d) after (Err told) = IsCommitRefused Failed i t0 d after told
 
 -- the answer to a commit: how many drafts were then accepted, or why it was refused
 abbrev pub receipt_answer : Result (List JournalEntry) SeatAnswer → SeatAnswer
@@ -120,26 +120,18 @@ ShowsPublished i t0 look (Free p) (Free q) told = IsLooked i t0 look p q told
 ShowsPublished i t0 look (Drafting d) after told = IsOnlyAnswered (Drafting d) after (Answered answer.AlreadyOpen) told
 
 -- an event is answered at the seat before, which becomes after
-abbrev pub Takes : Problem → List Placed → Event → SeatValue → SeatValue → SeatAnswer → Type 0
-Takes i t0 (Open p) before after told = OpensDraft i t0 before after told
-Takes i t0 (Ask p call) before after told = Asks i call before after told
-Takes i t0 (Peek p look) before after told = (after ≡ before) × Peeks i look before told
-Takes i t0 (Status p) before after told = States i t0 before after told
-Takes i t0 (Commit p) before after told = (outcome : Result (List JournalEntry) SeatAnswer) × Commits i t0 before after outcome × (told ≡ receipt_answer outcome)
-Takes i t0 (Refresh p) before after told = Refreshes i t0 before after told
-Takes i t0 (Abandon p) before after told = Abandons before after told
-Takes i t0 (Show look) before after told = ShowsPublished i t0 look before after told
+abbrev pub Takes : (List JournalEntry → Type 0) → Type 0 → Problem → List Placed → Event → SeatValue → SeatValue → SeatAnswer → Type 0
+Takes Kept Failed i t0 (Open p) before after told = OpensDraft i t0 before after told
+Takes Kept Failed i t0 (Ask p call) before after told = Asks i call before after told
+Takes Kept Failed i t0 (Peek p look) before after told = (after ≡ before) × Peeks i look before told
+Takes Kept Failed i t0 (Status p) before after told = States i t0 before after told
+Takes Kept Failed i t0 (Commit p) before after told = (outcome : Result (List JournalEntry) SeatAnswer) × Commits Kept Failed i t0 before after outcome × (told ≡ receipt_answer outcome)
+Takes Kept Failed i t0 (Refresh p) before after told = Refreshes i t0 before after told
+Takes Kept Failed i t0 (Abandon p) before after told = Abandons before after told
+Takes Kept Failed i t0 (Show look) before after told = ShowsPublished i t0 look before after told
 
--- the answer to a line is appended to the text, given the event parsed from the line, if any
+-- the answer to a line is appended to the text, given the event parsed from the line, if any; there
+-- are no minutes, so no draft has to be kept, and none can fail to be
 abbrev pub AnswersLine : Problem → List Placed → Option Event → SeatValue → SeatValue → List ℕ → List ℕ → Type 0
 AnswersLine i t0 None before after old new = (after ≡ before) × (new ≡ old ++ bad_line)
-AnswersLine i t0 (Some event) before after old new = (told : SeatAnswer) × Takes i t0 event before after told × (new ≡ old ++ line (seat_answer_words i told))
-
--- the entry of a draft, as written in a journal
-abbrev pub draft_text : Problem → DraftingValue → List ℕ
-draft_text i d = entry_text i (entry_of d.planner.number d.asked)
-
--- the entry of the open draft; empty if none is open
-abbrev pub open_entry : Problem → SeatValue → List ℕ
-open_entry i (Free p) = []
-open_entry i (Drafting d) = draft_text i d
+AnswersLine i t0 (Some event) before after old new = (told : SeatAnswer) × Takes (λ _. Unit {0}) ⊥ i t0 event before after told × (new ≡ old ++ line (seat_answer_words i told))

@@ -6,7 +6,7 @@ ghost use Rattle.ctt_core.specs.Runs.{Legal};
 ghost use Rattle.ctt_seat.specs.CrewText.{closing_text, crew_text};
 
 use ctt_board::Timetable;
-use ctt_desk::{Closed, Naming, SharedDesk};
+use ctt_desk::{Closed, Minutes, Naming, SharedDesk};
 use ctt_problem::NoMemory;
 use ctt_rules::Cost;
 use ctt_script::write_costs;
@@ -64,14 +64,16 @@ pub fn closing_report<S: Timetable, J: Naming>(
     crew_report(alloc, answers, entries, &cost)
 }
 
-/// Ends a desk whose planners are gone.
-pub fn end_desk<S: Timetable, J: Naming, R: Wait>(
+/// Ends a desk whose planners are gone, and returns its minutes, too.
+pub fn end_desk<S: Timetable, J: Naming, M: Minutes<J>, R: Wait>(
     rt: &R,
     alloc: Global,
-    desk: SharedDesk<S, J>,
-) -> Closed<S, J> {
+    desk: SharedDesk<S, J, M>,
+) -> (Closed<S, J>, M)
+    ensures { M.have result.1 result.0 }
+{
     let mut none = Vec::new(alloc);
     match desk.close(rt, none.as_mut_slice()) {
-        Ok(closed) | Err(closed) => closed,
+        (Ok(closed), minutes) | (Err(closed), minutes) => (closed, minutes),
     }
 }

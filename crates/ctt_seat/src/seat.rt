@@ -1,22 +1,20 @@
 //! A planner at his seat, with or without an open draft, and the answers that he gets.
 
-ghost use Rattle.std.specs.Prelude.{ℕ, ◌≡◌, ◌++◌, IfErr, OnOk, string_bytes};
+ghost use Rattle.std.specs.Prelude.{ℕ, ◌≡◌, IfErr};
 ghost use Rattle.ctt_edits.specs.Calls.{CallFits};
 ghost use Rattle.ctt_edits.specs.Looks.{LookFits};
 ghost use Rattle.ctt_core.specs.Runs.{EventFits};
 ghost use Rattle.ctt_seat.specs.CrewText.{SeatAnswerFits, unread_answer};
 ghost use Rattle.ctt_seat.specs.Attended.{leaver};
-ghost use Rattle.ctt_seat.specs.Seats.{Abandons, Asks, Commits, OpensDraft, Peeks, Refreshes, ShowsPublished, States, Takes, Views, receipt_answer, draft_text, open_entry, seat_value};
+ghost use Rattle.ctt_seat.specs.Seats.{Abandons, Asks, Commits, OpensDraft, Peeks, Refreshes, ShowsPublished, States, Takes, Views, receipt_answer, seat_value};
 
 use ctt_board::{Sheet, Timetable};
 use ctt_core::{Answer, Event};
 use ctt_desk::{
-    Drafting, Naming, Planner, Receipt, RefreshRefusal, Refusal, SharedDesk, SharedFault,
+    Drafting, Minutes, Naming, Planner, Receipt, RefreshRefusal, Refusal, SharedDesk, SharedFault,
 };
 use ctt_draft::AskedCalls;
 use ctt_edits::{Call, Look, Row};
-use ctt_problem::{NoMemory, drop_whole};
-use ctt_script::write_entry;
 use std::sync::Wait;
 
 /// A planner at work.
@@ -41,6 +39,8 @@ pub enum SeatAnswer {
     NotYours(u64),
     /// `left_right` refused to enter.
     NoPlace,
+    /// The draft could not be written into the minutes. It is still open.
+    NotWritten,
 }
 
 /// Returns the answer to a planner who could not read the published timetable.
@@ -63,21 +63,6 @@ fn commit_answer<J: Naming>(outcome: Result<Receipt<J>, SeatAnswer>) -> SeatAnsw
         Ok(receipt) => SeatAnswer::Answer(Answer::Committed(receipt.number())),
         Err(told) => told,
     }
-}
-
-/// Appends the entry of a draft, as written in a journal.
-fn write_draft<'i, S: Sheet<'i>, J: Naming>(
-    drafting: &Drafting<'i, S, J>,
-    text: &mut String,
-) -> Result<(), NoMemory>
-    ensures { OnOk result (string_bytes text.new
-        ≡ string_bytes text.old ++ draft_text J.problem drafting.now) }
-{
-    let instance = drafting.instance();
-    let entry = drafting.entry()?;
-    let written = write_entry(text, instance, entry.planner, entry.asked.as_slice());
-    drop_whole(entry);
-    Ok(written?)
 }
 
 impl<'i, S: Sheet<'i>, J: Naming> Seat<'i, S, J> {
@@ -148,13 +133,13 @@ impl<'i, S: Sheet<'i>, J: Naming> Seat<'i, S, J> {
     }
 
     /// Commits the draft. Returns the receipt if it is accepted, or else the answer to the planner.
-    pub fn commit<R: Wait>(
+    pub fn commit<R: Wait, M: Minutes<J>>(
         self,
         rt: &R,
-        desk: &SharedDesk<S, J>,
+        desk: &SharedDesk<S, J, M>,
     ) -> (Self, Result<Receipt<J>, SeatAnswer>)
         ensures fits { IfErr result.1 (SeatAnswerFits J.problem) }
-        ensures commits { Commits J.problem J.opening (seat_value self.entry)
+        ensures commits { Commits M.kept M.failed J.problem J.opening (seat_value self.entry)
             (seat_value result.0) result.1 }
     {
         match self {
@@ -175,6 +160,9 @@ impl<'i, S: Sheet<'i>, J: Naming> Seat<'i, S, J> {
                         Seat::Drafting(drafting),
                         Err(SeatAnswer::Answer(Answer::NoMemory)),
                     )
+                }
+                Err(Refusal::NotWritten(drafting)) => {
+                    (Seat::Drafting(drafting), Err(SeatAnswer::NotWritten))
                 }
             },
         }
@@ -270,10 +258,15 @@ impl<'i, S: Sheet<'i>, J: Naming> Seat<'i, S, J> {
     }
 
     /// Handles an event, and returns the seat that it leaves with the answer.
-    pub fn take<R: Wait>(self, rt: &R, desk: &SharedDesk<S, J>, event: Event) -> (Self, SeatAnswer)
+    pub fn take<R: Wait, M: Minutes<J>>(
+        self,
+        rt: &R,
+        desk: &SharedDesk<S, J, M>,
+        event: Event,
+    ) -> (Self, SeatAnswer)
         requires fits { (n : ℕ) × EventFits J.problem n event }
         ensures fits { SeatAnswerFits J.problem result.1 }
-        ensures takes { Takes J.problem J.opening event (seat_value self.entry)
+        ensures takes { Takes M.kept M.failed J.problem J.opening event (seat_value self.entry)
             (seat_value result.0) result.1 }
     {
         match event {
@@ -309,19 +302,6 @@ impl<'i, S: Sheet<'i>, J: Naming> Seat<'i, S, J> {
         match self {
             Seat::Free(planner) => planner,
             Seat::Drafting(drafting) => drafting.abandon(),
-        }
-    }
-}
-
-impl<'i, S: Sheet<'i>, J: Naming> Seat<'i, S, J> {
-    /// Appends the entry of the open draft, as written in a journal, if a draft is open.
-    pub fn write_entry(&self, text: &mut String) -> Result<(), NoMemory>
-        ensures { OnOk result (string_bytes text.new
-            ≡ string_bytes text.old ++ open_entry J.problem (seat_value self.now)) }
-    {
-        match self {
-            Seat::Free(_) => Ok(()),
-            Seat::Drafting(drafting) => write_draft(drafting, text),
         }
     }
 }

@@ -27,5 +27,6 @@ pub fn write_seat_answer(
         SeatAnswer::Stale(row, _) => write_answer(text, instance, &Answer::Stale(*row)),
         SeatAnswer::NotYours(count) => writeln!(text, "not yours {count}"),
         SeatAnswer::NoPlace => writeln!(text, "no place"),
+        SeatAnswer::NotWritten => writeln!(text, "not written"),
     }
 }
