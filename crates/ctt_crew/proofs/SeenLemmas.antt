@@ -52,23 +52,24 @@ asks i call (Free p) after is h = same (Free p) after h.0
 asks i call (Drafting d) after is (inl h) = same_seen d.planner (leaver after) (ap leaver h.2)
 asks i call (Drafting d) after is (inr h) = same (Drafting d) after h.0
 
-refused : (i : Problem) (t0 : List Placed) (d : DraftingValue) (after : SeatValue) (is : SeatAnswer) → IsCommitRefused i t0 d after is → Stays (Drafting d) after
-refused i t0 d after is (inl h) = subst (Stays (Drafting d)) (sym h.3) h.2.planner.begins
-refused i t0 d after is (inr (inl h)) = subst (Stays (Drafting d)) (sym h.5) h.3.planner.begins
-refused i t0 d after is (inr (inr h)) = same (Drafting d) after h.1.0
+refused : (Failed : Type 0) (i : Problem) (t0 : List Placed) (d : DraftingValue) (after : SeatValue) (is : SeatAnswer) → IsCommitRefused Failed i t0 d after is → Stays (Drafting d) after
+refused Failed i t0 d after is (inl h) = subst (Stays (Drafting d)) (sym h.3) h.2.planner.begins
+refused Failed i t0 d after is (inr (inl h)) = subst (Stays (Drafting d)) (sym h.5) h.3.planner.begins
+refused Failed i t0 d after is (inr (inr (inl h))) = same (Drafting d) after h.1.0
+refused Failed i t0 d after is (inr (inr (inr h))) = same (Drafting d) after h.2.0
 
-commits : (i : Problem) (t0 : List Placed) (before after : SeatValue) (outcome : Result (List JournalEntry) SeatAnswer) → Commits i t0 before after outcome → Stays before after
-commits i t0 (Free p) after (Ok receipt) h = absurd h
-commits i t0 (Free p) after (Err is) h = same (Free p) after h.0
-commits i t0 (Drafting d) after (Ok receipt) h =
+commits : (Kept : List JournalEntry → Type 0) (Failed : Type 0) (i : Problem) (t0 : List Placed) (before after : SeatValue) (outcome : Result (List JournalEntry) SeatAnswer) → Commits Kept Failed i t0 before after outcome → Stays before after
+commits Kept Failed i t0 (Free p) after (Ok receipt) h = absurd h
+commits Kept Failed i t0 (Free p) after (Err is) h = same (Free p) after h.0
+commits Kept Failed i t0 (Drafting d) after (Ok receipt) h =
     let r = accepted i t0 d h.0 receipt h.1 in
     subst (Stays (Drafting d)) (sym h.2) (subst (IsPrefix d.planner.front) r.1 r.0)
-commits i t0 (Drafting d) after (Err is) h = refused i t0 d after is h
+commits Kept Failed i t0 (Drafting d) after (Err is) h = refused Failed i t0 d after is h
 
 -- the receipt's history is what the planner has then seen
-committed : (i : Problem) (t0 : List Placed) (before after : SeatValue) (receipt : List JournalEntry) → Commits i t0 before after (Ok receipt) → receipt ≡ (leaver after).front
-committed i t0 (Free p) after receipt h = absurd h
-committed i t0 (Drafting d) after receipt h = (accepted i t0 d h.0 receipt h.1).1 ∙ sym (ap (λ (s : SeatValue). (leaver s).front) h.2)
+committed : (Kept : List JournalEntry → Type 0) (Failed : Type 0) (i : Problem) (t0 : List Placed) (before after : SeatValue) (receipt : List JournalEntry) → Commits Kept Failed i t0 before after (Ok receipt) → receipt ≡ (leaver after).front
+committed Kept Failed i t0 (Free p) after receipt h = absurd h
+committed Kept Failed i t0 (Drafting d) after receipt h = (accepted i t0 d h.0 receipt h.1).1 ∙ sym (ap (λ (s : SeatValue). (leaver s).front) h.2)
 
 refreshes : (i : Problem) (t0 : List Placed) (before after : SeatValue) (is : SeatAnswer) → Refreshes i t0 before after is → Stays before after
 refreshes i t0 (Free p) after is h = same (Free p) after h.0
@@ -93,19 +94,19 @@ states i t0 (Drafting d) (Drafting e) is (same_draft, inl h) = h.1.planner.begin
 states i t0 (Drafting d) (Drafting e) is (same_draft, inr h) = unread i t0 d.planner e.planner h.0 h.1
 states i t0 (Drafting d) (Free q) is h = absurd h
 
-takes : (i : Problem) (t0 : List Placed) (event : Event) (before after : SeatValue) (is : SeatAnswer) → Takes i t0 event before after is → Stays before after
-takes i t0 (Open p) before after is h = opens i t0 before after is h
-takes i t0 (Ask p call) before after is h = asks i call before after is h
-takes i t0 (Peek p look) before after is h = same before after h.0
-takes i t0 (Status p) before after is h = states i t0 before after is h
-takes i t0 (Commit p) before after is h = commits i t0 before after h.0 h.1
-takes i t0 (Refresh p) before after is h = refreshes i t0 before after is h
-takes i t0 (Abandon p) before after is h = abandons before after is h
-takes i t0 (Show look) before after is h = shows i t0 look before after is h
+takes : (Kept : List JournalEntry → Type 0) (Failed : Type 0) (i : Problem) (t0 : List Placed) (event : Event) (before after : SeatValue) (is : SeatAnswer) → Takes Kept Failed i t0 event before after is → Stays before after
+takes Kept Failed i t0 (Open p) before after is h = opens i t0 before after is h
+takes Kept Failed i t0 (Ask p call) before after is h = asks i call before after is h
+takes Kept Failed i t0 (Peek p look) before after is h = same before after h.0
+takes Kept Failed i t0 (Status p) before after is h = states i t0 before after is h
+takes Kept Failed i t0 (Commit p) before after is h = commits Kept Failed i t0 before after h.0 h.1
+takes Kept Failed i t0 (Refresh p) before after is h = refreshes i t0 before after is h
+takes Kept Failed i t0 (Abandon p) before after is h = abandons before after is h
+takes Kept Failed i t0 (Show look) before after is h = shows i t0 look before after is h
 
 answers_line : (i : Problem) (t0 : List Placed) (read : Option Event) (before after : SeatValue) (old new : List ℕ) → AnswersLine i t0 read before after old new → Stays before after
 answers_line i t0 None before after old new h = same before after h.0
-answers_line i t0 (Some event) before after old new h = takes i t0 event before after h.0 h.1
+answers_line i t0 (Some event) before after old new h = takes (λ _. Unit {0}) ⊥ i t0 event before after h.0 h.1
 
 answers_items : (i : Problem) (t0 : List Placed) (items : List (Option Event)) (before after : SeatValue) (old new : List ℕ) → AnswersItems i t0 items before after old new → Stays before after
 answers_items i t0 [] before after old new h = same before after h.0
@@ -116,6 +117,6 @@ pub seen_stays : SeenStays
 seen_stays i t0 items before after old new h = answers_items i t0 items before after old new h
 
 pub commits_stay : CommitsStay
-commits_stay i t0 items before next after old new receipt history done h begins =
-    subst (λ (r : List JournalEntry). IsPrefix r history) (sym (committed i t0 before next receipt done))
+commits_stay Kept Failed i t0 items before next after old new receipt history done h begins =
+    subst (λ (r : List JournalEntry). IsPrefix r history) (sym (committed Kept Failed i t0 before next receipt done))
     (prefix_trans (leaver next).front (leaver after).front history (answers_items i t0 items next after old new h) begins)

@@ -17,5 +17,5 @@ SeenStays = (i : Problem) (t0 : List Placed) (items : List (Option Event)) (befo
 -- A draft is accepted, items are answered, and the planner leaves: a history that begins with all
 -- that he has seen also begins with his receipt's history.
 abbrev pub CommitsStay : Type 0
-CommitsStay = (i : Problem) (t0 : List Placed) (items : List (Option Event)) (before next after : SeatValue) (old new : List ℕ) (receipt history : List JournalEntry)
-    → Commits i t0 before next (Ok receipt) → AnswersItems i t0 items next after old new → IsPrefix (leaver after).front history → IsPrefix receipt history
+CommitsStay = (Kept : List JournalEntry → Type 0) (Failed : Type 0) (i : Problem) (t0 : List Placed) (items : List (Option Event)) (before next after : SeatValue) (old new : List ℕ) (receipt history : List JournalEntry)
+    → Commits Kept Failed i t0 before next (Ok receipt) → AnswersItems i t0 items next after old new → IsPrefix (leaver after).front history → IsPrefix receipt history

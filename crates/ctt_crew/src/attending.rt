@@ -8,7 +8,7 @@ ghost use Rattle.ctt_seat.specs.Seats.{AnswersLine, seat_value};
 use crate::gate::Gate;
 use ctt_board::Sheet;
 use ctt_core::{Event, PlannerNo};
-use ctt_desk::{Naming, Planner, SharedDesk};
+use ctt_desk::{Naming, NoMinutes, Planner, SharedDesk};
 use ctt_grid::GridSheet;
 use ctt_problem::{Instance, NoMemory, drop_whole};
 use ctt_script::{Lines, has_words, read_own_line, write_bad_line};
@@ -31,7 +31,7 @@ fn kept_if<T: Drop>(value: T, written: Result<(), AllocError>) -> Result<T, NoMe
 /// line of the answer.
 fn answer_own_line<'i, S: Sheet<'i>, J: Naming, R: Wait>(
     rt: &R,
-    desk: &SharedDesk<S, J>,
+    desk: &SharedDesk<S, J, NoMinutes>,
     instance: &Instance,
     seat: Seat<'i, S, J>,
     planner: PlannerNo,
@@ -71,7 +71,7 @@ pub(crate) struct Attendance<'i, 'x, J: Naming, G: Gate> {
 fn attend<'i, 'x, S: Sheet<'i>, J: Naming, R: Wait, G: Gate>(
     attendance: Attendance<'i, 'x, J, G>,
     rt: &R,
-    desk: &SharedDesk<S, J>,
+    desk: &SharedDesk<S, J, NoMinutes>,
     number: PlannerNo,
     seat: Seat<'i, S, J>,
 ) -> Result<(Planner<S, J>, String), NoMemory>
@@ -116,7 +116,7 @@ fn attend<'i, 'x, S: Sheet<'i>, J: Naming, R: Wait, G: Gate>(
 /// instance, as a value that moves to a thread must.
 #[derive(Drop)]
 pub(crate) struct GridAttendance<'i, 'x, J: Naming, G: Gate> {
-    pub(crate) desk: &'x SharedDesk<GridSheet<'i>, J>,
+    pub(crate) desk: &'x SharedDesk<GridSheet<'i>, J, NoMinutes>,
     pub(crate) planner: Planner<GridSheet<'i>, J>,
     pub(crate) attendance: Attendance<'i, 'x, J, G>,
 }

@@ -7,7 +7,7 @@ ghost use Rattle.ctt_crew.specs.declared.crew_fault.CrewFault.TheVariants as cre
 
 use crate::crew_fault::CrewFault;
 use ctt_board::Timetable;
-use ctt_desk::{Closed, Naming, Planner, SharedDesk};
+use ctt_desk::{Closed, Naming, NoMinutes, Planner, SharedDesk};
 use ctt_problem::drop_whole;
 use ctt_seat::{closing_report, end_desk};
 use std::alloc::Global;
@@ -16,13 +16,13 @@ use std::sync::Wait;
 /// Ends a desk that these planners have left. It returns the journal in any case.
 fn closed_after<S: Timetable, J: Naming, R: Wait>(
     rt: &R,
-    desk: SharedDesk<S, J>,
+    desk: SharedDesk<S, J, NoMinutes>,
     planners: &mut [Planner<S, J>],
 ) -> Closed<S, J>
     ensures { HoldsSeen planners.old result }
 {
     match desk.close(rt, planners) {
-        Ok(closed) | Err(closed) => closed,
+        (Ok(closed), _none) | (Err(closed), _none) => closed,
     }
 }
 
@@ -30,7 +30,7 @@ fn closed_after<S: Timetable, J: Naming, R: Wait>(
 fn report_after<S: Timetable, J: Naming, R: Wait>(
     rt: &R,
     alloc: Global,
-    desk: SharedDesk<S, J>,
+    desk: SharedDesk<S, J, NoMinutes>,
     planners: Vec<Planner<S, J>>,
     answers: Vec<String>,
 ) -> Result<Vec<u8>, CrewFault>
@@ -52,7 +52,7 @@ fn report_after<S: Timetable, J: Naming, R: Wait>(
 pub(crate) fn last_report<S: Timetable, J: Naming, R: Wait>(
     rt: &R,
     alloc: Global,
-    desk: SharedDesk<S, J>,
+    desk: SharedDesk<S, J, NoMinutes>,
     done: Result<(Vec<Planner<S, J>>, Vec<String>), CrewFault>,
 ) -> Result<Vec<u8>, CrewFault>
     ensures closes { IfOk result (λ text. IsOkAnd done (λ done. IsClosingReport J.problem J.opening

@@ -13,7 +13,7 @@ use crate::crew_fault::CrewFault;
 use crate::gate::Gate;
 use ctt_board::{Sheet, Timetable};
 use ctt_core::PlannerNo;
-use ctt_desk::{Named, Naming, Opened, Planner, SharedDesk, SharedFault};
+use ctt_desk::{Named, Naming, NoMinutes, Opened, Planner, SharedDesk, SharedFault};
 use ctt_grid::GridSheet;
 use ctt_problem::{Instance, NoMemory, drop_whole};
 use std::alloc::Global;
@@ -66,7 +66,7 @@ fn push_started<T: Drop, E: Drop>(
 fn work_at_once<'i, 'x, J: Naming + Send + Sync, R: Threads + Wait + Sync, G: Gate>(
     rt: &R,
     alloc: Global,
-    desk: &'x SharedDesk<GridSheet<'i>, J>,
+    desk: &'x SharedDesk<GridSheet<'i>, J, NoMinutes>,
     works: Vec<(Planner<GridSheet<'i>, J>, Attendance<'i, 'x, J, G>)>,
 ) -> Result<(Vec<Planner<GridSheet<'i>, J>>, Vec<String>), CrewFault>
     ensures attended { IfOk result (λ done. AreAttended J.problem J.opening
@@ -145,11 +145,14 @@ fn attendances<'i, 'x, P: Drop, J: Naming, G: Gate>(
 fn desk_named<S: Timetable, J: Naming, R: Wait>(
     rt: &R,
     named: Named<S, J>,
-) -> Result<(SharedDesk<S, J>, Vec<Planner<S, J>>), CrewFault>
+) -> Result<(SharedDesk<S, J, NoMinutes>, Vec<Planner<S, J>>), CrewFault>
     ensures planners { IfOk result (λ made. made.1.items ≡ new_planners named.count) }
     ensures fault { IfErr result (IsCrewFault J.planners) }
 {
-    Ok(SharedDesk::new(rt, named)?)
+    match SharedDesk::new(rt, named, NoMinutes) {
+        Ok(made) => Ok(made),
+        Err((fault, _none)) => Err(CrewFault::from(fault)),
+    }
 }
 
 /// Runs the planners' scripts at a desk. Returns the planners as they left and their answers, both
@@ -157,7 +160,7 @@ fn desk_named<S: Timetable, J: Naming, R: Wait>(
 fn attended_at<'i, J: Naming + Send + Sync, R: Threads + Wait + Sync, G: Gate>(
     rt: &R,
     alloc: Global,
-    desk: &SharedDesk<GridSheet<'i>, J>,
+    desk: &SharedDesk<GridSheet<'i>, J, NoMinutes>,
     instance: &'i Instance,
     planners: Vec<Planner<GridSheet<'i>, J>>,
     scripts: &[&[u8]],
