@@ -48,7 +48,7 @@ Have i opening start log history = HaveWhile log.shut i opening start log.bytes 
 abbrev pub IsInMinutes : {W : Type 0} → (W → Option (List ℕ)) → (W → Option (List ℕ)) → Problem → Option (List ℕ) → List JournalEntry → Type 0
 IsInMinutes {W} bytes kept i start history = (now : W) × AreMinutesOf i history start (bytes now) × Stays (kept now) (bytes now)
 
--- the file has the bytes of the start and then the entries of the history, and perhaps the first
+-- the file has the bytes of the start and then the entries of a legal history, and perhaps the first
 -- bytes of one more, which would make the history longer
-abbrev pub IsPartOf : {W : Type 0} → (W → Option (List ℕ)) → Problem → List Placed → Option (List ℕ) → List JournalEntry → W → Type 0
-IsPartOf bytes i opening start history file = Legal i opening history × (AreMinutesOf i history start (bytes file) ⊎ AreTornMinutesOf i opening history start (bytes file))
+abbrev pub IsPartOf : {W : Type 0} → (W → Option (List ℕ)) → Problem → List Placed → Option (List ℕ) → W → Type 0
+IsPartOf bytes i opening start file = (history : List JournalEntry) × Legal i opening history × (AreMinutesOf i history start (bytes file) ⊎ AreTornMinutesOf i opening history start (bytes file))

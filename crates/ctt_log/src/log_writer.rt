@@ -86,7 +86,7 @@ impl<W: Durable, J: Naming + Begun> LogWriter<W, J> {
             → AreMinutesOf J.problem history J.start (W.bytes result.0) }
         ensures part { (history : List JournalEntry) → Legal J.problem J.opening history
             → Have J.problem J.opening J.start self history
-            → IsPartOf W.bytes J.problem J.opening J.start history result.0 }
+            → IsPartOf W.bytes J.problem J.opening J.start result.0 }
     {
         let LogWriter {
             alloc: _,

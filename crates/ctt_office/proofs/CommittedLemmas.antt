@@ -28,7 +28,7 @@ looks : (i : Problem) (t0 : List Placed) (look : Look) (p q : PlannerValue) (tol
 looks i t0 look p q told (inl is) = is.1.planner.committed
 looks i t0 look p q told (inr is) = unread i t0 p q is.0 is.1
 
-module _ (i : Problem) (t0 : List Placed) where
+module _ (Kept : List JournalEntry → Type 0) (Failed : Type 0) (i : Problem) (t0 : List Placed) where
   as_before : (before after : SeatValue) → after ≡ before → CommitsNone before after
   as_before before after same = ap (λ (s : SeatValue). (leaver s).committed) same
 
@@ -46,18 +46,19 @@ module _ (i : Problem) (t0 : List Placed) where
   moved : (d : DraftingValue) (after seat : SeatValue) → after ≡ seat → (leaver seat).committed ≡ d.planner.committed → CommitsNone (Drafting d) after
   moved d after seat same none = ap (λ (s : SeatValue). (leaver s).committed) same ∙ none
 
-  refused : (d : DraftingValue) (after : SeatValue) (told : SeatAnswer) → IsCommitRefused i t0 d after told → CommitsNone (Drafting d) after
+  refused : (d : DraftingValue) (after : SeatValue) (told : SeatAnswer) → IsCommitRefused Failed i t0 d after told → CommitsNone (Drafting d) after
   refused d after told (inl is) = moved d after (Free is.0) is.3 is.2.planner.committed
   refused d after told (inr (inl is)) = moved d after (Free is.0) is.5 is.3.planner.committed
-  refused d after told (inr (inr is)) = as_before (Drafting d) after is.1.0
+  refused d after told (inr (inr (inl is))) = as_before (Drafting d) after is.1.0
+  refused d after told (inr (inr (inr is))) = as_before (Drafting d) after is.2.0
 
   -- a refused commit
-  refuses : (before after : SeatValue) (told : SeatAnswer) → Commits i t0 before after (Err told) → CommitsNone before after
+  refuses : (before after : SeatValue) (told : SeatAnswer) → Commits Kept Failed i t0 before after (Err told) → CommitsNone before after
   refuses (Free p) after told is = as_before (Free p) after is.0
   refuses (Drafting d) after told is = refused d after told is
 
-  pub refused_uncommitted : (before after : SeatValue) (outcome : Result (List JournalEntry) SeatAnswer) (told : SeatAnswer) → outcome ≡ Err told → Commits i t0 before after outcome → CommitsNone before after
-  refused_uncommitted before after outcome told same is = refuses before after told (subst (Commits i t0 before after) same is)
+  pub refused_uncommitted : (before after : SeatValue) (outcome : Result (List JournalEntry) SeatAnswer) (told : SeatAnswer) → outcome ≡ Err told → Commits Kept Failed i t0 before after outcome → CommitsNone before after
+  refused_uncommitted before after outcome told same is = refuses before after told (subst (Commits Kept Failed i t0 before after) same is)
 
   refreshes : (before after : SeatValue) (told : SeatAnswer) → Refreshes i t0 before after told → CommitsNone before after
   refreshes (Free p) after told is = as_before (Free p) after is.0
@@ -83,7 +84,7 @@ module _ (i : Problem) (t0 : List Placed) where
   states (Drafting d) (Free q) told is = absurd is
 
   -- a step that is no commit
-  pub does_uncommitted : (event : Event) (before after : SeatValue) (told : SeatAnswer) → ((p : ℕ) → event ≢ Commit p) → AnswersEvent i t0 event before after told → CommitsNone before after
+  pub does_uncommitted : (event : Event) (before after : SeatValue) (told : SeatAnswer) → ((p : ℕ) → event ≢ Commit p) → AnswersEvent Kept Failed i t0 event before after told → CommitsNone before after
   does_uncommitted (Open p) before after told other is = opens before after told is
   does_uncommitted (Ask p call) before after told other is = asks call before after told is
   does_uncommitted (Peek p look) before after told other is = as_before before after is.0

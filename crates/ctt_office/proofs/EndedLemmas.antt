@@ -18,7 +18,7 @@ use Rattle.ctt_seat.specs.CrewText.{unread_answer}
 use Rattle.ctt_seat.specs.Seats.{Abandons, Asks, Commits, IsCommitRefused, IsLooked, IsUnreadAnswer, OpensDraft, Peeks, Refreshes, SeatValue, States, Views, receipt_answer}
 use Rattle.ctt_seat.specs.declared.seat.Seat.TheVariants.{Drafting, Free}
 use Rattle.ctt_seat.specs.declared.seat.SeatAnswer.{SeatAnswer}
-use Rattle.ctt_seat.specs.declared.seat.SeatAnswer.TheVariants.{Answer as Answered, NoPlace, NotYours, Stale}
+use Rattle.ctt_seat.specs.declared.seat.SeatAnswer.TheVariants.{Answer as Answered, NoPlace, NotWritten, NotYours, Stale}
 use Rattle.ctt_office.specs.Ended.{BackFits, EndedFits, OpenFits, ended_after, is_fresh_start}
 use Rattle.ctt_office.specs.SeatAnswers.{AnswersEvent}
 
@@ -31,7 +31,7 @@ unread_back i (shared.Unlawful at f) = tt
 unread_back i shared.NoPlace = tt
 unread_back i shared.NoMemory = tt
 
-module _ (i : Problem) (t0 : List Placed) where
+module _ (Kept : List JournalEntry → Type 0) (Failed : Type 0) (i : Problem) (t0 : List Placed) where
   unread_answer_back : (p q : PlannerValue) (told : SeatAnswer) → IsUnreadAnswer i t0 p q told → BackFits i told
   unread_answer_back p q told is = subst (BackFits i) (sym is.2) (unread_back i is.0)
 
@@ -60,13 +60,14 @@ module _ (i : Problem) (t0 : List Placed) where
   states_back (Drafting d) (Drafting e) told (same, inr is) = unread_answer_back d.planner e.planner told is
   states_back (Drafting d) (Free q) told is = absurd is
 
-  refused_back : (d : DraftingValue) (after : SeatValue) (told : SeatAnswer) → Each (AskedFits i) d.asked → IsCommitRefused i t0 d after told → BackFits i told
+  refused_back : (d : DraftingValue) (after : SeatValue) (told : SeatAnswer) → Each (AskedFits i) d.asked → IsCommitRefused Failed i t0 d after told → BackFits i told
   refused_back d after told fit (inl is) = subst (BackFits i) (sym is.4) tt
   refused_back d after told fit (inr (inl is)) = subst (BackFits i) (sym is.6) (subst (Each (AskedFits i)) (sym is.3.back) fit)
-  refused_back d after told fit (inr (inr is)) = by_answer i told _ is.1.1
+  refused_back d after told fit (inr (inr (inl is))) = by_answer i told _ is.1.1
+  refused_back d after told fit (inr (inr (inr is))) = subst (BackFits i) (sym is.2.1) tt
 
   -- a refused commit returns calls that fit
-  pub commits_back : (before after : SeatValue) (told : SeatAnswer) → OpenFits i before → Commits i t0 before after (Err told) → BackFits i told
+  pub commits_back : (before after : SeatValue) (told : SeatAnswer) → OpenFits i before → Commits Kept Failed i t0 before after (Err told) → BackFits i told
   commits_back (Free p) after told fit is = by_answer i told _ is.1
   commits_back (Drafting d) after told fit is = refused_back d after told fit is
 
@@ -87,12 +88,12 @@ module _ (i : Problem) (t0 : List Placed) where
   views_back look (Drafting d) (Free q) told is = absurd is
   views_back look (Drafting d) (Drafting e) told is = looked_back look d.planner e.planner told is.1
 
-  outcome_back : (before after : SeatValue) (outcome : Result (List JournalEntry) SeatAnswer) → OpenFits i before → Commits i t0 before after outcome → BackFits i (receipt_answer outcome)
+  outcome_back : (before after : SeatValue) (outcome : Result (List JournalEntry) SeatAnswer) → OpenFits i before → Commits Kept Failed i t0 before after outcome → BackFits i (receipt_answer outcome)
   outcome_back before after (Ok history) fit is = tt
   outcome_back before after (Err told) fit is = commits_back before after told fit is
 
   -- any step does so too
-  pub does_back : (event : Event) (before after : SeatValue) (told : SeatAnswer) → OpenFits i before → AnswersEvent i t0 event before after told → BackFits i told
+  pub does_back : (event : Event) (before after : SeatValue) (told : SeatAnswer) → OpenFits i before → AnswersEvent Kept Failed i t0 event before after told → BackFits i told
   does_back (Open p) before after told fit is = opens_back before after told is
   does_back (Ask p call) before after told fit is = asks_back call before after told is
   does_back (Peek p look) before after told fit is = peeks_back look before told is.1
@@ -112,3 +113,4 @@ ended_fits i (Answered answer) before fit back = by (is_fresh_start answer)
 ended_fits i (Stale row asked) before fit back = back
 ended_fits i (NotYours n) before fit back = fit
 ended_fits i NoPlace before fit back = fit
+ended_fits i NotWritten before fit back = fit

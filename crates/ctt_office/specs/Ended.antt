@@ -9,7 +9,7 @@ use Rattle.ctt_draft.specs.declared.asked.Asked.{Asked}
 use Rattle.ctt_seat.specs.Seats.{SeatValue}
 use Rattle.ctt_seat.specs.declared.seat.Seat.TheVariants.{Drafting, Free}
 use Rattle.ctt_seat.specs.declared.seat.SeatAnswer.{SeatAnswer}
-use Rattle.ctt_seat.specs.declared.seat.SeatAnswer.TheVariants.{Answer as Answered, NoPlace, NotYours, Stale}
+use Rattle.ctt_seat.specs.declared.seat.SeatAnswer.TheVariants.{Answer as Answered, NoPlace, NotWritten, NotYours, Stale}
 
 -- the answer reports that a draft is opened, committed or abandoned
 abbrev pub is_fresh_start : Answer → Bool
@@ -24,6 +24,7 @@ ended_after (Stale row asked) before = Some asked
 ended_after (Answered answer) before = cond (is_fresh_start answer) None before
 ended_after (NotYours n) before = before
 ended_after NoPlace before = before
+ended_after NotWritten before = before
 
 -- the calls of the ended draft, and their replies, fit
 abbrev pub EndedFits : Problem → Option (List Asked) → Type 0
@@ -40,3 +41,4 @@ BackFits i (Answered answer) = Unit {0}
 BackFits i (Stale row asked) = Each (AskedFits i) asked
 BackFits i (NotYours n) = Unit {0}
 BackFits i NoPlace = Unit {0}
+BackFits i NotWritten = Unit {0}

@@ -36,10 +36,6 @@ use Rattle.ctt_office.specs.declared.seat_state.SeatState.{SeatState}
 abbrev pub told_line : Problem → SeatAnswer → List ℕ
 told_line i told = line (seat_answer_words i told)
 
--- the answer to a commit that is not in the minutes
-abbrev pub not_written : List ℕ
-not_written = line (codes "not" ∷ codes "written" ∷ [])
-
 -- the answer to an accepted draft with this number
 abbrev pub committed_line : ℕ → List ℕ
 committed_line number = line (codes "committed" ∷ decimal number ∷ [])
@@ -57,37 +53,21 @@ help_line = line (codes "words" ∷ help_words)
 abbrev pub left_line : List ℕ
 left_line = line (codes "left" ∷ [])
 
--- the answer to a commit with this outcome: for an accepted draft its number if it is in the
--- minutes, or that it is not written if an entry could not be; for a refused one the reason
-abbrev pub IsOutcomeAnswer : (List JournalEntry → Type 0) → Type 0 → Problem → Result (List JournalEntry) SeatAnswer → List ℕ → Type 0
-IsOutcomeAnswer IsKept Failed i (Ok history) answer = (IsKept history × (answer ≡ told_line i (receipt_answer (Ok history)))) ⊎ (Failed × (answer ≡ not_written))
-IsOutcomeAnswer IsKept Failed i (Err told) answer = answer ≡ told_line i told
-
--- the answer if no commit was tried: an entry could not be written, or memory ran out
-abbrev pub IsUntriedAnswer : Type 0 → Problem → List ℕ → Type 0
-IsUntriedAnswer Failed i answer = (Failed × (answer ≡ not_written)) ⊎ (answer ≡ told_line i (Answered NoMemory))
-
--- a commit is tried and answered, or not tried, which changes nothing
+-- a commit is tried and its outcome is answered, or it is not tried if memory runs out
 abbrev pub IsCommitAnswer : {X Y : Type 0} → (List JournalEntry → Type 0) → Type 0 → Problem → List Placed → SeatState X Y → SeatState X Y → List ℕ → Type 0
-IsCommitAnswer IsKept Failed i t0 before after answer =
-    ((outcome : Result (List JournalEntry) SeatAnswer) × Commits i t0 (seat_value before.seat) (seat_value after.seat) outcome × (after.ended ≡ ended_after (receipt_answer outcome) before.ended) × IsOutcomeAnswer IsKept Failed i outcome answer)
-    ⊎ ((after ≡ before) × IsUntriedAnswer Failed i answer)
-
--- without a log, a commit is tried and answered as in a crew, or not tried if memory runs out
-abbrev pub IsCommitAlone : {X Y : Type 0} → Problem → List Placed → SeatState X Y → SeatState X Y → List ℕ → Type 0
-IsCommitAlone i t0 before after answer =
-    ((outcome : Result (List JournalEntry) SeatAnswer) × Commits i t0 (seat_value before.seat) (seat_value after.seat) outcome × (after.ended ≡ ended_after (receipt_answer outcome) before.ended) × (answer ≡ told_line i (receipt_answer outcome)))
+IsCommitAnswer Kept Failed i t0 before after answer =
+    ((outcome : Result (List JournalEntry) SeatAnswer) × Commits Kept Failed i t0 (seat_value before.seat) (seat_value after.seat) outcome × (after.ended ≡ ended_after (receipt_answer outcome) before.ended) × (answer ≡ told_line i (receipt_answer outcome)))
     ⊎ ((after ≡ before) × (answer ≡ told_line i (Answered NoMemory)))
 
 -- an event is answered as in a crew, but a look at the published timetable is answered also if a
 -- draft is open, and leaves it as it is
-abbrev pub AnswersEvent : Problem → List Placed → Event → SeatValue → SeatValue → SeatAnswer → Type 0
-AnswersEvent i t0 (Show look) before after told = Views i t0 look before after told
-AnswersEvent i t0 event before after told = Takes i t0 event before after told
+abbrev pub AnswersEvent : (List JournalEntry → Type 0) → Type 0 → Problem → List Placed → Event → SeatValue → SeatValue → SeatAnswer → Type 0
+AnswersEvent Kept Failed i t0 (Show look) before after told = Views i t0 look before after told
+AnswersEvent Kept Failed i t0 event before after told = Takes Kept Failed i t0 event before after told
 
 -- a step is performed, and the answer is the line of its report
-abbrev pub IsToldAnswer : {X Y : Type 0} → Problem → List Placed → Event → SeatState X Y → SeatState X Y → List ℕ → Type 0
-IsToldAnswer i t0 event before after answer = (told : SeatAnswer) × AnswersEvent i t0 event (seat_value before.seat) (seat_value after.seat) told × (after.ended ≡ ended_after told before.ended) × (answer ≡ told_line i told)
+abbrev pub IsToldAnswer : {X Y : Type 0} → (List JournalEntry → Type 0) → Type 0 → Problem → List Placed → Event → SeatState X Y → SeatState X Y → List ℕ → Type 0
+IsToldAnswer Kept Failed i t0 event before after answer = (told : SeatAnswer) × AnswersEvent Kept Failed i t0 event (seat_value before.seat) (seat_value after.seat) told × (after.ended ≡ ended_after told before.ended) × (answer ≡ told_line i told)
 
 -- the accepted edits of an ended draft are redone in a new draft, as far as they can be made; or
 -- what is published cannot be read, or memory runs out, and the calls can still be redone
@@ -121,26 +101,21 @@ abbrev pub Undoes : {X Y : Type 0} → Problem → Seat X Y → Seat X Y → Lis
 Undoes i (Free p) after answer = (after ≡ Free p) × (answer ≡ told_line i (Answered NoDraft))
 Undoes i (Drafting d) after answer = (e : DraftingValue) × (after ≡ Drafting e) × UndoesIn i d e answer
 
--- a commit is answered, with a log or without one
-abbrev pub IsAnsweredBy : {B X Y : Type 0} → Option B → (List JournalEntry → Type 0) → Type 0 → Problem → List Placed → SeatState X Y → SeatState X Y → List ℕ → Type 0
-IsAnsweredBy None IsKept Failed i t0 before after answer = IsCommitAlone i t0 before after answer
-IsAnsweredBy (Some log) IsKept Failed i t0 before after answer = IsCommitAnswer IsKept Failed i t0 before after answer
-
 -- a step is answered; all but commits by the line of the report
-abbrev pub IsStepAnswer : {B X Y : Type 0} → Option B → (List JournalEntry → Type 0) → Type 0 → Problem → List Placed → Event → SeatState X Y → SeatState X Y → List ℕ → Type 0
-IsStepAnswer log IsKept Failed i t0 (Commit p) before after answer = IsAnsweredBy log IsKept Failed i t0 before after answer
-IsStepAnswer log IsKept Failed i t0 event before after answer = IsToldAnswer i t0 event before after answer
+abbrev pub IsStepAnswer : {X Y : Type 0} → (List JournalEntry → Type 0) → Type 0 → Problem → List Placed → Event → SeatState X Y → SeatState X Y → List ℕ → Type 0
+IsStepAnswer Kept Failed i t0 (Commit p) before after answer = IsCommitAnswer Kept Failed i t0 before after answer
+IsStepAnswer Kept Failed i t0 event before after answer = IsToldAnswer Kept Failed i t0 event before after answer
 
 -- a line is answered, by one line unless it is blank
-abbrev pub IsAnswer : {B X Y : Type 0} → Option B → (List JournalEntry → Type 0) → Type 0 → Problem → List Placed → SeatLine → SeatState X Y → SeatState X Y → List ℕ → Type 0
-IsAnswer log IsKept Failed i t0 Blank before after answer = (after ≡ before) × (answer ≡ [])
-IsAnswer log IsKept Failed i t0 Leave before after answer = (after ≡ before) × (answer ≡ left_line)
-IsAnswer log IsKept Failed i t0 Help before after answer = (after ≡ before) × (answer ≡ help_line)
-IsAnswer log IsKept Failed i t0 Redo before after answer = Redoes i t0 before.seat before.ended after answer
-IsAnswer log IsKept Failed i t0 Undo before after answer = Undoes i before.seat after.seat answer × (after.ended ≡ before.ended)
-IsAnswer log IsKept Failed i t0 (Bad word) before after answer = (after ≡ before) × (answer ≡ bad_word_line word)
-IsAnswer log IsKept Failed i t0 TooLong before after answer = (after ≡ before) × (answer ≡ bad_line)
-IsAnswer log IsKept Failed i t0 (Step event) before after answer = IsStepAnswer log IsKept Failed i t0 event before after answer
+abbrev pub IsAnswer : {X Y : Type 0} → (List JournalEntry → Type 0) → Type 0 → Problem → List Placed → SeatLine → SeatState X Y → SeatState X Y → List ℕ → Type 0
+IsAnswer Kept Failed i t0 Blank before after answer = (after ≡ before) × (answer ≡ [])
+IsAnswer Kept Failed i t0 Leave before after answer = (after ≡ before) × (answer ≡ left_line)
+IsAnswer Kept Failed i t0 Help before after answer = (after ≡ before) × (answer ≡ help_line)
+IsAnswer Kept Failed i t0 Redo before after answer = Redoes i t0 before.seat before.ended after answer
+IsAnswer Kept Failed i t0 Undo before after answer = Undoes i before.seat after.seat answer × (after.ended ≡ before.ended)
+IsAnswer Kept Failed i t0 (Bad word) before after answer = (after ≡ before) × (answer ≡ bad_word_line word)
+IsAnswer Kept Failed i t0 TooLong before after answer = (after ≡ before) × (answer ≡ bad_line)
+IsAnswer Kept Failed i t0 (Step event) before after answer = IsStepAnswer Kept Failed i t0 event before after answer
 
 -- the planner's number of committed drafts is unchanged
 abbrev pub CommitsNone : SeatValue → SeatValue → Type 0

@@ -1,15 +1,14 @@
 //! The answer to a line of a seat.
 
-ghost use Rattle.std.specs.Prelude.{◌≡◌, ◌≢◌, ◌+◌, ◌≤◌, ◌++◌, ℕ, IfOk, IsOk, Ok, OnErr, OnOk, string_bytes};
+ghost use Rattle.std.specs.Prelude.{◌≡◌, ◌≢◌, ◌+◌, ◌≤◌, ◌++◌, ℕ, OnErr, OnOk, string_bytes};
 ghost use Rattle.std.specs.String.{string_capacity, string_len};
 ghost use Rattle.ctt_core.specs.Runs.{EventFits};
 ghost use Rattle.ctt_core.specs.declared.answer.Answer.TheVariants.{NoMemory};
 ghost use Rattle.ctt_core.specs.declared.event.Event.TheVariants.{Commit};
 ghost use Rattle.ctt_seat.specs.CrewText.{SeatAnswerFits};
-ghost use Rattle.ctt_seat.specs.Seats.{open_entry, seat_value};
+ghost use Rattle.ctt_seat.specs.Seats.{seat_value};
 ghost use Rattle.ctt_seat.specs.declared.seat.SeatAnswer.TheVariants.{Answer as Answered};
-ghost use Rattle.ctt_log.specs.Minutes.{EndsWith, CouldNotEnter, IsInMinutes};
-ghost use Rattle.ctt_office.specs.SeatAnswers.{AddsAnswer, AnswersEvent, IsAnswer, IsCommitAlone, IsCommitAnswer, IsToldAnswer, IsOutcomeAnswer, IsStepAnswer, IsUncommitted, Undoes, committed_line, help_line, left_line, not_written, told_line};
+ghost use Rattle.ctt_office.specs.SeatAnswers.{AddsAnswer, AnswersEvent, IsAnswer, IsCommitAnswer, IsToldAnswer, IsStepAnswer, IsUncommitted, Undoes, committed_line, help_line, left_line, told_line};
 ghost use Rattle.ctt_office.specs.Ended.{EndedFits, ended_after};
 ghost use Rattle.ctt_office.specs.SeatText.{LineFits};
 
@@ -19,12 +18,11 @@ use crate::seat_state::{SeatState, calls_fit, ended_after};
 use crate::undoing::undo;
 use ctt_board::Sheet;
 use ctt_core::{Answer, Event};
-use ctt_desk::{Naming, Receipt, SharedDesk};
+use ctt_desk::{Minutes, Naming, SharedDesk};
 use ctt_draft::AskedCalls;
-use ctt_log::{Begun, Durable, WriteAheadLog};
 use ctt_script::write_bad_line;
 use ctt_seat::{Seat, SeatAnswer, write_seat_answer};
-use ctt_text::{Instance, NoMemory as OutOfMemory, drop_whole};
+use ctt_text::{Instance, drop_whole};
 use itoa::Buffer;
 use std::alloc::{AllocError, Global};
 use std::sync::Wait;
@@ -36,14 +34,6 @@ const HELP: &str =
 
 /// The capacity in bytes that is reserved for the answer to an accepted draft.
 const COMMITTED: usize = 64;
-
-/// Adds the answer to a commit that is not in the minutes.
-fn write_not_written(text: &mut String) -> Result<(), AllocError>
-    ensures line { OnOk result (string_bytes text.new ≡ string_bytes text.old ++ not_written) }
-    ensures room { string_len text.old + 64 ≤ string_capacity text.old → IsOk result }
-{
-    text.push_str("not written\n")
-}
 
 /// Adds the answer to a planner who leaves.
 fn write_left(text: &mut String) -> Result<(), AllocError>
@@ -77,45 +67,6 @@ pub(crate) fn write_no_memory(instance: &Instance, text: &mut String) -> Result<
     write_seat_answer(text, instance, &SeatAnswer::Answer(Answer::NoMemory))
 }
 
-/// Returns the entry of the open draft, and reserves capacity for the answer.
-fn entry_of<'i, S: Sheet<'i>, J: Naming>(
-    alloc: Global,
-    seat: &Seat<'i, S, J>,
-    text: &mut String,
-) -> Result<String, OutOfMemory>
-    ensures entry { IfOk result (λ entry.
-        string_bytes entry ≡ open_entry J.problem (seat_value seat.now)) }
-    ensures same { string_bytes text.new ≡ string_bytes text.old }
-    ensures room { OnOk result (string_len text.new + 64 ≤ string_capacity text.new) }
-{
-    let mut entry = String::new(alloc);
-    seat.write_entry(&mut entry)?;
-    text.reserve(COMMITTED)?;
-    Ok(entry)
-}
-
-/// Enters an accepted draft into the log, and adds the answer, for which capacity has been
-/// reserved: the draft's number if it is in the log, and else that it is not written.
-fn enter<J: Naming + Begun, W: Durable, R: Wait>(
-    rt: &R,
-    instance: &Instance,
-    log: &WriteAheadLog<W, J>,
-    receipt: &Receipt<J>,
-    entry: &str,
-    text: &mut String,
-)
-    requires ends { EndsWith J.problem receipt.now entry.now }
-    requires room { string_len text.old + 64 ≤ string_capacity text.old }
-    ensures { AddsAnswer (IsOutcomeAnswer (IsInMinutes W.Sink.taken W.kept J.problem J.start)
-        (CouldNotEnter W.Sink.taken W.Sink.has_failed J.problem J.start) instance.now
-        (Ok receipt.now)) (string_bytes text.old) (string_bytes text.new) }
-{
-    match log.enter(rt, receipt, entry.as_bytes()) {
-        Ok(()) => add_committed(text, receipt.number()),
-        Err(_) => write_not_written(text).unwrap(),
-    }
-}
-
 /// Adds the answer to a refused commit. If the draft is stale, its calls can be redone.
 fn refuse<'i, S: Sheet<'i>, J: Naming>(
     instance: &Instance,
@@ -135,49 +86,10 @@ fn refuse<'i, S: Sheet<'i>, J: Naming>(
     (SeatState { seat, ended }, written)
 }
 
-/// Commits the draft, and adds the answer. The draft is reported as accepted only if it is in the
-/// log.
-fn commit<'i, S: Sheet<'i>, J: Naming + Begun, W: Durable, R: Wait>(
+/// Commits the draft, and adds the answer, for which capacity is reserved before.
+fn commit<'i, S: Sheet<'i>, J: Naming, M: Minutes<J>, R: Wait>(
     rt: &R,
-    alloc: Global,
-    desk: &SharedDesk<S, J>,
-    instance: &Instance,
-    log: &WriteAheadLog<W, J>,
-    place: SeatState<'i, S, J>,
-    text: &mut String,
-) -> (SeatState<'i, S, J>, Result<(), AllocError>)
-    requires same { J.problem ≡ instance.now }
-    requires fits { EndedFits instance.now place.ended }
-    ensures answered { OnOk result.1
-        (AddsAnswer (IsCommitAnswer (IsInMinutes W.Sink.taken W.kept J.problem J.start)
-        (CouldNotEnter W.Sink.taken W.Sink.has_failed J.problem J.start) instance.now J.opening
-        place.entry result.0) (string_bytes text.old) (string_bytes text.new)) }
-    ensures unanswered { OnErr result.1 (IsUncommitted place.entry result.0) }
-    ensures fits { EndedFits instance.now result.0.ended }
-{
-    if log.has_failed(rt) {
-        return (place, write_not_written(text));
-    }
-    let SeatState { seat, ended } = place;
-    calls_fit(&seat);
-    let Ok(entry) = entry_of(alloc, &seat, text) else {
-        return (SeatState { seat, ended }, write_no_memory(instance, text));
-    };
-    let (seat, outcome) = seat.commit(rt, desk);
-    match outcome {
-        Ok(receipt) => {
-            enter(rt, instance, log, &receipt, &entry, text);
-            drop_whole(ended);
-            (SeatState { seat, ended: None }, Ok(()))
-        }
-        Err(told) => refuse(instance, seat, ended, told, text),
-    }
-}
-
-/// Commits the draft without a log, and adds the answer.
-fn commit_alone<'i, S: Sheet<'i>, J: Naming, R: Wait>(
-    rt: &R,
-    desk: &SharedDesk<S, J>,
+    desk: &SharedDesk<S, J, M>,
     instance: &Instance,
     place: SeatState<'i, S, J>,
     text: &mut String,
@@ -185,7 +97,7 @@ fn commit_alone<'i, S: Sheet<'i>, J: Naming, R: Wait>(
     requires same { J.problem ≡ instance.now }
     requires fits { EndedFits instance.now place.ended }
     ensures answered { OnOk result.1 (AddsAnswer
-        (IsCommitAlone instance.now J.opening place.entry result.0)
+        (IsCommitAnswer M.kept M.failed instance.now J.opening place.entry result.0)
         (string_bytes text.old) (string_bytes text.new)) }
     ensures unanswered { OnErr result.1 (IsUncommitted place.entry result.0) }
     ensures fits { EndedFits instance.now result.0.ended }
@@ -207,15 +119,15 @@ fn commit_alone<'i, S: Sheet<'i>, J: Naming, R: Wait>(
 }
 
 /// Performs a step. A look at the published timetable leaves an open draft as it is.
-fn do_step<'i, S: Sheet<'i>, J: Naming, R: Wait>(
+fn do_step<'i, S: Sheet<'i>, J: Naming, M: Minutes<J>, R: Wait>(
     rt: &R,
-    desk: &SharedDesk<S, J>,
+    desk: &SharedDesk<S, J, M>,
     seat: Seat<'i, S, J>,
     event: Event,
 ) -> (Seat<'i, S, J>, SeatAnswer)
     requires { (n : ℕ) × EventFits J.problem n event }
     ensures fits { SeatAnswerFits J.problem result.1 }
-    ensures does { AnswersEvent J.problem J.opening event (seat_value seat.entry)
+    ensures does { AnswersEvent M.kept M.failed J.problem J.opening event (seat_value seat.entry)
         (seat_value result.0) result.1 }
 {
     match event {
@@ -229,9 +141,9 @@ fn do_step<'i, S: Sheet<'i>, J: Naming, R: Wait>(
 }
 
 /// Performs a step, and adds the answer.
-fn take<'i, S: Sheet<'i>, J: Naming, R: Wait>(
+fn take<'i, S: Sheet<'i>, J: Naming, M: Minutes<J>, R: Wait>(
     rt: &R,
-    desk: &SharedDesk<S, J>,
+    desk: &SharedDesk<S, J, M>,
     instance: &Instance,
     place: SeatState<'i, S, J>,
     event: Event,
@@ -241,7 +153,7 @@ fn take<'i, S: Sheet<'i>, J: Naming, R: Wait>(
     requires fits { (n : ℕ) × EventFits J.problem n event }
     requires ended { EndedFits instance.now place.ended }
     ensures answered { OnOk result.1
-        (AddsAnswer (IsToldAnswer instance.now J.opening event place.entry result.0)
+        (AddsAnswer (IsToldAnswer M.kept M.failed instance.now J.opening event place.entry result.0)
         (string_bytes text.old) (string_bytes text.new)) }
     ensures uncommitted { ((p : ℕ) → event ≢ Commit p) → IsUncommitted place.entry result.0 }
     ensures fits { EndedFits instance.now result.0.ended }
@@ -254,14 +166,11 @@ fn take<'i, S: Sheet<'i>, J: Naming, R: Wait>(
     (SeatState { seat, ended }, written)
 }
 
-/// Performs a step, and adds the answer. Accepted drafts are entered into the log, if there is
-/// one.
-fn step<'i, S: Sheet<'i>, J: Naming + Begun, W: Durable, R: Wait>(
+/// Performs a step, and adds the answer.
+fn step<'i, S: Sheet<'i>, J: Naming, M: Minutes<J>, R: Wait>(
     rt: &R,
-    alloc: Global,
-    desk: &SharedDesk<S, J>,
+    desk: &SharedDesk<S, J, M>,
     instance: &Instance,
-    log: Option<&WriteAheadLog<W, J>>,
     place: SeatState<'i, S, J>,
     event: Event,
     text: &mut String,
@@ -270,17 +179,13 @@ fn step<'i, S: Sheet<'i>, J: Naming + Begun, W: Durable, R: Wait>(
     requires fits { (n : ℕ) × EventFits J.problem n event }
     requires ended { EndedFits instance.now place.ended }
     ensures answered { OnOk result.1
-        (AddsAnswer (IsStepAnswer log.entry (IsInMinutes W.Sink.taken W.kept J.problem J.start)
-        (CouldNotEnter W.Sink.taken W.Sink.has_failed J.problem J.start) instance.now J.opening
-        event place.entry result.0) (string_bytes text.old) (string_bytes text.new)) }
+        (AddsAnswer (IsStepAnswer M.kept M.failed instance.now J.opening event place.entry
+        result.0) (string_bytes text.old) (string_bytes text.new)) }
     ensures unanswered { OnErr result.1 (IsUncommitted place.entry result.0) }
     ensures fits { EndedFits instance.now result.0.ended }
 {
     match event {
-        Event::Commit(_) => match log {
-            Some(log) => commit(rt, alloc, desk, instance, log, place, text),
-            None => commit_alone(rt, desk, instance, place, text),
-        },
+        Event::Commit(_) => commit(rt, desk, instance, place, text),
         _ => take(rt, desk, instance, place, event, text),
     }
 }
@@ -307,12 +212,11 @@ fn undo_at<'i, S: Sheet<'i>, J: Naming>(
 /// Answers a line of a seat, and adds the answer, which is one line or empty.
 ///
 /// `AllocError` if memory runs out for the answer. No draft is committed then.
-pub(crate) fn answer<'i, S: Sheet<'i>, J: Naming + Begun, W: Durable, R: Wait>(
+pub(crate) fn answer<'i, S: Sheet<'i>, J: Naming, M: Minutes<J>, R: Wait>(
     rt: &R,
     alloc: Global,
-    desk: &SharedDesk<S, J>,
+    desk: &SharedDesk<S, J, M>,
     instance: &Instance,
-    log: Option<&WriteAheadLog<W, J>>,
     place: SeatState<'i, S, J>,
     line: &SeatLine,
     text: &mut String,
@@ -321,9 +225,7 @@ pub(crate) fn answer<'i, S: Sheet<'i>, J: Naming + Begun, W: Durable, R: Wait>(
     requires fits { (p : ℕ) × LineFits instance.now p line.now }
     requires ended { EndedFits instance.now place.ended }
     ensures answered { OnOk result.1
-        (AddsAnswer (IsAnswer log.entry (IsInMinutes W.Sink.taken W.kept J.problem J.start)
-        (CouldNotEnter W.Sink.taken W.Sink.has_failed J.problem J.start) instance.now J.opening
-        line.now place.entry result.0) (string_bytes text.old) (string_bytes text.new)) }
+        (AddsAnswer (IsAnswer M.kept M.failed instance.now J.opening line.now place.entry result.0) (string_bytes text.old) (string_bytes text.new)) }
     ensures unanswered { OnErr result.1 (IsUncommitted place.entry result.0) }
     ensures fits { EndedFits instance.now result.0.ended }
 {
@@ -335,6 +237,6 @@ pub(crate) fn answer<'i, S: Sheet<'i>, J: Naming + Begun, W: Durable, R: Wait>(
         SeatLine::Undo => undo_at(instance, place, text),
         SeatLine::Bad(word) => (place, word.write(text)),
         SeatLine::TooLong => (place, write_bad_line(text)),
-        SeatLine::Step(event) => step(rt, alloc, desk, instance, log, place, *event, text),
+        SeatLine::Step(event) => step(rt, desk, instance, place, *event, text),
     }
 }

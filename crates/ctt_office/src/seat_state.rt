@@ -45,7 +45,7 @@ pub(crate) fn ended_after(told: SeatAnswer, before: Option<AskedCalls>) -> Optio
                 before
             }
         }
-        SeatAnswer::NotYours(_) | SeatAnswer::NoPlace => before,
+        SeatAnswer::NotYours(_) | SeatAnswer::NoPlace | SeatAnswer::NotWritten => before,
     }
 }
 

@@ -6,7 +6,6 @@ ghost use Rattle.ctt_files.specs.Output.{AppendsFront};
 ghost use Rattle.ctt_office.specs.Lines.{Comes, GivesLine, ReaderValue, coming};
 ghost use Rattle.ctt_seat.specs.Attended.{leaver};
 ghost use Rattle.ctt_seat.specs.Seats.{seat_value};
-ghost use Rattle.ctt_log.specs.Minutes.{CouldNotEnter, IsInMinutes};
 ghost use Rattle.ctt_office.specs.Ended.{EndedFits};
 ghost use Rattle.ctt_office.specs.OfficeFaults.{IsBarred, fault_of};
 ghost use Rattle.ctt_office.specs.SeatAnswers.{IsAnswer, IsUncommitted, Tells};
@@ -23,10 +22,9 @@ use crate::seat_line::{SeatLine, read_seat_line};
 use crate::seat_state::SeatState;
 use ctt_board::{Sheet, Timetable};
 use ctt_core::PlannerNo;
-use ctt_desk::{Naming, Planner, SharedDesk};
+use ctt_desk::{Minutes, Naming, Planner, SharedDesk};
 use ctt_files::{Failed, Sink, Source, put_whole};
 use ctt_grid::GridSheet;
-use ctt_log::{Begun, Durable, WriteAheadLog};
 use ctt_text::{Instance, drop_whole};
 use std::alloc::Global;
 use std::marker::PhantomData;
@@ -59,10 +57,9 @@ fn say<O: Sink>(out: &mut O, answer: &[u8]) -> Result<(), Failed>
 
 /// A seat at a desk of the instance, none of whose devices is open yet.
 #[derive(Drop)]
-pub struct SeatTask<'i, 'x, J: Naming + Begun, D: Doors, W: Durable> {
+pub struct SeatTask<'i, 'x, J: Naming, D: Doors> {
     pub alloc: Global,
     pub instance: &'i Instance,
-    pub log: Option<&'x WriteAheadLog<W, J>>,
     pub doors: &'x D,
     pub name: &'x str,
     pub desk: PhantomData<J>,
@@ -100,12 +97,11 @@ fn line_of<'a>(instance: &Instance, planner: PlannerNo, next: Next, bytes: &'a [
 /// Answers one line of a seat. The answer is written and flushed when this returns.
 ///
 /// `NoMemory` if memory runs out for the answer, `Broken` if it cannot be written.
-fn serve<'i, S: Sheet<'i>, J: Naming + Begun, W: Durable, O: Sink, R: Wait>(
+fn serve<'i, S: Sheet<'i>, J: Naming, M: Minutes<J>, O: Sink, R: Wait>(
     rt: &R,
     alloc: Global,
-    desk: &SharedDesk<S, J>,
+    desk: &SharedDesk<S, J, M>,
     instance: &Instance,
-    log: Option<&WriteAheadLog<W, J>>,
     place: SeatState<'i, S, J>,
     line: &SeatLine,
     out: &mut O,
@@ -114,19 +110,17 @@ fn serve<'i, S: Sheet<'i>, J: Naming + Begun, W: Durable, O: Sink, R: Wait>(
     requires fits { (p : ℕ) × LineFits instance.now p line.now }
     requires ended { EndedFits instance.now place.ended }
     ensures told { OnOk result.1
-        (Tells (IsAnswer log.entry (IsInMinutes W.Sink.taken W.kept J.problem J.start)
-        (CouldNotEnter W.Sink.taken W.Sink.has_failed J.problem J.start) instance.now J.opening
+        (Tells (IsAnswer M.kept M.failed instance.now J.opening
         line.now place.entry result.0) (O.taken out.old) (O.taken out.new)) }
     ensures cut { IfErr result.1
-        (IsCutOff (IsAnswer log.entry (IsInMinutes W.Sink.taken W.kept J.problem J.start)
-        (CouldNotEnter W.Sink.taken W.Sink.has_failed J.problem J.start) instance.now J.opening
+        (IsCutOff (IsAnswer M.kept M.failed instance.now J.opening
         line.now place.entry result.0) (O.taken out.old) (O.taken out.new)) }
     ensures broken { IfErr result.1 (IsBroken (O.has_failed out.new)) }
     ensures unheard { result.1 ≡ Err NoMemory → IsUncommitted place.entry result.0 }
     ensures fits { EndedFits instance.now result.0.ended }
 {
     let mut text = String::new(alloc);
-    let (place, written) = answer(rt, alloc, desk, instance, log, place, line, &mut text);
+    let (place, written) = answer(rt, alloc, desk, instance, place, line, &mut text);
     if written.is_err() {
         return (place, Err(Ending::NoMemory));
     }
@@ -150,12 +144,11 @@ fn is_last(line: &SeatLine) -> bool
 /// Answers a planner's lines until the planner leaves, the lines end, a device of the seat fails,
 /// or memory runs out for an answer. An open draft is then abandoned.
 #[tactic(auto, using(crate::proofs::SittingLemmas::read_failed, crate::proofs::SittingLemmas::write_failed))]
-pub fn sit<'i, S: Sheet<'i>, J: Naming + Begun, W: Durable, I: Source, O: Sink, R: Wait>(
+pub fn sit<'i, S: Sheet<'i>, J: Naming, M: Minutes<J>, I: Source, O: Sink, R: Wait>(
     rt: &R,
     alloc: Global,
-    desk: &SharedDesk<S, J>,
+    desk: &SharedDesk<S, J, M>,
     instance: &Instance,
-    log: Option<&WriteAheadLog<W, J>>,
     number: PlannerNo,
     place: SeatState<'i, S, J>,
     lines: &mut LineReader<I>,
@@ -164,8 +157,7 @@ pub fn sit<'i, S: Sheet<'i>, J: Naming + Begun, W: Durable, I: Source, O: Sink, 
     requires same { J.problem ≡ instance.now }
     requires fits { EndedFits instance.now place.ended }
     ensures sat { IsSat (asked_by_line instance.now number)
-        (IsAnswer log.entry (IsInMinutes W.Sink.taken W.kept J.problem J.start)
-        (CouldNotEnter W.Sink.taken W.Sink.has_failed J.problem J.start) instance.now J.opening)
+        (IsAnswer M.kept M.failed instance.now J.opening)
         (λ after. result.0 ≡ leaver (seat_value after.seat))
         (λ after. result.0.committed ≡ (leaver (seat_value after.seat)).committed)
         place.entry (coming lines.old) (O.taken out.old) (O.taken out.new) result.1 }
@@ -180,7 +172,7 @@ pub fn sit<'i, S: Sheet<'i>, J: Naming + Begun, W: Durable, I: Source, O: Sink, 
         };
         let line = line_of(instance, number, next, lines.line());
         let is_last = is_last(&line);
-        let (after, served) = serve(rt, alloc, desk, instance, log, place, &line, out);
+        let (after, served) = serve(rt, alloc, desk, instance, place, &line, out);
         place = after;
         match served {
             Ok(()) => {
@@ -245,10 +237,10 @@ fn open_seat<D: Doors>(
 /// does. Returns the planner, what is left of the seat if its devices were opened, and the fault of
 /// the seat, if it has one.
 #[tactic(auto, using(crate::proofs::SittingLemmas::sat_over))]
-pub fn open_and_sit<'i, 'x, S: Sheet<'i>, J: Naming + Begun, D: Doors, W: Durable, R: Wait>(
-    task: SeatTask<'i, 'x, J, D, W>,
+pub fn open_and_sit<'i, 'x, S: Sheet<'i>, J: Naming, D: Doors, M: Minutes<J>, R: Wait>(
+    task: SeatTask<'i, 'x, J, D>,
     rt: &R,
-    desk: &SharedDesk<S, J>,
+    desk: &SharedDesk<S, J, M>,
     number: PlannerNo,
     place: SeatState<'i, S, J>,
 ) -> (
@@ -263,9 +255,7 @@ pub fn open_and_sit<'i, 'x, S: Sheet<'i>, J: Naming + Begun, D: Doors, W: Durabl
         (IsBarred (D.may_bar_input task.entry.doors.now task.entry.name.now)
         (D.may_bar_output task.entry.doors.now task.entry.name.now))) }
     ensures sat { IfSome result.1 (λ sat. IsSat (asked_by_line task.entry.instance.now number)
-        (IsAnswer task.entry.log (IsInMinutes W.Sink.taken W.kept J.problem J.start)
-        (CouldNotEnter W.Sink.taken W.Sink.has_failed J.problem J.start) task.entry.instance.now
-        J.opening)
+        (IsAnswer M.kept M.failed task.entry.instance.now J.opening)
         (λ after. result.0 ≡ leaver (seat_value after.seat))
         (λ after. result.0.committed ≡ (leaver (seat_value after.seat)).committed)
         place.entry (D.gives task.entry.doors.now task.entry.name.now)
@@ -278,7 +268,6 @@ pub fn open_and_sit<'i, 'x, S: Sheet<'i>, J: Naming + Begun, D: Doors, W: Durabl
     let SeatTask {
         alloc,
         instance,
-        log,
         doors,
         name,
         desk: _,
@@ -288,16 +277,16 @@ pub fn open_and_sit<'i, 'x, S: Sheet<'i>, J: Naming + Begun, D: Doors, W: Durabl
         Err(fault) => return (place.leave(), None, Err(fault)),
     };
     let (planner, ending) = sit(
-        rt, alloc, desk, instance, log, number, place, &mut lines, &mut out,
+        rt, alloc, desk, instance, number, place, &mut lines, &mut out,
     );
     (planner, Some(Sat { lines, out, ending }), fault_of(ending))
 }
 
 /// Seats a planner, and returns the fault of the seat, if it has one.
-fn sit_down<'i, 'x, S: Sheet<'i>, J: Naming + Begun, D: Doors, W: Durable, R: Wait>(
-    task: SeatTask<'i, 'x, J, D, W>,
+fn sit_down<'i, 'x, S: Sheet<'i>, J: Naming, D: Doors, M: Minutes<J>, R: Wait>(
+    task: SeatTask<'i, 'x, J, D>,
     rt: &R,
-    desk: &SharedDesk<S, J>,
+    desk: &SharedDesk<S, J, M>,
     planner: Planner<S, J>,
 ) -> Result<(), SeatFault> {
     let number = planner.number();
@@ -311,15 +300,15 @@ fn sit_down<'i, 'x, S: Sheet<'i>, J: Naming + Begun, D: Doors, W: Durable, R: Wa
 /// A planner with a seat at a shared desk, over a grid sheet. The type has one lifetime for the
 /// instance, as required of what moves to a thread.
 #[derive(Drop)]
-pub(crate) struct GridTask<'i, 'x, J: Naming + Begun, D: Doors, W: Durable> {
-    pub(crate) desk: &'x SharedDesk<GridSheet<'i>, J>,
+pub(crate) struct GridTask<'i, 'x, J: Naming, D: Doors, M: Minutes<J>> {
+    pub(crate) desk: &'x SharedDesk<GridSheet<'i>, J, M>,
     pub(crate) planner: Planner<GridSheet<'i>, J>,
-    pub(crate) task: SeatTask<'i, 'x, J, D, W>,
+    pub(crate) task: SeatTask<'i, 'x, J, D>,
 }
 
 /// Opens a seat, and answers the planner's lines, over a grid sheet.
-pub(crate) fn sit_on_grid<'i, 'x, J: Naming + Begun, D: Doors, W: Durable, R: Wait>(
-    work: GridTask<'i, 'x, J, D, W>,
+pub(crate) fn sit_on_grid<'i, 'x, J: Naming, D: Doors, M: Minutes<J>, R: Wait>(
+    work: GridTask<'i, 'x, J, D, M>,
     rt: &R,
 ) -> Result<(), SeatFault> {
     let GridTask {
@@ -327,5 +316,5 @@ pub(crate) fn sit_on_grid<'i, 'x, J: Naming + Begun, D: Doors, W: Durable, R: Wa
         planner,
         task,
     } = work;
-    sit_down::<GridSheet<'i>, J, D, W, R>(task, rt, desk, planner)
+    sit_down::<GridSheet<'i>, J, D, M, R>(task, rt, desk, planner)
 }

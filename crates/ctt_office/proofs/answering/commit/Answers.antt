@@ -14,14 +14,14 @@ refuse-requires g c κs =
     let fits : SeatAnswerFits c.args.instance.now c.in-Err.told = subst (λ i. SeatAnswerFits i c.in-Err.told) c.requires.same (IfErr-at_err _ c.in-Err.is c.commit-seat.ensures.fits) in
     search rules
 
-pub returns-clause-unanswered : goal.returns-clause-unanswered
-returns-clause-unanswered g c =
+pub returns-in-Err-clause-unanswered : goal.returns-in-Err-clause-unanswered
+returns-in-Err-clause-unanswered g c =
     on_err _ (subst (CommitsNone (seat_value c.args.place.seat)) (ap seat_value (sym c.refuse.ensures.seat))
-    (refused_uncommitted g.J.Naming.problem g.J.Naming.opening (seat_value c.args.place.seat) (seat_value c.commit-seat.result.0) c.commit-seat.result.1 c.in-Err.told c.in-Err.is c.commit-seat.ensures.commits))
+    (refused_uncommitted g.M.Minutes.kept g.M.Minutes.failed g.J.Naming.problem g.J.Naming.opening (seat_value c.args.place.seat) (seat_value c.commit-seat.result.0) c.commit-seat.result.1 c.in-Err.told c.in-Err.is c.commit-seat.ensures.commits))
 
-pub returns-clause-fits : goal.returns-clause-fits
-returns-clause-fits g c =
+pub returns-in-Err-clause-fits : goal.returns-in-Err-clause-fits
+returns-in-Err-clause-fits g c =
     let i = c.args.instance.now in
-    let commits : Commits g.J.Naming.problem g.J.Naming.opening (seat_value c.args.place.seat) (seat_value c.commit-seat.result.0) (Err c.in-Err.told) = subst (Commits g.J.Naming.problem g.J.Naming.opening (seat_value c.args.place.seat) (seat_value c.commit-seat.result.0)) c.in-Err.is c.commit-seat.ensures.commits in
-    let back = commits_back g.J.Naming.problem g.J.Naming.opening (seat_value c.args.place.seat) (seat_value c.commit-seat.result.0) c.in-Err.told c.calls_fit.ensures commits in
+    let commits : Commits g.M.Minutes.kept g.M.Minutes.failed g.J.Naming.problem g.J.Naming.opening (seat_value c.args.place.seat) (seat_value c.commit-seat.result.0) (Err c.in-Err.told) = subst (Commits g.M.Minutes.kept g.M.Minutes.failed g.J.Naming.problem g.J.Naming.opening (seat_value c.args.place.seat) (seat_value c.commit-seat.result.0)) c.in-Err.is c.commit-seat.ensures.commits in
+    let back = commits_back g.M.Minutes.kept g.M.Minutes.failed g.J.Naming.problem g.J.Naming.opening (seat_value c.args.place.seat) (seat_value c.commit-seat.result.0) c.in-Err.told c.calls_fit.ensures commits in
     subst (EndedFits i) (sym c.refuse.ensures.ended) (ended_fits i c.in-Err.told c.args.place.ended c.requires.fits (subst (λ p. BackFits p c.in-Err.told) c.requires.same back))

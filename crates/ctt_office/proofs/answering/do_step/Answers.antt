@@ -12,7 +12,7 @@ view-told-requires g c κs =
     search rules
 
 pub returns-in-Show-clause-does : goal.returns-in-Show-clause-does
-returns-in-Show-clause-does g c = subst (λ e. AnswersEvent g.J.Naming.problem g.J.Naming.opening e (seat_value c.args.seat) (seat_value c.view-told.new.self) c.view-told.result) (sym c.in-Show.is) c.view-told.ensures.views
+returns-in-Show-clause-does g c = subst (λ e. AnswersEvent g.M.Minutes.kept g.M.Minutes.failed g.J.Naming.problem g.J.Naming.opening e (seat_value c.args.seat) (seat_value c.view-told.new.self) c.view-told.result) (sym c.in-Show.is) c.view-told.ensures.views
 
 pub returns-in_default-clause-does : goal.returns-in_default-clause-does
-returns-in_default-clause-does g c = no_show g.J.Naming.problem g.J.Naming.opening c.args.event (seat_value c.args.seat) (seat_value c.take.result.0) c.take.result.1 c.in_default.not-Show c.take.ensures.takes
+returns-in_default-clause-does g c = no_show g.M.Minutes.kept g.M.Minutes.failed g.J.Naming.problem g.J.Naming.opening c.args.event (seat_value c.args.seat) (seat_value c.take.result.0) c.take.result.1 c.in_default.not-Show c.take.ensures.takes

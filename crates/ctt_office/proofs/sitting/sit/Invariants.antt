@@ -1,6 +1,5 @@
 use Rattle.ctt_office.specs.Ended.{EndedFits}
 use Rattle.ctt_office.specs.Lines.{coming}
-use Rattle.ctt_log.specs.Minutes.{CouldNotEnter, IsInMinutes}
 use Rattle.ctt_office.specs.SeatAnswers.{IsAnswer}
 use Rattle.ctt_office.specs.SeatText.{asked_by_line}
 use Rattle.ctt_office.specs.Sittings.{IsSitting}
@@ -10,5 +9,5 @@ use Rattle.ctt_office.proofs.sitting.sit.Given as goal
 -- fit
 abbrev pub invariant-loop : goal.invariant-loop
 invariant-loop g l =
-    IsSitting (asked_by_line l.instance l.number) (IsAnswer l.log (IsInMinutes g.W.Sink.taken g.W.Durable.kept g.J.Naming.problem g.J.Begun.start) (CouldNotEnter g.W.Sink.taken g.W.Sink.has_failed g.J.Naming.problem g.J.Begun.start) l.instance g.J.Naming.opening)
+    IsSitting (asked_by_line l.instance l.number) (IsAnswer g.M.Minutes.kept g.M.Minutes.failed l.instance g.J.Naming.opening)
     l.fn.place (coming l.fn.lines) (g.O.Sink.taken l.fn.out) (g.O.Sink.taken l.out) (coming l.lines) l.place × EndedFits l.instance l.place.ended
