@@ -1,6 +1,5 @@
 mod AnswerLemmas
 mod BadWordLemmas
-mod ClosingLemmas
 mod CommittedLemmas
 mod EndedLemmas
 mod WordLemmas

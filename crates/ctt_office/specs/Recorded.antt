@@ -7,15 +7,26 @@ use Rattle.ctt_core.specs.declared.journal.JournalEntry.{JournalEntry}
 use Rattle.ctt_seat.specs.CrewText.{closing_text}
 use Rattle.ctt_log.specs.Minutes.{AreMinutesOf}
 
--- the bytes that a writer has taken, if there is one
-abbrev pub taken_by : {W : Type 0} → (W → Option (List ℕ)) → Option W → Option (List ℕ)
-taken_by taken None = None
-taken_by taken (Some writer) = taken writer
+-- the bytes of a file, if there is one
+abbrev pub bytes_of : {W : Type 0} → (W → Option (List ℕ)) → Option W → Option (List ℕ)
+bytes_of bytes None = None
+bytes_of bytes (Some file) = bytes file
 
--- the last lines of a desk are those of a legal history on the opening, and if there are minutes,
--- they are the bytes of the start and then the entries of that history
-pub record IsRecorded {W : Type 0} (taken : W → Option (List ℕ)) (i : Problem) (opening : List Placed) (start : Option (List ℕ)) (minutes : Option W) (text : List ℕ) : Type 0 where
+-- the minutes, of which Has says what they have, have a legal history on the opening
+abbrev pub HaveLegal : (List JournalEntry → Type 0) → Problem → List Placed → Type 0
+HaveLegal Has i opening = (history : List JournalEntry) × Legal i opening history × Has history
+
+-- the last lines of a desk are those of a legal history on the opening, which its minutes have
+pub record IsRecordedBy (Has : List JournalEntry → Type 0) (i : Problem) (opening : List Placed) (text : List ℕ) : Type 0 where
   pub history : List JournalEntry
   pub legal : Legal i opening history
   pub is : text ≡ closing_text i opening [] history
-  pub entries : IfSome minutes (λ writer. AreMinutesOf i history start (taken writer))
+  pub has : Has history
+
+-- the same, and if there is a file of minutes, it has the bytes of the start and then the entries of
+-- that history
+pub record IsRecorded {W : Type 0} (bytes : W → Option (List ℕ)) (i : Problem) (opening : List Placed) (start : Option (List ℕ)) (minutes : Option W) (text : List ℕ) : Type 0 where
+  pub history : List JournalEntry
+  pub legal : Legal i opening history
+  pub is : text ≡ closing_text i opening [] history
+  pub entries : IfSome minutes (λ file. AreMinutesOf i history start (bytes file))

@@ -1,5 +1,5 @@
-//! The desk that planners use at seats: lines answered one by one, each accepted draft in the log
-//! before it is reported.
+//! The desk that planners use at seats: lines answered one by one, each draft in the minutes before
+//! it is accepted.
 #![tactic(auto)]
 
 mod answering;
@@ -9,6 +9,7 @@ mod doors;
 mod line_reader;
 mod office;
 mod office_fault;
+mod recording;
 pub mod redo_laws;
 mod redoing;
 mod seat_line;

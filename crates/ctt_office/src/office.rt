@@ -5,16 +5,18 @@ ghost use Rattle.ctt_desk.specs.Names.{IsNameOf};
 ghost use Rattle.ctt_seat.specs.Attended.{IsCrewText};
 ghost use Rattle.ctt_office.specs.OfficeFaults.{IsOfficeFault, first_fault};
 ghost use Rattle.ctt_log.specs.Minutes.{IsPartOf};
-ghost use Rattle.ctt_office.specs.Recorded.{IsRecorded, taken_by};
+ghost use Rattle.ctt_office.specs.Recorded.{HaveLegal, IsRecorded, IsRecordedBy, bytes_of};
 ghost use Rattle.ctt_office.specs.declared.office_fault.OfficeFault.TheVariants.{NoMemory as OutOfMemory};
 
-use crate::closing::{close, desk_named};
+use crate::closing::close;
 use crate::doors::Doors;
 use crate::office_fault::{OfficeFault, SeatFault};
+use crate::recording::end_minutes;
 use crate::sitting::{GridTask, SeatTask, sit_on_grid};
-use ctt_desk::{Naming, Opened, Planner, SharedDesk};
+use ctt_board::Timetable;
+use ctt_desk::{Minutes, Named, Naming, NoMinutes, Opened, Planner, SharedDesk};
 use ctt_grid::GridSheet;
-use ctt_log::{Begun, Durable, WriteAheadLog};
+use ctt_log::{Begun, Durable, LogWriter};
 use ctt_text::{Instance, drop_whole};
 use std::alloc::Global;
 use std::marker::{Brand, PhantomData, Send, Sync};
@@ -71,15 +73,15 @@ fn push_started<T: Drop, E: Drop>(
 fn sit_at_once<
     'i,
     'x,
-    J: Naming + Begun + Send + Sync,
+    J: Naming + Send + Sync,
     D: Doors,
-    W: Durable + Send,
+    M: Minutes<J> + Send,
     R: Threads + Wait + Sync,
 >(
     rt: &R,
     alloc: Global,
-    desk: &'x SharedDesk<GridSheet<'i>, J>,
-    seats: Vec<(Planner<GridSheet<'i>, J>, SeatTask<'i, 'x, J, D, W>)>,
+    desk: &'x SharedDesk<GridSheet<'i>, J, M>,
+    seats: Vec<(Planner<GridSheet<'i>, J>, SeatTask<'i, 'x, J, D>)>,
 ) -> Result<(), OfficeFault>
     ensures { IfErr result (IsOfficeFault (length seats.entry.items)) }
 {
@@ -108,22 +110,19 @@ fn sit_at_once<
 }
 
 /// Gives each planner a seat, in the order of the names.
-fn seat_tasks<'i, 'x, P: Drop, J: Naming + Begun, D: Doors, W: Durable>(
+fn seat_tasks<'i, 'x, P: Drop, J: Naming, D: Doors>(
     alloc: Global,
     instance: &'i Instance,
     planners: Vec<P>,
     names: &'x [String],
     doors: &'x D,
-    log: Option<&'x WriteAheadLog<W, J>>,
-) -> Result<Vec<(P, SeatTask<'i, 'x, J, D, W>)>, OfficeFault>
+) -> Result<Vec<(P, SeatTask<'i, 'x, J, D>)>, OfficeFault>
     requires problem { J.problem ≡ instance.now }
     requires counted { length planners.items ≡ length names.now }
     ensures each { IfOk result (λ seats. length seats.items ≡ length names.now) }
     ensures planners { IfOk result (λ seats. map (λ s. s.0) seats.items ≡ planners.items) }
     ensures names { IfOk result (λ seats.
         map (λ s. s.1.name.now) seats.items ≡ map string_bytes names.now) }
-    ensures log { IfOk result (λ seats.
-        map (λ s. s.1.log) seats.items ≡ map (λ _. log.entry) seats.items) }
     ensures fault { IfErr result (λ fault. fault ≡ OutOfMemory) }
 {
     let mut seats = Vec::with_capacity(alloc, names.len())?;
@@ -131,7 +130,6 @@ fn seat_tasks<'i, 'x, P: Drop, J: Naming + Begun, D: Doors, W: Durable>(
         let task = SeatTask {
             alloc,
             instance,
-            log,
             doors,
             name: name.as_str(),
             desk: PhantomData,
@@ -148,42 +146,90 @@ fn seat_tasks<'i, 'x, P: Drop, J: Naming + Begun, D: Doors, W: Durable>(
 /// Runs the seats with these names until all have ended.
 fn seat_all<
     'i,
-    J: Naming + Begun + Send + Sync,
+    J: Naming + Send + Sync,
     D: Doors,
-    W: Durable + Send,
+    M: Minutes<J> + Send,
     R: Threads + Wait + Sync,
 >(
     rt: &R,
     alloc: Global,
-    desk: &SharedDesk<GridSheet<'i>, J>,
+    desk: &SharedDesk<GridSheet<'i>, J, M>,
     instance: &'i Instance,
     planners: Vec<Planner<GridSheet<'i>, J>>,
     names: &[String],
     doors: &D,
-    log: Option<&WriteAheadLog<W, J>>,
 ) -> Result<(), OfficeFault>
     requires problem { J.problem ≡ instance.now }
     requires counted { length planners.items ≡ length names.now }
     ensures { IfErr result (IsOfficeFault (length names.now)) }
 {
-    let seats = seat_tasks(alloc, instance, planners, names, doors, log)?;
+    let seats = seat_tasks(alloc, instance, planners, names, doors)?;
     sit_at_once(rt, alloc, desk, seats)
 }
 
-/// Creates a log on the writer, if there is one.
-fn log_on<W: Durable, J: Naming + Begun>(minutes: Option<W>) -> Option<WriteAheadLog<W, J>>
-    requires { J.start ≡ taken_by W.Sink.taken minutes }
-    ensures { is_some result ≡ is_some minutes }
+/// Creates the shared desk that `J` names, with its planners.
+fn desk_named<S: Timetable, J: Naming, M: Minutes<J>, R: Wait>(
+    rt: &R,
+    opened: Opened<S>,
+    count: u16,
+    minutes: M,
+) -> Result<(SharedDesk<S, J, M>, Vec<Planner<S, J>>), (OfficeFault, M)>
+    requires named { IsNameOf J.problem J.opening J.planners J.book opened count }
+    requires empty { M.have minutes [] }
+    ensures planners { IfOk result (λ made. length made.1.items ≡ count) }
+    ensures fault { (seats : ℕ) → IfErr result (λ refused. IsOfficeFault seats refused.0) }
+    ensures back { IfErr result (λ refused. refused.1 ≡ minutes) }
 {
-    match minutes {
-        Some(writer) => Some(WriteAheadLog::new(writer)),
-        None => None,
+    let named = Named {
+        opened,
+        count,
+        name: PhantomData,
+    };
+    match SharedDesk::new(rt, named, minutes) {
+        Ok(made) => Ok(made),
+        Err((fault, minutes)) => Err((OfficeFault::from(fault), minutes)),
     }
 }
 
-/// Runs the desk that `J` names until all planners have left. It has a seat for each planner but
-/// the last, who closes it.
-#[tactic(auto, using(crate::proofs::RecordedLemmas::none_taken))]
+/// Runs the desk that `J` names, with these minutes, until all planners have left. It has a seat
+/// for each planner.
+fn keep_with<
+    'i,
+    J: Naming + Send + Sync,
+    D: Doors,
+    M: Minutes<J> + Send,
+    R: Threads + Wait + Sync,
+>(
+    rt: &R,
+    alloc: Global,
+    instance: &'i Instance,
+    opened: Opened<GridSheet<'i>>,
+    names: &[String],
+    doors: &D,
+    minutes: M,
+) -> (Result<Vec<u8>, OfficeFault>, M)
+    requires named { IsNameOf J.problem J.opening J.planners J.book opened (length names.now) }
+    requires few { length names.now ≤ 64 }
+    requires empty { M.have minutes [] }
+    requires problem { opened.problem ≡ instance.now }
+    ensures text { IfOk result.0 (λ text. IsCrewText J.problem J.opening [] text.items) }
+    ensures recorded { IfOk result.0 (λ text.
+        IsRecordedBy (M.have result.1) J.problem J.opening text.items) }
+    ensures minutes { HaveLegal (M.have result.1) J.problem J.opening }
+    ensures fault { IfErr result.0 (IsOfficeFault (length names.now)) }
+{
+    let count = names.len() as u16;
+    match desk_named::<GridSheet<'i>, J, M, R>(rt, opened, count, minutes) {
+        Ok((desk, planners)) => {
+            let sat = seat_all(rt, alloc, &desk, instance, planners, names, doors);
+            close::<GridSheet<'i>, J, M, R>(rt, alloc, desk, sat)
+        }
+        Err((fault, minutes)) => (Err(fault), minutes),
+    }
+}
+
+/// Runs the desk that `J` names until all planners have left, with minutes in this file, if there
+/// is one.
 fn keep_named<
     'i,
     J: Naming + Begun + Send + Sync,
@@ -195,37 +241,43 @@ fn keep_named<
     alloc: Global,
     instance: &'i Instance,
     opened: Opened<GridSheet<'i>>,
-    count: u16,
     names: &[String],
     doors: &D,
     minutes: Option<W>,
 ) -> (Result<Vec<u8>, OfficeFault>, Option<W>)
-    requires named { IsNameOf J.problem J.opening J.planners J.book opened count }
-    requires begun { J.start ≡ taken_by W.Sink.taken minutes }
+    requires named { IsNameOf J.problem J.opening J.planners J.book opened (length names.now) }
+    requires few { length names.now ≤ 64 }
+    requires begun { J.start ≡ bytes_of W.bytes minutes }
     requires problem { opened.problem ≡ instance.now }
-    requires counted { length names.now + 1 ≡ count }
     ensures text { IfOk result.0 (λ text. IsCrewText J.problem J.opening [] text.items) }
     ensures recorded { IfOk result.0 (λ text.
-        IsRecorded W.Sink.taken J.problem J.opening J.start result.1 text.items) }
-    ensures part { IfSome result.1 (IsPartOf W.Sink.taken J.problem J.opening J.start) }
+        IsRecorded W.bytes J.problem J.opening J.start result.1 text.items) }
+    ensures part { IfSome result.1 (IsPartOf W.bytes J.problem J.opening J.start) }
     ensures given { is_some result.1 ≡ is_some minutes }
     ensures fault { IfErr result.0 (IsOfficeFault (length names.now)) }
 {
-    match desk_named::<GridSheet<'i>, J, R>(rt, alloc, opened, count) {
-        Ok((desk, planners, keeper)) => {
-            let kept = log_on(minutes);
-            let log = kept.as_ref();
-            let sat = seat_all(rt, alloc, &desk, instance, planners, names, doors, log);
-            close::<GridSheet<'i>, J, W, R>(rt, alloc, desk, keeper, kept, sat)
+    match minutes {
+        Some(writer) => {
+            let log = LogWriter::<W, J>::new(alloc, writer);
+            let (text, log) = keep_with::<J, D, LogWriter<W, J>, R>(
+                rt, alloc, instance, opened, names, doors, log,
+            );
+            let (text, writer) = end_minutes(text, log);
+            (text, Some(writer))
         }
-        Err(fault) => (Err(fault), minutes),
+        None => {
+            let (text, _none) = keep_with::<J, D, NoMinutes, R>(
+                rt, alloc, instance, opened, names, doors, NoMinutes,
+            );
+            (text, None)
+        }
     }
 }
 
 /// Runs a desk with a seat for each name until all planners have left. Each seat has a thread,
-/// which opens its devices and answers each line before it reads the next one. If there is a writer
-/// for minutes, each accepted draft is entered there before it is reported to its planner. Returns
-/// the number of accepted drafts and the costs, as lines, and the writer of the minutes.
+/// which opens its devices and answers each line before it reads the next one. If there is a file
+/// for minutes, each draft is durable there before it is accepted. Returns the number of accepted
+/// drafts and the costs, as lines, and the file of the minutes.
 pub fn keep_desk<'i, D: Doors, W: Durable + Send, R: Threads + Wait + Sync>(
     rt: &R,
     alloc: Global,
@@ -240,13 +292,12 @@ pub fn keep_desk<'i, D: Doors, W: Durable + Send, R: Threads + Wait + Sync>(
     requires few { length names.now ≤ 64 }
     ensures text { IfOk result.0
         (λ text. IsCrewText instance.now opened.entry.list [] text.items) }
-    ensures recorded { IfOk result.0 (λ text. IsRecorded W.Sink.taken instance.now
-        opened.entry.list (taken_by W.Sink.taken minutes) result.1 text.items) }
-    ensures part { IfSome result.1 (IsPartOf W.Sink.taken instance.now opened.entry.list
-        (taken_by W.Sink.taken minutes)) }
+    ensures recorded { IfOk result.0 (λ text. IsRecorded W.bytes instance.now
+        opened.entry.list (bytes_of W.bytes minutes) result.1 text.items) }
+    ensures part { IfSome result.1 (IsPartOf W.bytes instance.now opened.entry.list
+        (bytes_of W.bytes minutes)) }
     ensures given { is_some result.1 ≡ is_some minutes }
     ensures fault { IfErr result.0 (IsOfficeFault (length names.now)) }
 {
-    let count = names.len() as u16 + 1;
-    keep_named::<Brand, D, W, R>(rt, alloc, instance, opened, count, names, doors, minutes)
+    keep_named::<Brand, D, W, R>(rt, alloc, instance, opened, names, doors, minutes)
 }

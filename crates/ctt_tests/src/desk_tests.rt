@@ -8,7 +8,7 @@ use crate::small::{geo_second, small_instance, top_third};
 use crate::stopped::Stopped;
 use ctt_board::{Sheet, Timetable};
 use ctt_core::{JournalEntry, PlannerNo};
-use ctt_desk::{Closed, Named, Naming, Opened, Planner, SharedDesk};
+use ctt_desk::{Closed, Named, Naming, NoMinutes, Opened, Planner, SharedDesk};
 use ctt_edits::Edit;
 use ctt_grid::GridSheet;
 use ctt_rules::Cost;
@@ -52,7 +52,7 @@ fn edit_of(turn: usize, lecture: &Placed) -> Edit {
 /// Commits drafts of one edit each, at least one, and records the numbers of the receipts.
 fn commit_all<'i, S: Sheet<'i>, J: Naming, R: Wait>(
     rt: &R,
-    desk: &SharedDesk<S, J>,
+    desk: &SharedDesk<S, J, NoMinutes>,
     planner: Planner<S, J>,
     drafts: usize,
     numbers: &mut Numbers,
@@ -75,7 +75,7 @@ fn commit_all<'i, S: Sheet<'i>, J: Naming, R: Wait>(
 #[derive(Drop)]
 struct Turn<'a, 'i, J: Naming> {
     alloc: Global,
-    desk: &'a SharedDesk<GridSheet<'i>, J>,
+    desk: &'a SharedDesk<GridSheet<'i>, J, NoMinutes>,
     done: &'a Mutex<Vec<Committed<GridSheet<'i>, J>>>,
     planner: Planner<GridSheet<'i>, J>,
     lecture: Placed,
@@ -109,7 +109,7 @@ fn take_turn<'a, 'i, J: Naming, R: Wait>(rt: &R, turn: Turn<'a, 'i, J>) -> Optio
 fn both_work<'i, J: Naming + Send + Sync, R: Threads + Wait + Sync>(
     rt: &R,
     alloc: Global,
-    desk: &SharedDesk<GridSheet<'i>, J>,
+    desk: &SharedDesk<GridSheet<'i>, J, NoMinutes>,
     done: &Mutex<Vec<Committed<GridSheet<'i>, J>>>,
     planners: &mut Vec<Planner<GridSheet<'i>, J>>,
     drafts: usize,
@@ -272,14 +272,14 @@ fn play<'i, J: Naming + Send + Sync, R: Threads + Wait + Abort + Sync>(
         count,
         name: PhantomData,
     };
-    let Ok((desk, mut planners)) = SharedDesk::<GridSheet, J>::new(rt, named) else {
+    let Ok((desk, mut planners)) = SharedDesk::<GridSheet, J, NoMinutes>::new(rt, named, NoMinutes) else {
         return Err(Stopped::NoDesk);
     };
     let done = Mutex::new(Vec::new(alloc));
     let numbers = both_work(rt, alloc, &desk, &done, &mut planners, plan.drafts);
     let seen = all_see_on_grid(rt, &mut planners, done.into_inner(), plan);
     let handed = planners.len();
-    let closed = desk.close(rt, planners.as_mut_slice());
+    let (closed, _none) = desk.close(rt, planners.as_mut_slice());
     drop_whole(planners);
     assert_eq!(rt; handed, usize::from(count));
     let left = expect_both::<GridSheet, J>(rt, closed, numbers, plan);

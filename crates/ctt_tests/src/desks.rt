@@ -6,7 +6,7 @@ ghost use Rattle.ctt_edits.specs.Looks.{LookFits};
 
 use ctt_board::{Sheet, Timetable};
 use ctt_core::{JournalEntry, PlannerNo};
-use ctt_desk::{Closed, Drafting, Naming, Opened, Planner, Receipt, SharedDesk};
+use ctt_desk::{Closed, Drafting, Naming, NoMinutes, Opened, Planner, Receipt, SharedDesk};
 use ctt_edits::{Call, Edit, Look, Reply};
 use ctt_rules::Cost;
 use ctt_text::{Instance, Placed};
@@ -57,7 +57,7 @@ pub(crate) fn draft_of<'i, S: Sheet<'i>, J: Naming>(
 /// Commits a draft, which must be accepted.
 pub(crate) fn accept<'i, S: Sheet<'i>, J: Naming, R: Wait>(
     rt: &R,
-    desk: &SharedDesk<S, J>,
+    desk: &SharedDesk<S, J, NoMinutes>,
     drafting: Drafting<'i, S, J>,
 ) -> Option<(Planner<S, J>, Receipt<J>)> {
     drafting.commit(rt, desk).ok()
@@ -152,7 +152,7 @@ pub(crate) fn expect_seen<'i, S: Sheet<'i>, J: Naming, R: Abort>(
 /// Commits a draft of one edit.
 pub(crate) fn commit_edit<'i, S: Sheet<'i>, J: Naming, R: Wait>(
     rt: &R,
-    desk: &SharedDesk<S, J>,
+    desk: &SharedDesk<S, J, NoMinutes>,
     planner: Planner<S, J>,
     edit: Edit,
 ) -> Option<Committed<S, J>> {

@@ -9,7 +9,7 @@ use crate::desks::{accept, costs, draft_of, empty, is_left, place, shows};
 use crate::small::{geo_second, small_instance};
 use crate::stopped::Stopped;
 use ctt_board::{Sheet, Timetable};
-use ctt_desk::{Closed, Named, Naming, Opened, Planner, Receipt, SharedDesk};
+use ctt_desk::{Closed, Named, Naming, NoMinutes, Opened, Planner, Receipt, SharedDesk};
 use ctt_edits::{Call, Look};
 use ctt_grid::GridSheet;
 use ctt_text::{Instance, Placed, drop_whole};
@@ -29,7 +29,7 @@ struct Passed<S: Timetable, J: Naming> {
 /// A planner at the desk, and what is passed on there.
 #[derive(Drop)]
 struct Meeting<'a, 'i, J: Naming> {
-    desk: &'a SharedDesk<GridSheet<'i>, J>,
+    desk: &'a SharedDesk<GridSheet<'i>, J, NoMinutes>,
     passed: &'a Mutex<Passed<GridSheet<'i>, J>>,
     planner: Planner<GridSheet<'i>, J>,
 }
@@ -80,7 +80,7 @@ fn who_sees<'i, S: Sheet<'i>, J: Naming>(
 /// Commits the first draft of a desk, which places geo.
 fn commit_first<'i, S: Sheet<'i>, J: Naming, R: Wait>(
     rt: &R,
-    desk: &SharedDesk<S, J>,
+    desk: &SharedDesk<S, J, NoMinutes>,
     planner: Planner<S, J>,
 ) -> Option<(Planner<S, J>, Receipt<J>)> {
     let (drafting, _reply) = draft_of(planner, Call::Edit(place(&geo_second())))?;
@@ -157,7 +157,7 @@ fn learn_and_see<'a, 'i, J: Naming, R: Wait>(rt: &R, meeting: Meeting<'a, 'i, J>
 /// Runs both planners, each on a thread of its own.
 fn both_meet<'i, J: Naming + Send + Sync, R: Threads + Wait + Sync>(
     rt: &R,
-    desk: &SharedDesk<GridSheet<'i>, J>,
+    desk: &SharedDesk<GridSheet<'i>, J, NoMinutes>,
     passed: &Mutex<Passed<GridSheet<'i>, J>>,
     planners: Vec<Planner<GridSheet<'i>, J>>,
 ) -> Option<((), ())> {
@@ -199,7 +199,7 @@ fn play<'i, J: Naming + Send + Sync, R: Threads + Wait + Abort + Sync>(
         count,
         name: PhantomData,
     };
-    let Ok((desk, planners)) = SharedDesk::<GridSheet, J>::new(rt, named) else {
+    let Ok((desk, planners)) = SharedDesk::<GridSheet, J, NoMinutes>::new(rt, named, NoMinutes) else {
         return Err(Stopped::NoDesk);
     };
     let passed = Mutex::new(Passed {
@@ -208,7 +208,7 @@ fn play<'i, J: Naming + Send + Sync, R: Threads + Wait + Abort + Sync>(
     });
     let met = both_meet(rt, &desk, &passed, planners);
     let mut planners = passed.into_inner().planners;
-    let closed = desk.close(rt, planners.as_mut_slice());
+    let (closed, _none) = desk.close(rt, planners.as_mut_slice());
     let handed = planners.len();
     drop_whole(planners);
     assert_eq!(rt; handed, 2);

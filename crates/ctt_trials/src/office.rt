@@ -65,9 +65,27 @@ impl Sink for NoMinutes {
 }
 
 impl Durable for NoMinutes {
+    ghost bytes = { λ _. None };
+
     ghost kept = { λ _. None };
 
+    ghost has_failed = { λ minutes. minutes.failed };
+
+    fn size(&mut self) -> Result<u64, Failed> {
+        Ok(0)
+    }
+
+    fn append(&mut self, _text: &[u8]) -> Result<(), Failed> {
+        self.failed = true;
+        Err(Failed)
+    }
+
     fn sync(&mut self) -> Result<(), Failed> {
+        self.failed = true;
+        Err(Failed)
+    }
+
+    fn cut(&mut self, _size: u64) -> Result<(), Failed> {
         self.failed = true;
         Err(Failed)
     }

@@ -7,7 +7,7 @@ use crate::cases::Script;
 use crate::story::{Story, repeated};
 use crate::turns::{Here, leave, sit, take_turns, tell_planner};
 use ctt_board::{Sheet, Timetable};
-use ctt_desk::{Closed, Named, Naming, Opened, Planner, SharedDesk, SharedFault};
+use ctt_desk::{Closed, Named, Naming, NoMinutes, Opened, Planner, SharedDesk, SharedFault};
 use ctt_grid::GridSheet;
 use ctt_text::{Instance, NoMemory, drop_whole};
 use std::marker::{Brand, PhantomData};
@@ -63,11 +63,12 @@ fn tell_closed<S: Timetable, J: Naming>(
 fn close<S: Timetable, J: Naming, R: Wait>(
     story: &mut Story,
     rt: &R,
-    desk: SharedDesk<S, J>,
+    desk: SharedDesk<S, J, NoMinutes>,
     planners: &mut [Planner<S, J>],
     small: &Instance,
 ) {
-    match desk.close(rt, planners) {
+    let (closed, _none) = desk.close(rt, planners);
+    match closed {
         Ok(closed) => {
             story.count("closed with planners", planners.len() as u64);
             tell_closed(story, small, &closed);
@@ -94,7 +95,7 @@ fn play_named<'i, S: Sheet<'i>, J: Naming, R: Wait>(
 )
     requires { J.problem ≡ script.now.small.now }
 {
-    match SharedDesk::<S, J>::new(rt, named) {
+    match SharedDesk::<S, J, NoMinutes>::new(rt, named, NoMinutes) {
         Ok((desk, all)) => {
             let here = Here {
                 rt,
@@ -105,7 +106,7 @@ fn play_named<'i, S: Sheet<'i>, J: Naming, R: Wait>(
             close(story, rt, desk, planners.as_mut_slice(), script.small);
             drop_whole(planners);
         }
-        Err(_fault) => story.no_memory(),
+        Err(_refused) => story.no_memory(),
     }
 }
 

@@ -6,7 +6,7 @@ ghost use Rattle.ctt_core.specs.Runs.{EventFits};
 use crate::story::Story;
 use ctt_board::{Sheet, Timetable};
 use ctt_core::{Answer, Event, PlannerNo};
-use ctt_desk::{Naming, Planner, Receipt, SharedDesk};
+use ctt_desk::{Naming, NoMinutes, Planner, Receipt, SharedDesk};
 use ctt_script::{Lines, read_own_line};
 use ctt_seat::{Seat, SeatAnswer};
 use ctt_text::{Instance, drop_whole};
@@ -16,7 +16,7 @@ use std::sync::Wait;
 #[derive(Drop)]
 pub(crate) struct Here<'i, 'x, S: Timetable, J: Naming, R: Wait> {
     pub(crate) rt: &'x R,
-    pub(crate) desk: &'x SharedDesk<S, J>,
+    pub(crate) desk: &'x SharedDesk<S, J, NoMinutes>,
     pub(crate) small: &'i Instance,
 }
 
@@ -105,7 +105,8 @@ fn take<'i, S: Sheet<'i>, J: Naming, R: Wait>(
 }
 
 /// Records the report to a planner, and stores the receipt if there is one. Returns whether it was
-/// recorded: it is not if memory ran out, or if a place was refused, which has no other cause here.
+/// recorded: it is not if memory ran out, or if a place was refused, which has no other cause here, as
+/// there are no minutes.
 fn tells<J: Naming>(
     story: &mut Story,
     small: &Instance,
@@ -123,7 +124,7 @@ fn tells<J: Naming>(
             drop_whole(asked);
             story.tells(small, Answer::Stale(row))
         }
-        Err(SeatAnswer::NoPlace) => false,
+        Err(SeatAnswer::NoPlace | SeatAnswer::NotWritten) => false,
         Err(SeatAnswer::NotYours(count)) => {
             story.count("not yours", count);
             true
