@@ -60,7 +60,7 @@ class Seat:
 class Desk:
     """A desk with so many seats, in a folder of its own."""
 
-    def __init__(self, seats, *options, instance=SMALL, folder=None, minutes=True, limit=None):
+    def __init__(self, seats, *options, instance=SMALL, folder=None, minutes=True, limit=None, env=None):
         self.folder = room(folder)
         self.minutes = os.path.join(self.folder, "minutes")
         self.seats = [Seat(self.folder, str(p)) for p in range(seats)]
@@ -80,6 +80,7 @@ class Desk:
             stdout=subprocess.PIPE,
             stderr=subprocess.PIPE,
             preexec_fn=limited if limit else None,
+            env={**os.environ, **env} if env else None,
         )
         for seat in self.seats:
             seat.sit()

@@ -3,7 +3,8 @@
 
 A run takes its files byte by byte. Where a read fails it has to say so with status 3, print nothing and read no more. Where a
 write to standard output or to a file fails, or takes nothing, behind some bytes, these bytes have to be a front of what is
-written else, and no more may be written there. A desk whose minutes fail tells no commit as written that is not, and goes on.
+written else, and no more may be written there. A desk whose minutes fail accepts no draft that is not there, cuts off what was
+written of it, and goes on; if that cannot be cut off, it accepts none any more. Killed at any step, it leaves what it told.
 If nobody reads standard output any more, a run ends as it does else, and says nothing of that.
 
 It needs a C compiler. PROGRAM names another program. The last line is 'N passed, M failed'.
@@ -23,6 +24,8 @@ OWN = "open\nplace geo A 0 1\ncommit\n"
 # what is typed at a seat, its answers, and the entry of each commit
 TYPED = ["open", "place geo A 0 1", "commit", "open", "slot 0 1", "commit", "show cost", "leave"]
 TOLD = ["opened", "done", "committed 1", "opened", "lectures 1 geo A 0 1", "committed 2", "costs 0 15 2 0", "left"]
+# and that of the second one, if the first was not written
+BOTH = b"entry 0 2\nplace geo A 0 1\ndone\nslot 0 1\nlectures 1 geo A 0 1\n"
 ENTRIES = [b"entry 0 1\nplace geo A 0 1\ndone\n", b"entry 0 1\nslot 0 1\nlectures 1 geo A 0 1\n"]
 # what the desk says at its end behind so many commits
 CLOSED = ["journal 0\ncosts 0 20 0 0\n", "journal 1\ncosts 0 15 2 0\n", "journal 2\ncosts 0 15 2 0\n"]
@@ -84,14 +87,16 @@ class Runs:
                 self.check(f"{k} bytes are stored", (3, printed, NOT_WRITTEN, kept[:k], "write\n"), STORES=k, **marks)
 
 
-def told(lines, written=2):
-    """What a seat is told of so many lines, where so many commits are written: one that is not ends its draft, and the next is not tried."""
+def told(lines, written=(True, True)):
+    """What a seat is told of so many lines, where these of its commits are written: if one is not, its draft stays open."""
     answers = list(TOLD)
-    if written == 0:
-        answers[2] = "not written"
-        answers[6] = "costs 0 15 2 0"
-    if written < 2:
+    if not written[0]:
+        answers[2:4] = ["not written", "already open"]
+        answers[5] = "committed 1"
+    if not written[1]:
         answers[5] = "not written"
+    if not any(written):
+        answers[6] = "costs 0 20 0 0"
     return "".join(f"{answer}\n" for answer in answers[:lines]).encode()
 
 
@@ -109,13 +114,18 @@ def check_desk(folder, made):
 
     desk.check("byte by byte", (0, told(every), *left(every), ""), BAD_READ=0)
     for k in range(len(ends[2])):
-        written = int(k >= len(ends[1]))
+        first = k >= len(ends[1])
         for marks in FAILS:
-            wanted = (3, told(every, written), NOT_WRITTEN, ends[2][:k], "write\n")
+            wanted = (0, told(every, (first, False)), CLOSED[first], ends[first], "write\n" * (2 - first))
             desk.check(f"{k} bytes are stored", wanted, STORES=k, **marks)
-    for number in (1, 2):
-        wanted = (3, told(every, number - 1), NOT_WRITTEN, ends[number], "sync\n")
+            written = ends[2][:k] if first else ends[1][:k]
+            wanted = (3, told(every, (first, False)), NOT_WRITTEN, written, "write\ncut\n")
+            desk.check(f"{k} bytes are stored, and not cut", wanted, STORES=k, BAD_CUT=1, **marks)
+    for number, marks in ((1, (False, True)), (2, (True, False))):
+        wanted = (0, told(every, marks), CLOSED[1], BOTH if number == 1 else ends[1], "sync\n")
         desk.check(f"sync {number} fails", wanted, BAD_SYNC=number)
+        wanted = (3, told(every, (number == 2, False)), NOT_WRITTEN, ends[number], "sync\ncut\n")
+        desk.check(f"sync {number} fails, and what was written is not cut", wanted, BAD_SYNC=number, BAD_CUT=1)
     check("there is no third sync", desk.run(BAD_SYNC=3)[4], "")
     for k in range(len(told(every))):
         answered = told(every)[:k].count(b"\n") + 1
@@ -128,6 +138,23 @@ def check_desk(folder, made):
         wanted = (0, told(lines), *left(lines), "read\n")
         desk.check(f"{k} bytes are typed", wanted, BAD_READ=before + k + 1)
     check("there is no read behind the last line", desk.run(BAD_READ=before + len(typed) + 1)[4], "")
+
+
+def check_killed(folder, made):
+    """Kills a desk at each step of its minutes: what it told is there, and one entry more at most, which may be torn."""
+    typed = "".join(f"{line}\n" for line in TYPED).encode()
+    desk = Runs(folder, made, ["desk", "small.ctt", "-", "--minutes", "kept"], typed=typed)
+    for marks in ({}, {"STORES": 9}, {"BAD_SYNC": 1}):
+        for number in range(1, 50):
+            status, printed, _, kept, _ = desk.run(DIES=number, **marks)
+            if status == 0:
+                break
+            commits = printed.count(b"committed")
+            whole = subprocess.run([PROGRAM, "journal", "small.ctt", "kept"], cwd=folder, capture_output=True, timeout=60)
+            check(f"killed at step {number} {marks}: the minutes are read", (status, whole.returncode), (-9, 0))
+            entries = int(whole.stdout.split()[1])
+            check(f"killed at step {number} {marks}: what was told is there", commits <= entries <= commits + 1, True)
+        check(f"{marks}: a desk has so many steps", 8 <= number < 49, True)
 
 
 def closed(folder, words, typed=b""):
@@ -188,4 +215,5 @@ with tempfile.TemporaryDirectory() as room:
     ):
         Runs(room, shim, command.split(), read).check_all()
     check_desk(room, shim)
+    check_killed(room, shim)
 end()

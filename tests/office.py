@@ -14,7 +14,7 @@ sys.dont_write_bytecode = True
 from desks import PATIENCE, SMALL, call, room  # noqa: E402
 from office_days import closures, eight_seats, goes_away, one_seat, two_planners, waits_for_nobody  # noqa: E402
 from office_many import killed, latency, sixty_four  # noqa: E402
-from office_minutes import cuts, full_disk, lists, refusals  # noqa: E402
+from office_minutes import cuts, full_disk, lists, refusals, unseen  # noqa: E402
 from program import HERE, PROGRAM, check, end  # noqa: E402
 
 
@@ -97,7 +97,7 @@ def main():
         latency()
         return
     only = sys.argv[1:]
-    tests = [one_seat, two_planners, closures, eight_seats, goes_away, waits_for_nobody, refusals, full_disk, cuts, lists]
+    tests = [one_seat, two_planners, closures, eight_seats, goes_away, waits_for_nobody, refusals, full_disk, unseen, cuts, lists]
     tests += [office_script, sixty_four, killed]
     for test in tests:
         if only and test.__name__ not in only:

@@ -1,8 +1,9 @@
 """What a desk refuses, its minutes on a disk that gets full, and the journals of minutes."""
 import os
+import time
 
 from desks import NO_MINUTES, SMALL, Desk, audit, call, room, with_threads
-from program import check
+from program import build, check
 
 
 def refusals():
@@ -51,7 +52,7 @@ def refusals():
 
 def full_disk():
     """Where the minutes cannot be written, commits are not told as accepted."""
-    answers = ["opened", "done", "not written", "opened", "not written", "already open", "abandoned", "left"]
+    answers = ["opened", "done", "not written", "already open", "not written", "already open", "abandoned", "left"]
     text = b"open\nplace geo A 0 1\ncommit\nopen\ncommit\nopen\nabandon\nleave\n"
     check(
         "a disk that is full",
@@ -71,13 +72,51 @@ def full_disk():
         seat.go()
 
     with_threads(work, 4)
-    check("a disk that gets full: status", desk.end()[::2], (3, "timedesk: cannot write\n"))
+    check("a disk that gets full: status", desk.end()[::2], (0, ""))
     numbers = sorted(int(a.split()[1]) for answers in told for a in answers if a.startswith("committed"))
     check("numbers that were told", numbers, list(range(1, len(numbers) + 1)))
     check("then none", all(a.startswith("committed") or a == "not written" for answers in told for a in answers), True)
     (status, said), audited, journal = audit(desk)
     check("its journal", (status, audited), (0, (0, "agrees\n", "")))
-    check("what was told is there", int(journal.split()[1]) >= len(numbers) > 0, True)
+    check("what was told is there, and no more", int(journal.split()[1]) == len(numbers) > 0, True)
+
+
+def unseen():
+    """A draft is seen once it is safe: here a sync takes two seconds, or fails."""
+    shim = build(room(), "devices")
+    desk = Desk(2, env={"LD_PRELOAD": shim, "SLOW_SYNC": "2"})
+    first, second = desk.seats
+    for line in ("open", "place geo A 0 1"):
+        first.ask(line)
+    second.ask("show cost")
+    first.say("commit")
+    begun = time.monotonic()
+    longest = 0.0
+    while True:
+        asked = time.monotonic()
+        seen = second.ask("show slot 0 1")
+        longest = max(longest, time.monotonic() - asked)
+        if seen != "lectures 0":
+            break
+        time.sleep(0.02)
+    check("a draft is seen once it is safe", (time.monotonic() - begun > 1.9, seen), (True, "lectures 1 geo A 0 1"))
+    check("readers wait for nobody", longest < 1, True)
+    check("then it is told", first.hear(), "committed 1")
+    for seat in desk.seats:
+        seat.go()
+    check("a slow sync: status", desk.end()[0], 0)
+    desk = Desk(2, env={"LD_PRELOAD": shim, "BAD_SYNC": "1"})
+    first, second = desk.seats
+    told = [first.ask(line) for line in ("open", "place geo A 0 1", "commit", "status")]
+    check("a sync that fails", told[2:], ["not written", "draft 1 0"])
+    with open(desk.minutes) as file:
+        check("is cut off", file.read(), "")
+    check("others do not see it", [second.ask(line) for line in ("show slot 0 1", "open", "commit")], ["lectures 0", "opened", "committed 1"])
+    check("it can be committed again", first.ask("commit"), "committed 2")
+    for seat in desk.seats:
+        seat.go()
+    check("a sync that fails: status", desk.end()[0], 0)
+    check("its journal", audit(desk)[:2], ((0, ""), (0, "agrees\n", "")))
 
 
 def cuts():

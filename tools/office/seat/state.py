@@ -241,10 +241,9 @@ class SeatState:
             self.accept(self.offset + answer.number)
             return was_open
         if answer is Said.NOT_WRITTEN:
-            # the first draft that is told so has ended, a later one is open still: the next answer
-            # says which
+            # the draft is open still, as it was
             self.is_full = True
-            return self._end(keeps=True)
+            return was_open
         return self._end(keeps=True) if isinstance(answer, Stale) else not was_open
 
     def _refresh(self, answer: Answer) -> bool:
