@@ -108,7 +108,7 @@ def unseen():
     desk = Desk(2, env={"LD_PRELOAD": shim, "BAD_SYNC": "1"})
     first, second = desk.seats
     told = [first.ask(line) for line in ("open", "place geo A 0 1", "commit", "status")]
-    check("a sync that fails", told[2:], ["not written", "draft 1 0"])
+    check("a sync that fails", told[2:], ["not written", "draft 1 0 fresh"])
     with open(desk.minutes) as file:
         check("is cut off", file.read(), "")
     check("others do not see it", [second.ask(line) for line in ("show slot 0 1", "open", "commit")], ["lectures 0", "opened", "committed 1"])
