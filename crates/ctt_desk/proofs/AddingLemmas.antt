@@ -62,3 +62,7 @@ added found drafts e v w is h = rw (eq-eqb found drafts is) at h
 -- a front that is longer by one entry
 pub one_longer : (i : Problem) (t : List Placed) (drafts : ℕ) (h w : List JournalEntry) (e : JournalEntry) → w ≡ h ++ e ∷ [] → drafts ≡ length h → Legal i t h → replies_in e.asked ≡ replies i (after i t h) (calls_of e.asked) → (drafts + 1 ≡ length w) × Legal i t w
 one_longer i t drafts h w e is len legal told = (omega (arith, ap length is, length-append h (e ∷ [])), subst (Legal i t) (sym is) (Legal-push i t h e legal told))
+
+-- a history that is longer by a draft, whose replies are those that it gets there
+pub legal_longer : (i : Problem) (t : List Placed) (h : List JournalEntry) (e : JournalEntry) → Legal i t h → replies_in e.asked ≡ replies i (after i t h) (calls_of e.asked) → Legal i t (h ++ e ∷ [])
+legal_longer i t h e legal told = Legal-push i t h e legal told

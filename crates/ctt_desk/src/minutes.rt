@@ -24,7 +24,7 @@ pub trait Minutes<J: Naming>: Drop {
     ghost use Rattle.ctt_desk.specs.Histories.{entry_of};
     ghost use Rattle.ctt_desk.specs.declared.minutes.Unwritten.TheVariants.{Failed as NotWritten};
 
-    /// The entries of a history are written, and nothing else but part of one that was not accepted.
+    /// The entries of a history are written, and nothing else but part of one that is not accepted.
     ghost have: { Self → List JournalEntry → Type 0 };
 
     /// At some moment the entries of a history were safe.

@@ -144,13 +144,7 @@ fn seat_tasks<'i, 'x, P: Drop, J: Naming, D: Doors>(
 }
 
 /// Runs the seats with these names until all have ended.
-fn seat_all<
-    'i,
-    J: Naming + Send + Sync,
-    D: Doors,
-    M: Minutes<J> + Send,
-    R: Threads + Wait + Sync,
->(
+fn seat_all<'i, J: Naming + Send + Sync, D: Doors, M: Minutes<J> + Send, R: Threads + Wait + Sync>(
     rt: &R,
     alloc: Global,
     desk: &SharedDesk<GridSheet<'i>, J, M>,
@@ -193,13 +187,7 @@ fn desk_named<S: Timetable, J: Naming, M: Minutes<J>, R: Wait>(
 
 /// Runs the desk that `J` names, with these minutes, until all planners have left. It has a seat
 /// for each planner.
-fn keep_with<
-    'i,
-    J: Naming + Send + Sync,
-    D: Doors,
-    M: Minutes<J> + Send,
-    R: Threads + Wait + Sync,
->(
+fn keep_with<'i, J: Naming + Send + Sync, D: Doors, M: Minutes<J> + Send, R: Threads + Wait + Sync>(
     rt: &R,
     alloc: Global,
     instance: &'i Instance,

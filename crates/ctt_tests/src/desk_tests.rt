@@ -272,7 +272,8 @@ fn play<'i, J: Naming + Send + Sync, R: Threads + Wait + Abort + Sync>(
         count,
         name: PhantomData,
     };
-    let Ok((desk, mut planners)) = SharedDesk::<GridSheet, J, NoMinutes>::new(rt, named, NoMinutes) else {
+    let Ok((desk, mut planners)) = SharedDesk::<GridSheet, J, NoMinutes>::new(rt, named, NoMinutes)
+    else {
         return Err(Stopped::NoDesk);
     };
     let done = Mutex::new(Vec::new(alloc));

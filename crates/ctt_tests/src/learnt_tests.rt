@@ -199,7 +199,8 @@ fn play<'i, J: Naming + Send + Sync, R: Threads + Wait + Abort + Sync>(
         count,
         name: PhantomData,
     };
-    let Ok((desk, planners)) = SharedDesk::<GridSheet, J, NoMinutes>::new(rt, named, NoMinutes) else {
+    let Ok((desk, planners)) = SharedDesk::<GridSheet, J, NoMinutes>::new(rt, named, NoMinutes)
+    else {
         return Err(Stopped::NoDesk);
     };
     let passed = Mutex::new(Passed {

@@ -105,8 +105,8 @@ fn take<'i, S: Sheet<'i>, J: Naming, R: Wait>(
 }
 
 /// Records the report to a planner, and stores the receipt if there is one. Returns whether it was
-/// recorded: it is not if memory ran out, or if a place was refused, which has no other cause here, as
-/// there are no minutes.
+/// recorded: it is not if memory ran out, or if a place was refused, which has no other cause here.
+/// There are no minutes that could fail.
 fn tells<J: Naming>(
     story: &mut Story,
     small: &Instance,
