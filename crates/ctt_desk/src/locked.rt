@@ -107,6 +107,7 @@ fn put_back<S: Timetable, J: Naming>(slot: &mut Option<Publisher<S, J>>, publish
 }
 
 /// Writes the entry of a draft into the minutes, which have the history `front`.
+#[tactic(auto, using(crate::proofs::AddingLemmas::legal_longer))]
 fn enter<'i, S: Sheet<'i>, J: Naming, M: Minutes<J>>(
     minutes: &mut M,
     front: &ObservedPrefix<J>,

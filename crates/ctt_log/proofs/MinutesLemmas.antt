@@ -12,7 +12,8 @@ use Rattle.ctt_core.specs.declared.journal.JournalEntry.{JournalEntry}
 use Rattle.ctt_script.specs.WrittenText.{entry_text}
 use Rattle.ctt_files.specs.Output.{AppendsFront}
 use Rattle.ctt_files.proofs.OutputLemmas.{on_err, whole_front}
-use Rattle.ctt_log.specs.Minutes.{AreMinutesOf, AreTornMinutesOf, Cuts}
+use Rattle.ctt_desk.specs.declared.minutes.Unwritten.{Unwritten}
+use Rattle.ctt_log.specs.Minutes.{AreMinutesOf, AreTornMinutesOf, Cuts, Have, HaveWhile, IsPartOf, LogValue}
 
 -- if all was taken and is durable, a prefix was taken
 pub all_kept : {T E : Type 0} (synced : Result T E) (old mid new : Option (List ℕ)) (bs : List ℕ) → Appends old mid bs → Keeps mid new → OnErr synced (AppendsFront old new bs)
@@ -54,3 +55,37 @@ taken_back i None old new cut n history more minutes part many cuts = tt
 taken_back i (Some xs) None new cut n history more minutes part many cuts = absurd minutes
 taken_back i (Some xs) (Some ys) new cut n history more minutes (k, adds) many cuts =
     subst (λ o. Appends (Some xs) o (flat_map (entry_text i) history)) (sym (left (Some ys) new cut n ys (take k more) refl adds many cuts)) minutes
+
+-- bytes of which known ones stay, and then grow by the first of some more
+part_kept : (old mid new : Option (List ℕ)) (more : List ℕ) → AppendsFront old mid more → Keeps mid new → AppendsFront old new more
+part_kept old mid new more (k, adds) keeps = (k, Appends-kept old mid new (take k more) adds keeps)
+
+module _ (i : Problem) (t0 : List Placed) (start : Option (List ℕ)) where
+  -- minutes that take entries have their history and nothing else
+  open_minutes : (log : LogValue) (history : List JournalEntry) → log.shut ≡ None → Have i t0 start log history → AreMinutesOf i history start log.bytes
+  open_minutes log history open has = subst (λ shut. HaveWhile shut i t0 start log.bytes history) open has
+
+  still_open : (log : LogValue) (history : List JournalEntry) → log.shut ≡ None → AreMinutesOf i history start log.bytes → Have i t0 start log history
+  still_open log history open has = subst (λ shut. HaveWhile shut i t0 start log.bytes history) (sym open) has
+
+  now_shut : (log : LogValue) (why : Unwritten) (history : List JournalEntry) → log.shut ≡ Some why → AreMinutesOf i history start log.bytes ⊎ AreTornMinutesOf i t0 history start log.bytes → Have i t0 start log history
+  now_shut log why history shut has = subst (λ s. HaveWhile s i t0 start log.bytes history) (sym shut) has
+
+  -- an entry is written and safe
+  pub entered : (old new : LogValue) (mid : Option (List ℕ)) (last : JournalEntry) → old.shut ≡ None → new.shut ≡ None → Keeps old.bytes mid → Appends mid new.bytes (entry_text i last) → (history : List JournalEntry) → Have i t0 start old history → Have i t0 start new (history ++ last ∷ [])
+  entered old new mid last open stays keeps adds history has =
+      still_open new (history ++ last ∷ []) stays (one_more i start mid new.bytes history last (as_they_were i start old.bytes mid history (open_minutes old history open has) keeps) adds)
+
+  -- what was written of an entry is taken back
+  pub back : (old new : LogValue) (mid part : Option (List ℕ)) (n : ℕ) (last : JournalEntry) → old.shut ≡ None → new.shut ≡ None → Keeps old.bytes mid → IfSome mid (λ xs. n ≡ length xs) → AppendsFront mid part (entry_text i last) → Cuts n part new.bytes
+      → (history : List JournalEntry) → Have i t0 start old history → Have i t0 start new history
+  back old new mid part n last open stays keeps many adds cuts history has =
+      still_open new history stays (taken_back i start mid part new.bytes n history (entry_text i last) (as_they_were i start old.bytes mid history (open_minutes old history open has) keeps) adds many cuts)
+
+  -- it could not be taken back for sure, and no further entry is taken
+  pub half : (old new : LogValue) (mid part : Option (List ℕ)) (n : ℕ) (why : Unwritten) (last : JournalEntry) → old.shut ≡ None → new.shut ≡ Some why → Keeps old.bytes mid → IfSome mid (λ xs. n ≡ length xs) → AppendsFront mid part (entry_text i last)
+      → Keeps part new.bytes ⊎ Cuts n part new.bytes → (history : List JournalEntry) → Legal i t0 (history ++ last ∷ []) → Have i t0 start old history → Have i t0 start new history
+  half old new mid part n why last open shut keeps many adds (inl same) history legal has =
+      now_shut new why history shut (inr (torn i t0 start mid new.bytes history last (as_they_were i start old.bytes mid history (open_minutes old history open has) keeps) (part_kept mid part new.bytes (entry_text i last) adds same) legal))
+  half old new mid part n why last open shut keeps many adds (inr cuts) history legal has =
+      now_shut new why history shut (inl (taken_back i start mid part new.bytes n history (entry_text i last) (as_they_were i start old.bytes mid history (open_minutes old history open has) keeps) adds many cuts))
