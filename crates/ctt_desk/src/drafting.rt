@@ -8,18 +8,15 @@ ghost use Rattle.ctt_edits.specs.Fitting.{IsReply};
 ghost use Rattle.ctt_edits.specs.Looks.{LookFits, shown};
 ghost use Rattle.ctt_draft.specs.Drafts.{AskedFits, calls_of};
 ghost use Rattle.ctt_draft.specs.Undoing.{undoing};
-ghost use Rattle.ctt_desk.specs.Histories.{entry_of};
 ghost use Rattle.ctt_desk.specs.Planners.{present_of, asked_also};
 
 use crate::naming::Naming;
 use crate::observed_prefix::ObservedPrefix;
 use crate::planner::Planner;
 use ctt_board::{Sheet, Timetable};
-use ctt_core::JournalEntry;
 use ctt_draft::{AskedCalls, Draft, Work};
 use ctt_edits::{Call, Edit, Look, Reply, edit_laws};
 use ctt_problem::{Instance, NoMemory, drop_whole};
-use std::alloc::Global;
 use std::marker::Model;
 
 /// A planner with an open draft. Contracts see the planner, the base of the draft, the history that
@@ -49,19 +46,6 @@ impl<'i, S: Timetable, J: Naming> Model for Drafting<'i, S, J> {
     ghost invariant = { λ d. (d.draft.value.problem ≡ J.problem)
         × (d.draft.value.base ≡ after J.problem J.opening d.since)
         × IsPrefix d.since d.planner.front };
-}
-
-/// Copies the calls of a draft with their replies.
-fn asked_again<'i, S: Sheet<'i>>(
-    alloc: Global,
-    draft: &Draft<'i, S>,
-) -> Result<AskedCalls, NoMemory>
-    ensures asked { IfOk result (λ asked. asked ≡ draft.now.asked) }
-    ensures fit { IfOk result (Each (AskedFits draft.now.problem)) }
-{
-    draft.instance().limits_hold();
-    draft.lawful();
-    AskedCalls::copy_of(alloc, draft.asked())
 }
 
 /// Ends a draft, and returns its calls with their replies. Allocates nothing.
@@ -140,16 +124,5 @@ impl<'i, S: Sheet<'i>, J: Naming> Drafting<'i, S, J> {
         drop_whole(draft);
         drop_whole(since);
         planner
-    }
-
-    /// Returns the journal entry that the draft becomes if it is accepted.
-    pub fn entry(&self) -> Result<JournalEntry, NoMemory>
-        ensures entry { IfOk result (λ entry.
-            entry ≡ entry_of self.now.planner.number self.now.asked) }
-        ensures fit { IfOk result (λ entry. Each (AskedFits J.problem) entry.asked) }
-    {
-        let asked = asked_again(self.planner.alloc, &self.draft)?;
-        let planner = self.planner.number();
-        Ok(JournalEntry { planner, asked })
     }
 }
