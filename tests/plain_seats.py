@@ -69,7 +69,7 @@ class SeatsDesk(Desk):
         super().__init__(instance, {})
         names = self.rules
         self.t = {(names.course[c], d, p): names.room[r] for c, r, d, p in lectures}
-        self.keep, self.is_full = keep, False
+        self.keep = keep
         # the edits of drafts that were refused, by planner
         self.ended = {}
 
@@ -92,16 +92,12 @@ class SeatsDesk(Desk):
 
     def end(self, planner, event):
         draft = self.drafts[planner]
-        if event == "commit" and self.is_full:
-            return "not written"
         if self.stale(draft):
             self.ended[planner] = self.edits(draft)
         elif event == "commit":
             try:
                 self.keep(entry_text(planner, draft.asked))
             except OSError:
-                self.is_full = True
-                del self.drafts[planner]
                 return "not written"
         return super().end(planner, event)
 
