@@ -73,7 +73,8 @@ pub fn end_desk<S: Timetable, J: Naming, M: Minutes<J>, R: Wait>(
     ensures { M.have result.1 result.0 }
 {
     let mut none = Vec::new(alloc);
-    match desk.close(rt, none.as_mut_slice()) {
-        (Ok(closed), minutes) | (Err(closed), minutes) => (closed, minutes),
+    let (ended, minutes) = desk.close(rt, none.as_mut_slice());
+    match ended {
+        Ok(closed) | Err(closed) => (closed, minutes),
     }
 }
