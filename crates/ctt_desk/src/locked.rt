@@ -121,6 +121,7 @@ fn enter<'i, S: Sheet<'i>, J: Naming, M: Minutes<J>>(
     ensures written { OnOk result
         (M.have minutes.new (front.now ++ entry_of planner draft.now.asked ∷ [])) }
     ensures kept { OnOk result (M.kept (front.now ++ entry_of planner draft.now.asked ∷ [])) }
+    ensures takes { OnOk result (M.takes minutes.new) }
     ensures unwritten { OnErr result (M.have minutes.new front.now) }
     ensures legal { Legal J.problem J.opening (front.now ++ entry_of planner draft.now.asked ∷ []) }
     ensures cause { IfErr result (IsWantAt M.failed) }
@@ -272,8 +273,9 @@ impl<'i, S: Sheet<'i>, J: Naming> Locked<S, J> {
             return Err((draft, Cause::NoMemory));
         }
         draft.lawful();
-        if let Err(cause) = enter(minutes, &self.front, planner, &draft) {
-            return Err((draft, cause));
+        match enter(minutes, &self.front, planner, &draft) {
+            Ok(()) => {}
+            Err(cause) => return Err((draft, cause)),
         }
         let Some(front) = extend(&self.front, &self.head, planner, &draft) else {
             minutes.shut();

@@ -27,6 +27,9 @@ pub trait Minutes<J: Naming>: Drop {
     /// The entries of a history are written, and nothing else but part of one that is not accepted.
     ghost have: { Self → List JournalEntry → Type 0 };
 
+    /// Further entries are taken.
+    ghost takes: { Self → Type 0 };
+
     /// At some moment the entries of a history were safe.
     ghost kept: { List JournalEntry → Type 0 };
 
@@ -47,6 +50,7 @@ pub trait Minutes<J: Naming>: Drop {
             → have self.new (history ++ entry_of planner asked.now ∷ [])) }
         ensures kept { OnOk result ((history : List JournalEntry) → have self.old history
             → kept (history ++ entry_of planner asked.now ∷ [])) }
+        ensures takes { OnOk result (takes self.new) }
         ensures unwritten { OnErr result ((history : List JournalEntry)
             → Legal J.problem J.opening (history ++ entry_of planner asked.now ∷ [])
             → have self.old history → have self.new history) }
@@ -54,6 +58,7 @@ pub trait Minutes<J: Naming>: Drop {
 
     /// Takes no further entry, as the last one was not accepted.
     fn shut(&mut self)
+        requires { takes self.old }
         ensures { (history : List JournalEntry) (last : JournalEntry)
             → Legal J.problem J.opening (history ++ last ∷ [])
             → have self.old (history ++ last ∷ []) → have self.new history };
@@ -65,6 +70,8 @@ pub struct NoMinutes;
 
 impl<J: Naming> Minutes<J> for NoMinutes {
     ghost have = { λ _ _. Unit {0} };
+
+    ghost takes = { λ _. Unit {0} };
 
     ghost kept = { λ _. Unit {0} };
 

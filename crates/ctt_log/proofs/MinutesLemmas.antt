@@ -1,6 +1,6 @@
 -- Minutes that grow by an entry, or by part of one that is then taken back.
-use Rattle.std.proofs.Common.{◌≡◌, ◌∙◌, ◌⊎◌, inl, inr, ◌++◌, ◌∷◌, [], ℕ, List, OnErr, Option, Some, None, Result, length, take, flat_map, refl, sym, ap, subst, append_assoc}
-use Rattle.std.proofs.lemmas.List.{append-nil}
+use Rattle.std.proofs.Common.{◌≡◌, ◌∙◌, ◌⊎◌, inl, inr, ◌++◌, ◌∷◌, [], ℕ, List, OnErr, Option, Some, None, Result, length, take, flat_map, arith, refl, sym, ap, subst, append_assoc}
+use Rattle.std.proofs.lemmas.List.{append-nil, take_all}
 use Rattle.std.specs.Prelude.{IfSome}
 use Rattle.std.proofs.KnownBytes.{Appends-kept, Appends-trans}
 use Rattle.std.proofs.lemmas.List.Concat.{flat_map-append}
@@ -60,32 +60,49 @@ taken_back i (Some xs) (Some ys) new cut n history more minutes (k, adds) many c
 part_kept : (old mid new : Option (List ℕ)) (more : List ℕ) → AppendsFront old mid more → Keeps mid new → AppendsFront old new more
 part_kept old mid new more (k, adds) keeps = (k, Appends-kept old mid new (take k more) adds keeps)
 
-module _ (i : Problem) (t0 : List Placed) (start : Option (List ℕ)) where
-  -- minutes that take entries have their history and nothing else
-  open_minutes : (log : LogValue) (history : List JournalEntry) → log.shut ≡ None → Have i t0 start log history → AreMinutesOf i history start log.bytes
-  open_minutes log history open has = subst (λ shut. HaveWhile shut i t0 start log.bytes history) open has
-
-  still_open : (log : LogValue) (history : List JournalEntry) → log.shut ≡ None → AreMinutesOf i history start log.bytes → Have i t0 start log history
-  still_open log history open has = subst (λ shut. HaveWhile shut i t0 start log.bytes history) (sym open) has
-
-  now_shut : (log : LogValue) (why : Unwritten) (history : List JournalEntry) → log.shut ≡ Some why → AreMinutesOf i history start log.bytes ⊎ AreTornMinutesOf i t0 history start log.bytes → Have i t0 start log history
-  now_shut log why history shut has = subst (λ s. HaveWhile s i t0 start log.bytes history) (sym shut) has
+module _ (i : Problem) (t0 : List Placed) (start : Option (List ℕ)) (log : LogValue) (old : Option (List ℕ)) (shut : Option Unwritten) (is : record { bytes = old; shut = shut } ≡ log) where
+  -- the bytes of minutes that take entries
+  free : (history : List JournalEntry) → shut ≡ None → Have i t0 start log history → AreMinutesOf i history start old
+  free history none has =
+      let had : HaveWhile shut i t0 start old history = subst (λ (l : LogValue). Have i t0 start l history) (sym is) has in
+      subst (λ s. HaveWhile s i t0 start old history) none had
 
   -- an entry is written and safe
-  pub entered : (old new : LogValue) (mid : Option (List ℕ)) (last : JournalEntry) → old.shut ≡ None → new.shut ≡ None → Keeps old.bytes mid → Appends mid new.bytes (entry_text i last) → (history : List JournalEntry) → Have i t0 start old history → Have i t0 start new (history ++ last ∷ [])
-  entered old new mid last open stays keeps adds history has =
-      still_open new (history ++ last ∷ []) stays (one_more i start mid new.bytes history last (as_they_were i start old.bytes mid history (open_minutes old history open has) keeps) adds)
+  pub entered : (mid new : Option (List ℕ)) (last : JournalEntry) → shut ≡ None → Keeps old mid → Appends mid new (entry_text i last)
+      → (history : List JournalEntry) → Have i t0 start log history → AreMinutesOf i (history ++ last ∷ []) start new
+  entered mid new last none keeps adds history has = one_more i start mid new history last (as_they_were i start old mid history (free history none has) keeps) adds
+
+  -- nothing is written
+  pub same : (new : Option (List ℕ)) → shut ≡ None → Keeps old new → (history : List JournalEntry) → Have i t0 start log history → AreMinutesOf i history start new
+  same new none keeps history has = as_they_were i start old new history (free history none has) keeps
 
   -- what was written of an entry is taken back
-  pub back : (old new : LogValue) (mid part : Option (List ℕ)) (n : ℕ) (last : JournalEntry) → old.shut ≡ None → new.shut ≡ None → Keeps old.bytes mid → IfSome mid (λ xs. n ≡ length xs) → AppendsFront mid part (entry_text i last) → Cuts n part new.bytes
-      → (history : List JournalEntry) → Have i t0 start old history → Have i t0 start new history
-  back old new mid part n last open stays keeps many adds cuts history has =
-      still_open new history stays (taken_back i start mid part new.bytes n history (entry_text i last) (as_they_were i start old.bytes mid history (open_minutes old history open has) keeps) adds many cuts)
+  pub back : (mid part new : Option (List ℕ)) (n : ℕ) (more : List ℕ) → shut ≡ None → Keeps old mid → IfSome mid (λ xs. n ≡ length xs) → AppendsFront mid part more → Cuts n part new
+      → (history : List JournalEntry) → Have i t0 start log history → AreMinutesOf i history start new
+  back mid part new n more none keeps many adds cuts history has = taken_back i start mid part new n history more (same mid none keeps history has) adds many cuts
 
-  -- it could not be taken back for sure, and no further entry is taken
-  pub half : (old new : LogValue) (mid part : Option (List ℕ)) (n : ℕ) (why : Unwritten) (last : JournalEntry) → old.shut ≡ None → new.shut ≡ Some why → Keeps old.bytes mid → IfSome mid (λ xs. n ≡ length xs) → AppendsFront mid part (entry_text i last)
-      → Keeps part new.bytes ⊎ Cuts n part new.bytes → (history : List JournalEntry) → Legal i t0 (history ++ last ∷ []) → Have i t0 start old history → Have i t0 start new history
-  half old new mid part n why last open shut keeps many adds (inl same) history legal has =
-      now_shut new why history shut (inr (torn i t0 start mid new.bytes history last (as_they_were i start old.bytes mid history (open_minutes old history open has) keeps) (part_kept mid part new.bytes (entry_text i last) adds same) legal))
-  half old new mid part n why last open shut keeps many adds (inr cuts) history legal has =
-      now_shut new why history shut (inl (taken_back i start mid part new.bytes n history (entry_text i last) (as_they_were i start old.bytes mid history (open_minutes old history open has) keeps) adds many cuts))
+  -- it could not be taken back for sure
+  pub half : (mid part new : Option (List ℕ)) (n : ℕ) (last : JournalEntry) → shut ≡ None → Keeps old mid → IfSome mid (λ xs. n ≡ length xs) → AppendsFront mid part (entry_text i last)
+      → Keeps part new ⊎ Cuts n part new → (history : List JournalEntry) → Legal i t0 (history ++ last ∷ []) → Have i t0 start log history → AreMinutesOf i history start new ⊎ AreTornMinutesOf i t0 history start new
+  half mid part new n last none keeps many adds (inl kept) history legal has =
+      inr (torn i t0 start mid new history last (same mid none keeps history has) (part_kept mid part new (entry_text i last) adds kept) legal)
+  half mid part new n last none keeps many adds (inr cuts) history legal has = inl (back mid part new n (entry_text i last) none keeps many adds cuts history has)
+
+-- minutes that take entries, as a value
+pub still : (i : Problem) (t0 : List Placed) (start new : Option (List ℕ)) (shut : Option Unwritten) (history : List JournalEntry) → shut ≡ None → AreMinutesOf i history start new → Have i t0 start (record { bytes = new; shut = shut }) history
+still i t0 start new shut history none minutes = subst (λ s. HaveWhile s i t0 start new history) (sym none) minutes
+
+-- whether they take entries or not, part of one more may follow
+pub perhaps_torn : (i : Problem) (t0 : List Placed) (start bytes : Option (List ℕ)) (shut : Option Unwritten) (history : List JournalEntry)
+    → HaveWhile shut i t0 start bytes history → AreMinutesOf i history start bytes ⊎ AreTornMinutesOf i t0 history start bytes
+perhaps_torn i t0 start bytes None history has = inl has
+perhaps_torn i t0 start bytes (Some why) history has = has
+
+-- the last entry is not accepted
+pub last_not_accepted : (i : Problem) (t0 : List Placed) (start bytes : Option (List ℕ)) (history : List JournalEntry) (last : JournalEntry)
+    → Legal i t0 (history ++ last ∷ []) → AreMinutesOf i (history ++ last ∷ []) start bytes → AreTornMinutesOf i t0 history start bytes
+last_not_accepted i t0 start bytes history last legal minutes =
+    let whole : take (length (entry_text i last)) (entry_text i last) ≡ entry_text i last = take_all (length (entry_text i last)) (entry_text i last) (omega arith) in
+    let all : flat_map (entry_text i) (history ++ last ∷ []) ≡ flat_map (entry_text i) history ++ take (length (entry_text i last)) (entry_text i last) =
+    flat_map-append (entry_text i) history (last ∷ []) ∙ ap (λ bs. flat_map (entry_text i) history ++ bs) (append-nil (entry_text i last) ∙ sym whole) in
+    record { last = last; legal = legal; many = length (entry_text i last); written = subst (Appends start bytes) all minutes }

@@ -1,10 +1,14 @@
 //! The writer of minutes: the accepted drafts, in the order of their commits, in a durable file.
 
-ghost use Rattle.std.specs.Prelude.{◌≡◌, ◌⊎◌, ℕ, [], List, None, true, false, OnErr, OnOk};
+ghost use Rattle.std.specs.Prelude.{◌≡◌, ◌⊎◌, ℕ, [], List, None, true, false, IfOk, OnErr, OnOk, string_bytes};
+ghost use Rattle.std.specs.List.{AllByRecursion as Each};
 ghost use Rattle.std.specs.Io.KnownBytes.{Appends, Keeps};
 ghost use Rattle.ctt_core.specs.Runs.{Legal};
 ghost use Rattle.ctt_core.specs.declared.journal.JournalEntry.{JournalEntry};
+ghost use Rattle.ctt_draft.specs.Drafts.{AskedFits};
+ghost use Rattle.ctt_desk.specs.Histories.{entry_of};
 ghost use Rattle.ctt_files.specs.Output.{AppendsFront};
+ghost use Rattle.ctt_script.specs.WrittenText.{entry_text};
 ghost use Rattle.ctt_log.specs.Minutes.{AreMinutesOf, Cuts, Have, IsPartOf, Stays};
 
 use crate::begun::Begun;
@@ -15,7 +19,7 @@ use ctt_draft::Asked;
 use ctt_files::Failed;
 use ctt_script::write_entry;
 use ctt_text::Instance;
-use std::alloc::Global;
+use std::alloc::{AllocError, Global};
 use std::marker::{Model, PhantomData};
 
 /// The minutes of a desk in a durable file.
@@ -39,6 +43,22 @@ impl<W: Durable, J: Naming + Begun> Model for LogWriter<W, J> {
     ghost view = { λ p. record { bytes = W.bytes p.writer; shut = p.shut } };
 
     ghost invariant = { λ p. p.shut ≡ Some DeviceFailed → W.has_failed p.writer ≡ true };
+}
+
+/// Returns the words of an entry.
+fn entry_of(
+    alloc: Global,
+    instance: &Instance,
+    planner: PlannerNo,
+    asked: &[Asked],
+) -> Result<String, AllocError>
+    requires { Each (AskedFits instance.now) asked.now }
+    ensures { IfOk result (λ text.
+        string_bytes text ≡ entry_text instance.now (entry_of planner asked.now)) }
+{
+    let mut text = String::new(alloc);
+    write_entry(&mut text, instance, planner, asked)?;
+    Ok(text)
 }
 
 /// Writes an entry and makes it durable.
@@ -99,10 +119,12 @@ impl<W: Durable, J: Naming + Begun> LogWriter<W, J> {
 }
 
 impl<W: Durable, J: Naming + Begun> Minutes<J> for LogWriter<W, J> {
-    ghost use Rattle.std.specs.Prelude.{◌≡◌, true};
+    ghost use Rattle.std.specs.Prelude.{◌≡◌, None, true};
     ghost use Rattle.ctt_log.specs.Minutes.{Have, IsInMinutes};
 
     ghost have = { λ log history. Have J.problem J.opening J.start log history };
+
+    ghost takes = { λ log. log.shut ≡ None };
 
     ghost kept = { λ history. IsInMinutes W.bytes W.kept J.problem J.start history };
 
@@ -117,20 +139,22 @@ impl<W: Durable, J: Naming + Begun> Minutes<J> for LogWriter<W, J> {
         if let Some(why) = self.shut {
             return Err(why);
         }
-        let mut entry = String::new(self.alloc);
-        if write_entry(&mut entry, instance, planner, asked).is_err() {
+        let Ok(entry) = entry_of(self.alloc, instance, planner, asked) else {
             return Err(Unwritten::NoMemory);
-        }
+        };
         let Ok(size) = self.writer.size() else {
             return Err(Unwritten::Failed);
         };
-        if write(&mut self.writer, entry.as_bytes()).is_ok() {
-            return Ok(());
+        match write(&mut self.writer, entry.as_bytes()) {
+            Ok(()) => Ok(()),
+            Err(_) => match take_back(&mut self.writer, size) {
+                Ok(()) => Err(Unwritten::Failed),
+                Err(_) => {
+                    self.shut = Some(Unwritten::Failed);
+                    Err(Unwritten::Failed)
+                }
+            },
         }
-        if take_back(&mut self.writer, size).is_err() {
-            self.shut = Some(Unwritten::Failed);
-        }
-        Err(Unwritten::Failed)
     }
 
     fn shut(&mut self) {
