@@ -21,8 +21,9 @@ fn closed_after<S: Timetable, J: Naming, R: Wait>(
 ) -> Closed<S, J>
     ensures { HoldsSeen planners.old result }
 {
-    match desk.close(rt, planners) {
-        (Ok(closed), _none) | (Err(closed), _none) => closed,
+    let (ended, _none) = desk.close(rt, planners);
+    match ended {
+        Ok(closed) | Err(closed) => closed,
     }
 }
 

@@ -1,7 +1,7 @@
 -- Minutes that grow by an entry, or by part of one that is then taken back.
-use Rattle.std.proofs.Common.{◌≡◌, ◌∙◌, ◌⊎◌, inl, inr, ◌++◌, ◌∷◌, [], ℕ, List, OnErr, Option, Some, None, Result, length, take, flat_map, arith, refl, sym, ap, subst, append_assoc}
+use Rattle.std.proofs.Common.{◌≡◌, ◌∙◌, ◌⊎◌, inl, inr, ◌++◌, ◌∷◌, [], ℕ, List, OnErr, Option, Some, None, Result, length, take, flat_map, arith, Bool, true, false, not, refl, sym, ap, subst, append_assoc}
 use Rattle.std.proofs.lemmas.List.{append-nil, take_all}
-use Rattle.std.specs.Prelude.{IfSome}
+use Rattle.std.specs.Prelude.{IfSome, is_some}
 use Rattle.std.proofs.KnownBytes.{Appends-kept, Appends-trans}
 use Rattle.std.proofs.lemmas.List.Concat.{flat_map-append}
 use Rattle.std.specs.Io.KnownBytes.{Appends, Keeps}
@@ -62,7 +62,7 @@ part_kept old mid new more (k, adds) keeps = (k, Appends-kept old mid new (take 
 
 module _ (i : Problem) (t0 : List Placed) (start : Option (List ℕ)) (log : LogValue) (old : Option (List ℕ)) (shut : Option Unwritten) (is : record { bytes = old; shut = shut } ≡ log) where
   -- the bytes of minutes that take entries
-  free : (history : List JournalEntry) → shut ≡ None → Have i t0 start log history → AreMinutesOf i history start old
+  pub free : (history : List JournalEntry) → shut ≡ None → Have i t0 start log history → AreMinutesOf i history start old
   free history none has =
       let had : HaveWhile shut i t0 start old history = subst (λ (l : LogValue). Have i t0 start l history) (sym is) has in
       subst (λ s. HaveWhile s i t0 start old history) none had
@@ -106,3 +106,9 @@ last_not_accepted i t0 start bytes history last legal minutes =
     let all : flat_map (entry_text i) (history ++ last ∷ []) ≡ flat_map (entry_text i) history ++ take (length (entry_text i last)) (entry_text i last) =
     flat_map-append (entry_text i) history (last ∷ []) ∙ ap (λ bs. flat_map (entry_text i) history ++ bs) (append-nil (entry_text i last) ∙ sym whole) in
     record { last = last; legal = legal; many = length (entry_text i last); written = subst (Appends start bytes) all minutes }
+
+-- minutes that take entries have their history and nothing else
+pub whole_of : (i : Problem) (t0 : List Placed) (start bytes : Option (List ℕ)) (shut : Option Unwritten) (takes : Bool) (history : List JournalEntry)
+    → is_some shut ≡ not takes → takes ≡ true → HaveWhile shut i t0 start bytes history → AreMinutesOf i history start bytes
+whole_of i t0 start bytes None takes history is yes has = has
+whole_of i t0 start bytes (Some why) takes history is yes has = (let no : not takes ≡ false = ap not yes in cc)

@@ -58,6 +58,9 @@ returns-in-Ok-clause-ok g c =
     h.fresh.fresh
     (c.with_receipt.ensures.planner ∙ ap₂ (λ x y. planner_of x (y + 1) c.commit-outcome.new.front) (sym number) (sym committed) ∙ ap (planner_of n (k + 1)) (sym f))
 
+pub returns-in-Ok-clause-kept : goal.returns-in-Ok-clause-kept
+returns-in-Ok-clause-kept g c = subst g.M.Minutes.kept (sym (c.with_receipt.ensures.receipt ∙ c.in-Ok.ensures.front)) c.in-Ok.ensures.kept
+
 pub seeing-requires-after_bounds : goal.seeing-requires-after_bounds
 seeing-requires-after_bounds g c κs within =
     let n = c.number-number.result in
