@@ -110,5 +110,5 @@ last_not_accepted i t0 start bytes history last legal minutes =
 -- minutes that take entries have their history and nothing else
 pub whole_of : (i : Problem) (t0 : List Placed) (start bytes : Option (List ℕ)) (shut : Option Unwritten) (takes : Bool) (history : List JournalEntry)
     → is_some shut ≡ not takes → takes ≡ true → HaveWhile shut i t0 start bytes history → AreMinutesOf i history start bytes
-whole_of i t0 start bytes None takes history is yes has = has
-whole_of i t0 start bytes (Some why) takes history is yes has = (let no : not takes ≡ false = ap not yes in cc)
+whole_of i t0 start bytes None takes history is so has = has
+whole_of i t0 start bytes (Some why) takes history is so has = (let other : not takes ≡ false = ap not so in cc)

@@ -1,14 +1,29 @@
 use Rattle.std.proofs.Common.{rules, ◌≡◌, ◌<◌, ◌++◌, ◌∷◌, [], length, arith, ◌+◌, slice_set, sym, ap, ◌∙◌, subst, List}
-use Rattle.ctt_draft.specs.Drafts.{calls_of, changes}
-use Rattle.ctt_draft.specs.DraftValues.{DraftValue, Settles}
+use Rattle.ctt_draft.specs.Drafts.{calls_of, changes, replies, replies_in}
+use Rattle.ctt_draft.specs.DraftValues.{DraftValue, IsTold, Settles}
 use Rattle.ctt_draft.specs.declared.asked.Asked.{Asked}
 use Rattle.ctt_core.specs.Runs.{after, Legal}
 use Rattle.ctt_core.specs.declared.journal.JournalEntry.{JournalEntry}
 use Rattle.ctt_desk.specs.Histories.{entry_of, CountsDrafts, IsLocked, Standing, own}
 use Rattle.ctt_desk.specs.Published.{Leads, UpdateValue}
-use Rattle.ctt_desk.proofs.CommitLemmas.{and_some, leads_more, stands_more}
+use Rattle.ctt_desk.proofs.CommitLemmas.{and_some, leads_more, stands_more, told_now}
 use Rattle.ctt_desk.proofs.CountLemmas.{fewer, count_read, counted_more}
 use Rattle.ctt_desk.proofs.locked.Locked.accept.Goals as goal
+
+pub enter-requires : goal.enter-requires
+enter-requires g c κs =
+    let i = g.J.Naming.problem in
+    let t0 = g.J.Naming.opening in
+    let d = c.deref-2.result.now in
+    let v = c.args.draft.value in
+    let h : List JournalEntry = c.self.inside.front in
+    let is : h ≡ c.args.self.now = c.self.invariant.2 ∙ c.self.view_is in
+    let settles : Settles v (after i t0 h) = subst (λ (j : List JournalEntry). Settles v (after i t0 j)) (sym is) c.requires.settles in
+    let known : IsTold v.problem v.base v.asked = subst (λ (x : DraftValue). IsTold x.problem x.base x.asked) c.deref.ensures c.lawful.ensures.told in
+    let problem : d.problem ≡ i = ap (λ (x : DraftValue). x.problem) c.deref-2.ensures ∙ c.requires.problem in
+    let told : replies_in d.asked ≡ replies i (after i t0 h) (calls_of d.asked) = subst (λ (x : DraftValue). replies_in x.asked ≡ replies i (after i t0 h) (calls_of x.asked)) (sym c.deref-2.ensures) (told_now i (after i t0 h) v c.requires.problem settles known) in
+    let minutes : g.M.Minutes.have c.args.minutes.now h = subst (g.M.Minutes.have c.args.minutes.now) (sym is) c.requires.minutes in
+    search rules
 
 pub prove-unreachable-requires : goal.prove-unreachable-requires
 prove-unreachable-requires g c =
