@@ -1,5 +1,5 @@
 -- The commands: what each makes of its files, and what it answers to these contents. A case each.
-use Rattle.std.specs.Prelude.{◌≡◌, ◌≢◌, ◌≤◌, ◌<◌, ◌⊎◌, ◌∷◌, [], List, Option, Some, None, false, true, MatchResult, IfOk, IfSome, length, map, string_bytes}
+use Rattle.std.specs.Prelude.{◌≡◌, ◌≢◌, ◌≤◌, ◌<◌, ◌⊎◌, ◌++◌, ◌∷◌, ℕ, [], List, Option, Some, None, false, true, MatchResult, IfOk, IfSome, length, map, string_bytes}
 use Rattle.std.specs.Global.{Global}
 use Rattle.std.specs.List.{AllByRecursion as Each}
 use Rattle.std.specs.declared.string.String.{String}
@@ -18,14 +18,17 @@ use Rattle.ctt_files.specs.Texts.{Held, HoldInTurn, Holds, IsInstanceIn, IsSolut
 use Rattle.ctt_files.specs.declared.fault.Fault.{Fault}
 use Rattle.ctt_files.specs.declared.fault.Fault.TheVariants.{Machine, Usage}
 use Rattle.ctt_files.specs.declared.fault.MachineFault.TheVariants.{NoMemory}
-use Rattle.ctt_files.specs.declared.fault.UsageFault.TheVariants.{TooManyScripts}
+use Rattle.ctt_files.specs.declared.fault.UsageFault.TheVariants.{TooManyScripts, Words}
 use Rattle.ctt_files.specs.declared.outcome.Outcome.TheVariants.{Done}
 use Rattle.ctt_files.specs.declared.output.Output.{Output}
 use Rattle.ctt_files.specs.declared.sides.Sides.{Sides}
+use Rattle.ctt_search.specs.Scores.{score}
+use Rattle.ctt_words.specs.declared.job.Purpose.{Purpose}
+use Rattle.ctt_words.specs.declared.job.SearchWords.{SearchWords}
 use Rattle.ctt_words.specs.declared.job.ReplayFiles.{ReplayFiles}
 use Rattle.ctt_words.specs.declared.job.SubjectFiles.{SubjectFiles}
 use Rattle.ctt_words.specs.declared.job.Command.{Command}
-use Rattle.ctt_words.specs.declared.job.Command.TheVariants.{Audit, Check, Compare, Crew, Journal, List as Listing, Mend, Page, Pairs, Week, Where}
+use Rattle.ctt_words.specs.declared.job.Command.TheVariants.{Audit, Check, Compare, Crew, Journal, List as Listing, Mend, Page, Pairs, Search, Week, Where}
 use Rattle.ctt_commands.specs.Compare.{Compares}
 use Rattle.ctt_commands.specs.Forms.{table_form}
 use Rattle.ctt_commands.specs.Groups.{AreGroups, GroupFits, IsCompared}
@@ -33,8 +36,9 @@ use Rattle.ctt_commands.specs.Mended.{aside_text, mended, set_aside}
 use Rattle.ctt_commands.specs.Pairs.{IsNoPairs}
 use Rattle.ctt_commands.specs.Places.{IsNoNumber, IsUnfound, ShowsPlace, place_number}
 use Rattle.ctt_commands.specs.Recoveries.{IsRecoveredAs, torn_text}
-use Rattle.ctt_commands.specs.Refusals.{IsNoOpening, IsOfMinutes, IsOfReplay, IsOfSelected, IsOfWork}
+use Rattle.ctt_commands.specs.Refusals.{IsNoOpening, IsOfMinutes, IsOfPinned, IsOfReplay, IsOfSelected, IsOfWork}
 use Rattle.ctt_commands.specs.Reports.{IsJudged, IsReport}
+use Rattle.ctt_commands.specs.Searches.{IsProposed, told_text, unmet}
 use Rattle.ctt_commands.specs.Selections.{IsSelection, names_of, options_of}
 use Rattle.ctt_commands.specs.Texts.{IsJournalText}
 use Rattle.ctt_commands.specs.Verdicts.{ShowsAudit, ShowsLeft}
@@ -76,6 +80,8 @@ IsLoaded (Listing names) held (task.List replay) = IsReplay held names replay
 IsLoaded (Mend names) held (task.Mend subject) = IsSubject held names subject
 IsLoaded (Where file number byte) held (task.Where name text at asked) = (string_bytes name ≡ string_bytes file)
     × Holds held file (λ bytes. text.items ≡ bytes) × (place_number byte (string_bytes number) ≡ Some at) × (asked ≡ byte)
+IsLoaded (Search purpose names pins words) held (task.Search wanted subject pinned asked) = (wanted ≡ purpose) × IsSubject held names subject
+    × IsStart subject.instance held pins pinned.items × (asked ≡ words)
 IsLoaded command held other = ⊥
 
 -- why a command is refused for its files, in the order in which they are read: the instance, its
@@ -94,12 +100,25 @@ IsUnloaded (Listing names) held fault = IsOfInstanceOr (IsOfReplay names.journal
 IsUnloaded (Mend names) held fault = IsOfInstanceOr (IsOfSolution names.solution) held names.instance names.sides fault
 IsUnloaded (Where file number byte) held fault = (IsNoNumber byte (string_bytes number) (string_bytes file) fault × (place_number byte (string_bytes number) ≡ None))
     ⊎ IsOfFile held file fault
+IsUnloaded (Search purpose names pins words) held fault = IsOfInstanceOr (IsOfPinned names.solution pins) held names.instance names.sides fault
 
 -- ---- what it answers to them
 
 -- the command is done, and has nothing for standard error
 abbrev pub IsDoneAlone : Output → Type 0
 IsDoneAlone output = (output.outcome ≡ Done) × (string_bytes output.diagnostics ≡ [])
+
+-- a timetable is proposed in place of the mended solution; the lectures that are set aside are
+-- reported, and what the proposal is worth
+pub record ShowsProposal (purpose : Purpose) (i : Problem) (solution pins : List Placed) (words : SearchWords) (output : Output) : Type 0 where
+  pub proposed : List Placed
+  pub steps : ℕ
+  pub met : unmet purpose i (mended i solution) pins words ≡ None
+  pub is : IsProposed purpose i (mended i solution) pins words proposed steps
+  pub text : output.text.items ≡ soltext i proposed
+  pub told : string_bytes output.diagnostics ≡ aside_text i (set_aside i solution)
+      ++ told_text words.json (score i (mended i solution) (mended i solution)) (score i (mended i solution) proposed) steps
+  pub done : output.outcome ≡ Done
 
 -- what the task leaves for standard output and for standard error, and its outcome
 abbrev pub Answers : Task → Output → Type 0
@@ -116,14 +135,20 @@ Answers (task.List replay) output = ShowsLeft replay.instance replay.start.items
 Answers (task.Mend subject) output = (output.text.items ≡ soltext subject.instance (mended subject.instance subject.timetable.items))
     × (string_bytes output.diagnostics ≡ aside_text subject.instance (set_aside subject.instance subject.timetable.items)) × (output.outcome ≡ Done)
 Answers (task.Where file text number byte) output = ShowsPlace (string_bytes file) number byte output.text.items text.items × IsDoneAlone output
+Answers (task.Search purpose subject pins words) output = ShowsProposal purpose subject.instance subject.timetable.items pins.items words output
+
+-- the wish cannot be met on the mended solution, and the fault says why
+abbrev pub IsUnmet : Purpose → Problem → List Placed → List Placed → SearchWords → Fault → Type 0
+IsUnmet purpose i solution pins words fault = (said : String Global) × (fault ≡ Usage (Words said)) × (unmet purpose i (mended i solution) pins words ≡ Some (string_bytes said))
 
 -- why the task is not answered: a desk does not open with the start, a planner had no place or no
--- thread, or the text has no such word; memory may always run out
+-- thread, the text has no such word, or a wish cannot be met; memory may always run out
 abbrev pub IsUnanswered : Task → Fault → Type 0
 IsUnanswered (task.Audit replay) fault = IsNoOpening replay.instance replay.start.items fault ⊎ (fault ≡ Machine NoMemory)
 IsUnanswered (task.Crew problem scripts) fault = IsOfWork fault
 IsUnanswered (task.List replay) fault = IsNoOpening replay.instance replay.start.items fault ⊎ (fault ≡ Machine NoMemory)
 IsUnanswered (task.Where file text number byte) fault = IsUnfound (string_bytes file) text.items number byte fault
+IsUnanswered (task.Search purpose subject pins words) fault = IsUnmet purpose subject.instance subject.timetable.items pins.items words fault ⊎ (fault ≡ Machine NoMemory)
 IsUnanswered other fault = fault ≡ Machine NoMemory
 
 -- ---- what `load` gives to `act` whatever bytes are known
@@ -144,3 +169,4 @@ TaskFits (task.Journal problem blocks) = IsWritable problem blocks.entries.items
 TaskFits (task.List replay) = ReplayFits replay
 TaskFits (task.Mend subject) = IsTimetable subject.instance subject.timetable.items
 TaskFits (task.Where file text number byte) = Unit {0}
+TaskFits (task.Search purpose subject pins words) = IsTimetable subject.instance subject.timetable.items × Each (Fits subject.instance) pins.items

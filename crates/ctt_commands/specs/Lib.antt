@@ -5,6 +5,7 @@ pub mod Lists
 pub mod Columns
 pub mod FaultTexts
 pub mod Rows
+pub mod Searches
 pub mod RowOrder
 pub mod Tables
 pub mod Compare

@@ -11,7 +11,7 @@ use Rattle.ctt_core.specs.declared.journal.JournalEntry.{JournalEntry}
 use Rattle.ctt_script.specs.JournalText.{IsJournalCauseOf}
 use Rattle.ctt_log.specs.Recovery.{IsMinutesFault}
 use Rattle.ctt_files.specs.Refusals.{IsNoText, IsOfInstanceOr, IsOfSolution, IsOfStart, IsOfText, IsTooLong}
-use Rattle.ctt_files.specs.Texts.{Held, Holds, IsStart}
+use Rattle.ctt_files.specs.Texts.{Held, Holds, IsSolutionText, IsStart}
 use Rattle.ctt_files.specs.declared.fault.Fault.{Fault}
 use Rattle.ctt_files.specs.declared.fault.Fault.TheVariants.{Machine}
 use Rattle.ctt_files.specs.declared.fault.MachineFault.TheVariants.{CannotRead, NoMemory, NoPlace, NoThread, TooLong}
@@ -27,6 +27,11 @@ use Rattle.ctt_commands.specs.Texts.{IsJournalText, IsNoJournal}
 abbrev pub IsOfSelected : Option Whose → String Global → Held → Problem → Fault → Type 0
 IsOfSelected whose solution held problem fault = IsNoName problem whose fault
     ⊎ ((selection : Option Selection) × IsSelection problem whose selection × IsOfSolution solution held problem fault)
+
+-- a fault of the solution's file, or, if that holds a solution, of the file of the pinned lectures
+abbrev pub IsOfPinned : String Global → Option (String Global) → Held → Problem → Fault → Type 0
+IsOfPinned solution pins held problem fault = IsOfSolution solution held problem fault
+    ⊎ ((lectures : List Placed) × Holds held solution (λ text. IsSolutionText problem text lectures) × IsOfStart pins held problem fault)
 
 -- a fault of a journal's text in the file of this name
 abbrev pub IsNoJournalOf : String Global → Problem → List ℕ → Fault → Type 0

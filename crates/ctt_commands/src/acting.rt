@@ -8,6 +8,7 @@ use crate::checking::check;
 use crate::comparing::compare;
 use crate::crews::crew;
 use crate::recovering::journal;
+use crate::searching::search;
 use crate::showing::{mend, page, week};
 use crate::task::Task;
 use crate::word_place::find;
@@ -52,5 +53,11 @@ pub fn act<R: Threads + Wait + Sync>(rt: &R, alloc: Global, task: &Task) -> Resu
             number,
             byte,
         } => find(alloc, file, text, *number, *byte),
+        Task::Search {
+            purpose,
+            subject,
+            pins,
+            words,
+        } => search(alloc, *purpose, subject, pins, words),
     }
 }

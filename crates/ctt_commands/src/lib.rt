@@ -29,6 +29,8 @@ mod replays;
 mod row;
 mod rows;
 mod running;
+mod search_texts;
+mod searching;
 mod showing;
 mod subjects;
 mod task;

@@ -8,13 +8,15 @@ ghost use Rattle.ctt_commands.specs.Commands.{IsLoaded, IsUnloaded, TaskFits};
 
 use crate::candidates::{fetch_compared, fetch_pairs};
 use crate::replays::{fetch_minutes, fetch_replay};
-use crate::subjects::{fetch_selected, fetch_subject};
+use crate::subjects::{fetch_pinned, fetch_selected, fetch_subject};
 use crate::task::Task;
 use crate::word_place::{no_number, place_number};
 use ctt_files::{Fault, Files, Sides, UsageFault, fetch_instance, read_file, read_files};
 use ctt_problem::drop_whole;
 use ctt_script::PLANNERS;
-use ctt_words::{CheckOptions, Command, CompareOptions, PageWords, SubjectFiles, Whose};
+use ctt_words::{
+    CheckOptions, Command, CompareOptions, PageWords, Purpose, SearchWords, SubjectFiles, Whose,
+};
 use std::alloc::Global;
 
 /// Reads what `check` needs.
@@ -194,6 +196,31 @@ fn load_journal<F: Files>(
     Ok(Task::Journal { instance, minutes })
 }
 
+/// Reads what a search needs.
+fn load_search<F: Files>(
+    alloc: Global,
+    files: &mut F,
+    purpose: Purpose,
+    names: SubjectFiles,
+    pins: Option<String>,
+    words: SearchWords,
+) -> Result<Task, Fault>
+    ensures loaded { IfOk result
+        (IsLoaded (command.Search purpose names pins words) (F.held files.old)) }
+    ensures fits { IfOk result TaskFits }
+    ensures kept { F.held files.new ≡ F.held files.old }
+    ensures cause { IfErr result
+        (IsUnloaded (command.Search purpose names pins words) (F.held files.old)) }
+{
+    let (subject, pins) = fetch_pinned(alloc, files, names, pins)?;
+    Ok(Task::Search {
+        purpose,
+        subject,
+        pins,
+        words,
+    })
+}
+
 /// Returns a command with the contents of its files.
 ///
 /// The instance is read first, then its side files, then what is named in it is found, and then the
@@ -231,5 +258,11 @@ pub fn load<F: Files>(alloc: Global, files: &mut F, command: Command) -> Result<
         Command::List(names) => Ok(Task::List(fetch_replay(alloc, files, names)?)),
         Command::Mend(names) => Ok(Task::Mend(fetch_subject(alloc, files, names)?)),
         Command::Where { file, number, byte } => load_where(alloc, files, file, number, byte),
+        Command::Search {
+            purpose,
+            files: names,
+            pins,
+            words,
+        } => load_search(alloc, files, purpose, names, pins, words),
     }
 }

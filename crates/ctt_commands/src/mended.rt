@@ -69,7 +69,7 @@ fn note(
 
 /// Places the lectures one after another on an empty sheet. Returns those that can be placed, and
 /// the lines of those that cannot.
-fn sift<'i, S: Sheet<'i>>(
+pub(crate) fn sift<'i, S: Sheet<'i>>(
     alloc: Global,
     instance: &'i Instance,
     lectures: &[Placed],

@@ -1,16 +1,17 @@
 //! Reading an instance and a solution of it, and finding what is named in it.
 
 ghost use Rattle.std.specs.Prelude.{◌≡◌, IfOk, IfErr, IfSome, string_bytes};
-ghost use Rattle.ctt_problem.specs.Timetable.{IsTimetable};
+ghost use Rattle.std.specs.List.{AllByRecursion as Each};
+ghost use Rattle.ctt_problem.specs.Timetable.{Fits, IsTimetable};
 ghost use Rattle.ctt_files.specs.Refusals.{IsOfInstanceOr, IsOfSolution};
-ghost use Rattle.ctt_files.specs.Texts.{IsSolutionText};
+ghost use Rattle.ctt_files.specs.Texts.{IsSolutionText, IsStart};
 ghost use Rattle.ctt_views.specs.Week.{SelectionFits};
 ghost use Rattle.ctt_commands.specs.Commands.{IsSubject};
-ghost use Rattle.ctt_commands.specs.Refusals.{IsOfSelected};
+ghost use Rattle.ctt_commands.specs.Refusals.{IsOfPinned, IsOfSelected};
 ghost use Rattle.ctt_commands.specs.Selections.{IsNoName, IsSelection};
 
 use crate::task::Subject;
-use ctt_files::{ContentsFault, Fault, Files, fetch_instance, fetch_solution};
+use ctt_files::{ContentsFault, Fault, Files, fetch_instance, fetch_solution, fetch_start};
 use ctt_problem::{Instance, Placed, drop_whole};
 use ctt_views::Selection;
 use ctt_words::{SubjectFiles, Whose};
@@ -127,6 +128,65 @@ pub(crate) fn fetch_selected<F: Files>(
                 timetable,
             };
             Ok((subject, selection))
+        }
+        Err(fault) => {
+            drop_whole(instance);
+            Err(fault)
+        }
+    }
+}
+
+/// Reads a solution, and then the lectures that are pinned, if a file is given for them.
+fn fetch_both<F: Files>(
+    alloc: Global,
+    files: &mut F,
+    instance: &Instance,
+    solution: String,
+    pins: Option<String>,
+) -> Result<(Vec<Placed>, Vec<Placed>), Fault>
+    ensures solution { IfOk result (λ r.
+        IfSome (F.held files.old (string_bytes solution)) (λ text.
+        IsSolutionText instance.now text r.0.items)) }
+    ensures timetable { IfOk result (λ r. IsTimetable instance.now r.0.items) }
+    ensures pins { IfOk result (λ r. IsStart instance.now (F.held files.old) pins r.1.items) }
+    ensures fit { IfOk result (λ r. Each (Fits instance.now) r.1.items) }
+    ensures kept { F.held files.new ≡ F.held files.old }
+    ensures cause { IfErr result (IsOfPinned solution pins (F.held files.old) instance.now) }
+{
+    let timetable = fetch_solution(alloc, files, instance, solution)?;
+    let pinned = fetch_start(alloc, files, instance, pins)?;
+    Ok((timetable, pinned))
+}
+
+/// Reads the instance, the solution and the pinned lectures, in this order.
+pub(crate) fn fetch_pinned<F: Files>(
+    alloc: Global,
+    files: &mut F,
+    names: SubjectFiles,
+    pins: Option<String>,
+) -> Result<(Subject, Vec<Placed>), Fault>
+    ensures subject { IfOk result (λ r. IsSubject (F.held files.old) names r.0) }
+    ensures pins { IfOk result (λ r. IsStart r.0.instance (F.held files.old) pins r.1.items) }
+    ensures timetable { IfOk result (λ r. IsTimetable r.0.instance r.0.timetable.items) }
+    ensures fit { IfOk result (λ r. Each (Fits r.0.instance) r.1.items) }
+    ensures kept { F.held files.new ≡ F.held files.old }
+    ensures cause { IfErr result
+        (IsOfInstanceOr (IsOfPinned names.solution pins) (F.held files.old)
+        names.instance names.sides) }
+{
+    let SubjectFiles {
+        instance,
+        sides,
+        solution,
+    } = names;
+    let instance = fetch_instance(alloc, files, instance, sides)?;
+    match fetch_both(alloc, files, &instance, solution, pins) {
+        Ok((timetable, pinned)) => {
+            let subject = Subject {
+                instance,
+                timetable,
+            };
+            Ok((subject, pinned))
         }
         Err(fault) => {
             drop_whole(instance);

@@ -5,7 +5,7 @@ use ctt_core::JournalEntry;
 use ctt_log::Blocks;
 use ctt_problem::{Instance, Placed};
 use ctt_views::Selection;
-use ctt_words::{CheckOptions, CompareOptions, PageWords};
+use ctt_words::{CheckOptions, CompareOptions, PageWords, Purpose, SearchWords};
 
 /// An instance, and the timetable of a solution of it.
 #[derive(Drop)]
@@ -72,5 +72,12 @@ pub enum Task {
         text: Vec<u8>,
         number: u32,
         byte: bool,
+    },
+    /// To propose a timetable in place of a solution, in which the pinned lectures stay.
+    Search {
+        purpose: Purpose,
+        subject: Subject,
+        pins: Vec<Placed>,
+        words: SearchWords,
     },
 }

@@ -14,7 +14,7 @@ use Rattle.ctt_words.specs.Jobs.{HasInputs, HasScripts, IsAskedBy, IsAskedIn, Is
 use Rattle.ctt_words.specs.Matched.{HasAll, count_given}
 use Rattle.ctt_words.specs.declared.job.Asked.{Asked}
 use Rattle.ctt_words.specs.declared.job.Command.{Command}
-use Rattle.ctt_words.specs.declared.job.Command.TheVariants.{Audit, Check, Compare, Crew, Journal, List as Listing, Mend, Page, Pairs, Week, Where}
+use Rattle.ctt_words.specs.declared.job.Command.TheVariants.{Audit, Check, Compare, Crew, Journal, List as Listing, Mend, Page, Pairs, Search, Week, Where}
 use Rattle.ctt_words.specs.declared.job.Job.{Job}
 use Rattle.ctt_words.specs.declared.job.Job.TheVariants.{Answer, Desk, Run}
 use Rattle.ctt_words.specs.declared.outline.Name.{Name}
@@ -75,6 +75,7 @@ job_has_scripts words asked is = in_matched (subcommand_of timedesk words) asked
     of_command name rows (Listing files) is = tt
     of_command name rows (Mend files) is = tt
     of_command name rows (Where file number byte) is = tt
+    of_command name rows (Search purpose files pins words) is = tt
 
     by_name : (name : Name) (rows : List Row) (job : Job) → IsJobBy name rows job → HasScripts job
     by_name name rows (Answer command) is = of_command name rows command is

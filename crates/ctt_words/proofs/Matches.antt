@@ -10,18 +10,18 @@ use Rattle.clap.proofs.OnLiterals.{clap_on_literals}
 use Rattle.ctt_words.specs.Jobs.{IsAskedBy, IsAskedIn, IsFaultOf, IsHelp, IsNoJobIn, IsOfKind, IsRefusedBy, IsRefusedIn, IsRefusedOf, IsRequest, Says, faults_of}
 use Rattle.ctt_words.specs.Needs.{refusal_of}
 use Rattle.ctt_words.specs.declared.job.Asked.{Asked}
-use Rattle.ctt_words.specs.CommandLine.{audit, check, compare, crew, desk, find, journal, list, mend, page, run, timedesk, week}
+use Rattle.ctt_words.specs.CommandLine.{audit, check, compare, crew, desk, find, improve, journal, list, mend, page, place, repair, run, timedesk, week}
 use Rattle.ctt_words.specs.Outlines.{named}
 use Rattle.ctt_words.specs.declared.job.WordsFault.{WordsFault}
 use Rattle.ctt_words.specs.declared.job.WordsFault.TheVariants.{Help, NoMemory, Refused}
 use Rattle.ctt_words.specs.declared.outline.Name.{Name}
 
 pub timedesk_simple : is_simple timedesk ≡ true
-unfolding clap_on_literals timedesk check compare week page run audit crew desk journal list mend find
+unfolding clap_on_literals timedesk check compare week page run audit crew desk journal list mend find improve place repair
 timedesk_simple = refl
 
 pub timedesk_free : is_simple_and_free timedesk ≡ true
-unfolding clap_on_literals timedesk check compare week page run audit crew desk journal list mend find
+unfolding clap_on_literals timedesk check compare week page run audit crew desk journal list mend find improve place repair
 timedesk_free = refl
 
 no_help : (kind : ErrorKind) → IsHelp kind → kind ≡ OutOfMemory → ⊥

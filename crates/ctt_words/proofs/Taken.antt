@@ -15,7 +15,7 @@ use Rattle.clap.proofs.SimpleLemmas.{is_nil}
 use Rattle.ctt_words.specs.Flags.{IsOnOrOff}
 use Rattle.ctt_words.specs.Jobs.{IsMatched}
 use Rattle.ctt_words.specs.Matched.{HasFlags, HasWanted, IsWhole, wanted_by}
-use Rattle.ctt_words.specs.CommandLine.{audit, check, compare, crew, desk, find, journal, list, mend, page, run, timedesk, week}
+use Rattle.ctt_words.specs.CommandLine.{audit, check, compare, crew, desk, find, improve, journal, list, mend, page, place, repair, run, timedesk, week}
 use Rattle.ctt_words.specs.Outlines.{named}
 use Rattle.ctt_words.specs.declared.outline.Name.{Name}
 use Rattle.ctt_words.proofs.Rows.{all_in, is_giving}
@@ -119,15 +119,15 @@ help_label s is =
 -- ---- the program
 
 command_required : (built timedesk).top.subcommand_required ≡ true
-unfolding clap_on_literals timedesk check compare week page run audit crew desk journal list mend find
+unfolding clap_on_literals timedesk check compare week page run audit crew desk journal list mend find improve place repair
 command_required = refl
 
 help_is_no_command : (built timedesk).top.disable_help_subcommand ≡ false
-unfolding clap_on_literals timedesk check compare week page run audit crew desk journal list mend find
+unfolding clap_on_literals timedesk check compare week page run audit crew desk journal list mend find improve place repair
 help_is_no_command = refl
 
 all_have : list_all (λ s. has_all s || is_help s) (built timedesk).subs ≡ true
-unfolding clap_on_literals timedesk check compare week page run audit crew desk journal list mend find
+unfolding clap_on_literals timedesk check compare week page run audit crew desk journal list mend find improve place repair
 all_have = refl
 
 -- words in which `clap` finds no fault match a command with all that it needs

@@ -127,6 +127,23 @@ unfoldable pub find : App
 find = command_of (codes "where") (required_word (codes "instance")
     ∷ required_word (codes "number") ∷ flag (codes "byte") ∷ [])
 
+-- `NAME INSTANCE SOLUTION [--barred FILE] [--blocked FILE] [--steps NUMBER] [--seed NUMBER]
+-- [--changes NUMBER] [--stay POINTS] [--pins FILE] [--json] [--point]`
+abbrev pub search : List ℕ → App
+search name = command_of name (required_word (codes "instance")
+    ∷ required_word (codes "solution") ∷ valued (codes "barred") ∷ valued (codes "blocked")
+    ∷ valued (codes "steps") ∷ valued (codes "seed") ∷ valued (codes "changes")
+    ∷ valued (codes "stay") ∷ valued (codes "pins") ∷ flag (codes "json") ∷ flag (codes "point") ∷ [])
+
+unfoldable pub improve : App
+improve = search (codes "improve")
+
+unfoldable pub place : App
+place = search (codes "place")
+
+unfoldable pub repair : App
+repair = search (codes "repair")
+
 -- the program without its commands: it has a version, and requires a command
 abbrev pub bare : App
 bare = on_top (λ s. record s { has_version = true; subcommand_required = true }) (new_app (codes "timedesk"))
@@ -136,16 +153,19 @@ abbrev pub with_commands : App → List App → App
 with_commands app [] = app
 with_commands app (one ∷ more) = with_commands (with_subcommand app one.top) more
 
--- the commands on solutions, and then the others, in the order of the help
+-- the commands on solutions, those on desks, and those that search, in the order of the help
 abbrev pub solution_apps : List App
 solution_apps = check ∷ compare ∷ week ∷ page ∷ []
 
 abbrev pub desk_apps : List App
 desk_apps = run ∷ audit ∷ crew ∷ desk ∷ journal ∷ list ∷ mend ∷ find ∷ []
 
+abbrev pub search_apps : List App
+search_apps = improve ∷ place ∷ repair ∷ []
+
 -- the program with its commands
 unfoldable pub timedesk : App
-timedesk = with_commands (with_commands bare solution_apps) desk_apps
+timedesk = with_commands (with_commands (with_commands bare solution_apps) desk_apps) search_apps
 
 -- none of the arguments is global
 abbrev pub IsLocal : Command → Type 0

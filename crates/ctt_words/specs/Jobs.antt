@@ -1,5 +1,5 @@
 -- Which job the words of a command line ask for, and which fault they have if they ask for none.
-use Rattle.std.specs.Prelude.{◌≡◌, ◌≢◌, ◌≤◌, ◌⊎◌, List, [], Option, Some, None, IsSomeAnd, codes, length, option_and_then}
+use Rattle.std.specs.Prelude.{◌≡◌, ◌≢◌, ◌≤◌, ◌⊎◌, List, [], Option, Some, None, IsSomeAnd, codes, length, option_and_then, unwrap_or}
 use Rattle.std.specs.Global.{Global}
 use Rattle.std.specs.String.{string_bytes}
 use Rattle.std.specs.declared.string.String.{String}
@@ -9,17 +9,20 @@ use Rattle.clap.specs.declared.error.kind.ErrorKind.TheVariants.{DisplayHelp, Di
 use Rattle.ctt_files.specs.declared.sides.Sides.{Sides}
 use Rattle.ctt_words.specs.CommandLine.{timedesk}
 use Rattle.ctt_words.specs.Matched.{Has, HasAll, IsSet, IsWhole, MayHave, choices, choices_of}
-use Rattle.ctt_words.specs.Needs.{grids_of, refusal_of}
+use Rattle.ctt_words.specs.Needs.{grids_of, number_in, refusal_of}
 use Rattle.ctt_words.specs.Outlines.{named}
 use Rattle.ctt_words.specs.declared.job.Asked.{Asked}
 use Rattle.ctt_words.specs.declared.job.CheckOptions.{CheckOptions}
 use Rattle.ctt_words.specs.declared.job.Command.{Command}
-use Rattle.ctt_words.specs.declared.job.Command.TheVariants.{Audit, Check, Compare, Crew, Journal, List as Listing, Mend, Page, Pairs, Week, Where}
+use Rattle.ctt_words.specs.declared.job.Command.TheVariants.{Audit, Check, Compare, Crew, Journal, List as Listing, Mend, Page, Pairs, Search, Week, Where}
 use Rattle.ctt_words.specs.declared.job.CompareOptions.{CompareOptions}
 use Rattle.ctt_words.specs.declared.job.Job.{Job}
 use Rattle.ctt_words.specs.declared.job.Job.TheVariants.{Answer, Desk, Run}
 use Rattle.ctt_words.specs.declared.job.PageWords.{PageWords}
+use Rattle.ctt_words.specs.declared.job.Purpose.{Purpose}
+use Rattle.ctt_words.specs.declared.job.Purpose.TheVariants.{Improve, Place, Repair}
 use Rattle.ctt_words.specs.declared.job.ReplayFiles.{ReplayFiles}
+use Rattle.ctt_words.specs.declared.job.SearchWords.{SearchWords}
 use Rattle.ctt_words.specs.declared.job.SubjectFiles.{SubjectFiles}
 use Rattle.ctt_words.specs.declared.job.WordsFault.{WordsFault}
 use Rattle.ctt_words.specs.declared.job.WordsFault.TheVariants.{Help, NoMemory, Refused}
@@ -77,6 +80,20 @@ pub record AsksPage (rows : List Row) (words : PageWords) : Type 0 where
   pub plain : IsSet rows (codes "plain") words.plain
   pub grids : words.grids ≡ option_and_then grids_of (first_of (codes "grids") rows)
 
+-- this is asked of a search
+pub record AsksSearch (rows : List Row) (words : SearchWords) : Type 0 where
+  pub json : IsSet rows (codes "json") words.json
+  pub steps : words.steps ≡ unwrap_or (number_in (first_of (codes "steps") rows)) 1000000
+  pub seed : words.seed ≡ unwrap_or (number_in (first_of (codes "seed") rows)) 1
+  pub stay : words.stay ≡ unwrap_or (number_in (first_of (codes "stay") rows)) 0
+  pub changes : words.changes ≡ number_in (first_of (codes "changes") rows)
+
+-- the command that searches for this
+abbrev pub name_for : Purpose → Name
+name_for Improve = by.Improve
+name_for Place = by.Place
+name_for Repair = by.Repair
+
 -- the command is the one of this name, with these matches
 abbrev pub IsCommandBy : Name → List Row → Command → Type 0
 IsCommandBy name rows (Check files options) = (name ≡ by.Check) × HasSubject rows files × AsksCheck rows options
@@ -92,6 +109,8 @@ IsCommandBy name rows (Listing files) = (name ≡ by.List) × HasReplay rows fil
 IsCommandBy name rows (Mend files) = (name ≡ by.Mend) × HasSubject rows files
 IsCommandBy name rows (Where file number byte) = (name ≡ by.Where) × Has rows (codes "instance") file × Has rows (codes "number") number
     × IsSet rows (codes "byte") byte
+IsCommandBy name rows (Search purpose files pins words) = (name ≡ name_for purpose) × HasSubject rows files
+    × MayHave rows (codes "pins") pins × AsksSearch rows words
 
 -- the job is that of the command of this name, with these matches
 abbrev pub IsJobBy : Name → List Row → Job → Type 0

@@ -62,6 +62,9 @@ wanted_by by.Journal = Some (codes "minutes")
 wanted_by by.List = Some (codes "journal")
 wanted_by by.Mend = Some (codes "solution")
 wanted_by by.Where = Some (codes "number")
+wanted_by by.Improve = Some (codes "solution")
+wanted_by by.Place = Some (codes "solution")
+wanted_by by.Repair = Some (codes "solution")
 
 -- the matches contain the instance and this argument
 pub record HasFiles (id : Text) (rows : List Row) : Type 0 where

@@ -1,8 +1,9 @@
 -- Why a command does not do what words ask for that `clap` accepts, and the message that says it.
-use Rattle.std.specs.Prelude.{◌++◌, ◌&&◌, ◌||◌, Bool, true, false, List, [], ◌∷◌, Option, Some, None, codes, flat_map, if◌then◌else◌, is_some, nat_lt, unwrap_or}
+use Rattle.std.specs.Prelude.{ℕ, ◌++◌, ◌&&◌, ◌||◌, Bool, option_and_then, true, false, List, [], ◌∷◌, Option, Some, None, codes, flat_map, if◌then◌else◌, is_some, nat_lt, unwrap_or}
 use Rattle.std.specs.List.{list_any}
 use Rattle.std.specs.Str.{bytes_eq}
 use Rattle.clap.specs.Words.{Row, Text, all_of, first_of}
+use Rattle.ctt_text.specs.Numbers.{number_of}
 use Rattle.ctt_words.specs.Matched.{choices, count_given}
 use Rattle.ctt_words.specs.declared.job.Grids.{Grids}
 use Rattle.ctt_words.specs.declared.job.Grids.TheVariants.{Courses, Curricula, Rooms, Teachers}
@@ -46,12 +47,33 @@ compared_said true instance solution sides = if instance || (solution || sides)
 compared_said false instance solution sides = if instance && solution then None
     else Some (codes "timedesk: compare needs an INSTANCE and a SOLUTION, or --pairs\n")
 
+-- ---- the numbers of a search
+
+-- the number that an option is given
+abbrev pub number_in : Option Text → Option ℕ
+number_in given = option_and_then number_of given
+
+-- the option is given no value, or a number
+abbrev pub is_numeric : Option Text → Bool
+is_numeric None = true
+is_numeric (Some word) = is_some (number_of word)
+
+-- the value of one of these options is no number
+abbrev pub numbers_said : List Row → Option Text
+numbers_said rows = if is_numeric (first_of (codes "steps") rows) && (is_numeric (first_of (codes "seed") rows)
+    && (is_numeric (first_of (codes "changes") rows) && is_numeric (first_of (codes "stay") rows)))
+    then None
+    else Some (codes "timedesk: --steps, --seed, --changes and --stay are numbers from 0 to 999999999\n")
+
 -- ---- standard input
 
 -- the words of a command that name a file which is read, in the order in which they are read, with
 -- what the help calls them; the seats of a desk are apart, and nothing is beside pairs
 abbrev pub instance_words : List (Text × Text)
 instance_words = (codes "INSTANCE", codes "instance") ∷ (codes "--barred", codes "barred") ∷ (codes "--blocked", codes "blocked") ∷ []
+
+abbrev pub search_words : List (Text × Text)
+search_words = instance_words ++ (codes "SOLUTION", codes "solution") ∷ (codes "--pins", codes "pins") ∷ []
 
 abbrev pub words_read : Name → List (Text × Text)
 words_read by.Check = instance_words ++ (codes "SOLUTION", codes "solution") ∷ []
@@ -66,6 +88,9 @@ words_read by.Journal = instance_words ++ (codes "MINUTES", codes "minutes") ∷
 words_read by.List = instance_words ++ (codes "JOURNAL", codes "journal") ∷ (codes "--start", codes "start") ∷ []
 words_read by.Mend = instance_words ++ (codes "SOLUTION", codes "solution") ∷ []
 words_read by.Where = []
+words_read by.Improve = search_words
+words_read by.Place = search_words
+words_read by.Repair = search_words
 
 -- the word is the name of standard input
 abbrev pub is_standard : Text → Bool
@@ -114,6 +139,9 @@ needs_of by.Compare rows = compared_said (has (codes "pairs") rows) (has (codes 
     (has_sides rows)
 needs_of by.Week rows = several_said rows
 needs_of by.Page rows = or_then (several_said rows) (grids_said (first_of (codes "grids") rows))
+needs_of by.Improve rows = numbers_said rows
+needs_of by.Place rows = numbers_said rows
+needs_of by.Repair rows = numbers_said rows
 needs_of _ rows = None
 
 -- the message with which the matches of the command are refused; none if they ask for a job

@@ -6,7 +6,7 @@ use Rattle.ctt_words.specs.CommandLine.{command_of, flag, optional_word, optiona
 use Rattle.ctt_words.specs.declared.outline.Argument.{Argument}
 use Rattle.ctt_words.specs.declared.outline.Argument.TheVariants.{Flag, Optional, Optionals, Valued, Word, Words}
 use Rattle.ctt_words.specs.declared.outline.Name.{Name}
-use Rattle.ctt_words.specs.declared.outline.Name.TheVariants.{Audit, Check, Compare, Crew, Desk, Journal, List as Listing, Mend, Page, Run, Week, Where}
+use Rattle.ctt_words.specs.declared.outline.Name.TheVariants.{Audit, Check, Compare, Crew, Desk, Improve, Journal, List as Listing, Mend, Page, Place, Repair, Run, Week, Where}
 use Rattle.ctt_words.specs.declared.outline.Outline.{Outline}
 
 -- the `clap` rule for an argument of a table
@@ -36,6 +36,9 @@ name_of Journal = codes "journal"
 name_of Listing = codes "list"
 name_of Mend = codes "mend"
 name_of Where = codes "where"
+name_of Improve = codes "improve"
+name_of Place = codes "place"
+name_of Repair = codes "repair"
 
 -- a command with its name
 abbrev pub with_name : Name → Text × Name
@@ -54,13 +57,17 @@ abbrev pub or_named : Option Name → Option Name → Option Name
 or_named (Some command) other = Some command
 or_named None other = other
 
--- the commands on solutions, and then the others, in the order of the help
+-- the commands on solutions, those on desks, and those that search, in the order of the help
 abbrev pub solution_commands : List Name
 solution_commands = Check ∷ Compare ∷ Week ∷ Page ∷ []
 
 abbrev pub desk_commands : List Name
 desk_commands = Run ∷ Audit ∷ Crew ∷ Desk ∷ Journal ∷ Listing ∷ Mend ∷ Where ∷ []
 
+abbrev pub search_commands : List Name
+search_commands = Improve ∷ Place ∷ Repair ∷ []
+
 -- the command of this name
 abbrev pub named : Text → Option Name
-named name = or_named (named_in (map with_name solution_commands) name) (named_in (map with_name desk_commands) name)
+named name = or_named (named_in (map with_name solution_commands) name)
+    (or_named (named_in (map with_name desk_commands) name) (named_in (map with_name search_commands) name))

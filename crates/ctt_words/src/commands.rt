@@ -2,27 +2,14 @@
 
 ghost use Rattle.std.specs.Prelude.{◌≡◌, map, IfOk};
 ghost use Rattle.ctt_words.specs.CommandLine.{IsCommand, desk_apps, solution_apps, timedesk};
-ghost use Rattle.ctt_words.specs.Outlines.{app_by, desk_commands, named, names_by, solution_commands, with_name};
+ghost use Rattle.ctt_words.specs.Outlines.{app_by, desk_commands, named, named_in, names_by, or_named, search_commands, solution_commands, with_name};
 
-use crate::outline::{Argument, Name, Outline, find, with_commands};
+use crate::outline::{
+    Argument, BARRED, BLOCKED, INSTANCE, Name, Outline, POINT, SOLUTION, find, with_commands,
+};
+use crate::searches::search_outlines;
 use clap::Command;
 use std::alloc::{AllocError, Global};
-
-const INSTANCE: Argument = Argument::Word("instance", "INSTANCE", "The file of the instance");
-
-const BARRED: Argument = Argument::Valued(
-    "barred",
-    "FILE",
-    "The file of the rooms that are barred for courses; without it none are",
-);
-
-const BLOCKED: Argument = Argument::Valued(
-    "blocked",
-    "FILE",
-    "The file of the slots in which rooms, teachers and courses are blocked; without it none are",
-);
-
-const SOLUTION: Argument = Argument::Word("solution", "SOLUTION", "The file of the solution");
 
 const JOURNAL: Argument = Argument::Word("journal", "JOURNAL", "The file of the accepted drafts");
 
@@ -47,11 +34,6 @@ const COURSE: Argument = Argument::Valued(
 );
 
 const ROOM: Argument = Argument::Valued("room", "NAME", "The week of this room alone");
-
-const POINT: Argument = Argument::Flag(
-    "point",
-    "Print after the line of a fault where it is in its file, and what was expected there",
-);
 
 /// The commands on solutions.
 const SOLUTION_COMMANDS: &[Outline] = &[
@@ -300,6 +282,9 @@ Examples:
   timedesk list spring.ctt monday.journal --start spring.sol >tuesday.sol
   timedesk mend spring.ctt spring.sol >mended.sol
   timedesk where spring.ctt 14
+  timedesk place spring.ctt cut.sol >whole.sol
+  timedesk improve spring.ctt spring.sol --changes 20 >better.sol
+  timedesk repair spring.ctt spring.sol --blocked closed.txt >repaired.sol
 
 Status: 0 if it is done, also if a report says that a solution is unlawful;
 1 if the content of a file is refused, a name is not in it, or an audit does not agree; 2 if the
@@ -334,7 +319,19 @@ pub(crate) fn command_line<'a>(alloc: Global) -> Result<Command<'a>, AllocError>
         .after_help(BELOW_HELP)
         .subcommand_required(true);
     let with_first = with_commands(alloc, alone, solution_outlines())?;
-    with_commands(alloc, with_first, desk_outlines())
+    let with_most = with_commands(alloc, with_first, desk_outlines())?;
+    with_commands(alloc, with_most, search_outlines())
+}
+
+/// Finds the command of this name that is not one on solutions.
+fn later_named(name: &str) -> Option<Name>
+    ensures { result ≡ or_named (named_in (map with_name desk_commands) name.now)
+        (named_in (map with_name search_commands) name.now) }
+{
+    match find(desk_outlines(), name) {
+        Some(command) => Some(command),
+        None => find(search_outlines(), name),
+    }
 }
 
 /// Finds the command of this name.
@@ -343,6 +340,6 @@ pub(crate) fn command_named(name: &str) -> Option<Name>
 {
     match find(solution_outlines(), name) {
         Some(command) => Some(command),
-        None => find(desk_outlines(), name),
+        None => later_named(name),
     }
 }

@@ -27,7 +27,7 @@ fn sides(alloc: Global, given: &ArgMatches<'_>) -> Result<Sides, AllocError>
 }
 
 /// Returns the files of a solution.
-fn subject_files(alloc: Global, given: &ArgMatches<'_>) -> Result<SubjectFiles, AllocError>
+pub(crate) fn subject_files(alloc: Global, given: &ArgMatches<'_>) -> Result<SubjectFiles, AllocError>
     requires { HasFiles (codes "solution") (rows_of (found_of given.now)) }
     ensures { IfOk result (HasSubject (rows_of (found_of given.now))) }
 {

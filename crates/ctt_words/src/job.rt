@@ -76,6 +76,32 @@ pub struct PageWords {
     pub grids: Option<Grids>,
 }
 
+/// What a search is for.
+#[derive(Clone, Copy, PartialEq, Eq)]
+pub enum Purpose {
+    /// To improve a timetable.
+    Improve,
+    /// To place what is missing, where the others stay.
+    Place,
+    /// To place what is missing by as few changes as can be.
+    Repair,
+}
+
+/// What is asked of a search.
+#[derive(Clone, Copy)]
+pub struct SearchWords {
+    /// Whether the report is JSON.
+    pub json: bool,
+    /// How many steps it takes.
+    pub steps: u32,
+    /// What its random draws begin with.
+    pub seed: u32,
+    /// What each change costs beside the penalty.
+    pub stay: u32,
+    /// How many lectures may be changed at most, if there is a bound.
+    pub changes: Option<u32>,
+}
+
 /// The names of the files of a solution: that of its instance, those of the instance's side files,
 /// and its own.
 #[derive(Drop)]
@@ -173,6 +199,14 @@ pub enum Command {
         file: String,
         number: String,
         byte: bool,
+    },
+    /// To propose a timetable in place of a solution, in which the lectures of `pins`, a solution
+    /// too, stand where they stood.
+    Search {
+        purpose: Purpose,
+        files: SubjectFiles,
+        pins: Option<String>,
+        words: SearchWords,
     },
 }
 

@@ -7,10 +7,11 @@ mod found;
 mod job;
 mod needs;
 mod outline;
+mod searches;
 mod words;
 
 pub use job::{
-    Asked, CheckOptions, Command, CompareOptions, Grids, Job, PageWords, ReplayFiles, SubjectFiles,
-    Whose, WordsFault,
+    Asked, CheckOptions, Command, CompareOptions, Grids, Job, PageWords, Purpose, ReplayFiles,
+    SearchWords, SubjectFiles, Whose, WordsFault,
 };
 pub use words::read_words;

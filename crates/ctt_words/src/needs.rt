@@ -9,6 +9,7 @@ ghost use Rattle.ctt_words.specs.Needs.{called_standard, compared_said, grids_of
 use crate::arguments::{count, given_text, given_texts};
 use crate::job::Grids;
 use crate::outline::Name;
+use crate::searches::numbers_said;
 use clap::ArgMatches;
 use std::alloc::{AllocError, Global};
 
@@ -66,6 +67,15 @@ const MINUTES: &[(&str, &str)] = &[
     ("MINUTES", "minutes"),
 ];
 
+/// The same for a search.
+const SEARCH: &[(&str, &str)] = &[
+    ("INSTANCE", "instance"),
+    ("--barred", "barred"),
+    ("--blocked", "blocked"),
+    ("SOLUTION", "solution"),
+    ("--pins", "pins"),
+];
+
 /// The message for files beside pairs.
 const BESIDE_PAIRS: &str =
     "timedesk: --pairs names the files: no INSTANCE, SOLUTION, --barred or --blocked beside it\n";
@@ -85,6 +95,7 @@ fn words_read(command: Name) -> &'static [(&'static str, &'static str)]
         Name::Crew => CREW,
         Name::Desk => DESK,
         Name::Journal => MINUTES,
+        Name::Improve | Name::Place | Name::Repair => SEARCH,
         Name::Where => &[],
     }
 }
@@ -284,6 +295,7 @@ fn needs(command: Name, given: &ArgMatches<'_>) -> Option<&'static str>
             Some(said) => Some(said),
             None => grids_said(given),
         },
+        Name::Improve | Name::Place | Name::Repair => numbers_said(given),
         _ => None,
     }
 }

@@ -25,6 +25,32 @@ pub(crate) enum Argument {
     Valued(&'static str, &'static str, &'static str),
 }
 
+/// The instance of a command.
+pub(crate) const INSTANCE: Argument = Argument::Word("instance", "INSTANCE", "The file of the instance");
+
+/// The barred rooms of its instance.
+pub(crate) const BARRED: Argument = Argument::Valued(
+    "barred",
+    "FILE",
+    "The file of the rooms that are barred for courses; without it none are",
+);
+
+/// What is blocked in its instance.
+pub(crate) const BLOCKED: Argument = Argument::Valued(
+    "blocked",
+    "FILE",
+    "The file of the slots in which rooms, teachers and courses are blocked; without it none are",
+);
+
+/// The solution of a command.
+pub(crate) const SOLUTION: Argument = Argument::Word("solution", "SOLUTION", "The file of the solution");
+
+/// Whether the place of a fault is printed.
+pub(crate) const POINT: Argument = Argument::Flag(
+    "point",
+    "Print after the line of a fault where it is in its file, and what was expected there",
+);
+
 /// The name of a command.
 #[derive(Clone, Copy)]
 pub(crate) enum Name {
@@ -40,6 +66,9 @@ pub(crate) enum Name {
     List,
     Mend,
     Where,
+    Improve,
+    Place,
+    Repair,
 }
 
 /// A command with its texts for the help and its arguments.

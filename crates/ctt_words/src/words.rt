@@ -12,9 +12,10 @@ use crate::found::{
     audit_job, check_job, compare_job, crew_job, desk_job, journal_job, list_job, mend_job,
     page_job, run_job, week_job, where_job,
 };
-use crate::job::{Asked, Job, WordsFault};
+use crate::job::{Asked, Job, Purpose, WordsFault};
 use crate::needs::refusal;
 use crate::outline::Name;
+use crate::searches::search_job;
 use clap::ArgMatches;
 use clap::error::ErrorKind;
 use std::alloc::{AllocError, Global};
@@ -53,6 +54,9 @@ fn job_by(alloc: Global, command: Name, given: &ArgMatches<'_>) -> Result<Job, A
         Name::List => list_job(alloc, given),
         Name::Mend => mend_job(alloc, given),
         Name::Where => where_job(alloc, given),
+        Name::Improve => search_job(alloc, Purpose::Improve, given),
+        Name::Place => search_job(alloc, Purpose::Place, given),
+        Name::Repair => search_job(alloc, Purpose::Repair, given),
     }
 }
 

@@ -1,0 +1,94 @@
+-- What the commands that search propose in place of a solution, and what they report of it.
+use Rattle.std.specs.Prelude.{◌≡◌, ◌≤◌, ◌++◌, ℕ, Bool, true, false, not, List, Option, Some, None, codes, find, if◌then◌else◌, nat_lt}
+use Rattle.std.specs.Fmt.{decimal}
+use Rattle.std.specs.List.{AllByRecursion as Each}
+use Rattle.clap.specs.Words.{Text}
+use Rattle.ctt_problem.specs.Problem.{Problem}
+use Rattle.ctt_problem.specs.declared.placed.Placed.{Placed}
+use Rattle.ctt_rules.specs.Hard.{Lawful, missing_count}
+use Rattle.ctt_board.specs.Changes.{room_at}
+use Rattle.ctt_line.specs.Lines.{line}
+use Rattle.ctt_script.specs.WrittenWords.{course_word, day_word, period_word, room_word}
+use Rattle.ctt_search.specs.Between.{stands_in}
+use Rattle.ctt_search.specs.Scores.{changes, is_at_most, score}
+use Rattle.ctt_search.specs.Wishes.{IsWithin, KeepsAll}
+use Rattle.ctt_search.specs.declared.aim.Aim.{Aim}
+use Rattle.ctt_search.specs.declared.aim.Aim.TheVariants.{Changes, Cost}
+use Rattle.ctt_search.specs.declared.score.Score.{Score}
+use Rattle.ctt_words.specs.declared.job.Purpose.{Purpose}
+use Rattle.ctt_words.specs.declared.job.Purpose.TheVariants.{Improve, Place, Repair}
+use Rattle.ctt_words.specs.declared.job.SearchWords.{SearchWords}
+
+-- ---- wishes that cannot be met
+
+-- the first of the pinned lectures that does not stand in the start, in its slot and room
+abbrev pub unpinned : List Placed → List Placed → Option Placed
+unpinned start pins = find (λ l. not (stands_in start l)) pins
+
+-- the line of a pinned lecture that does not stand there
+abbrev pub unpinned_line : Problem → Placed → Text
+unpinned_line i l = codes "timedesk: the pinned lecture " ++ (course_word i l.course ++ (codes " " ++ (room_word i l.room
+    ++ (codes " " ++ (day_word i l.slot ++ (codes " " ++ (period_word i l.slot ++ codes " is not in the solution\n")))))))
+
+-- the line of a bound on the changes that is below the missing lectures
+abbrev pub bound_line : ℕ → ℕ → Text
+bound_line most missing = codes "timedesk: at most " ++ (decimal most ++ (codes " changes cannot place " ++ (decimal missing ++ codes " missing lectures\n")))
+
+abbrev pub bound_over : Option ℕ → ℕ → Option Text
+bound_over None missing = None
+bound_over (Some most) missing = if nat_lt most missing then Some (bound_line most missing) else None
+
+-- the same if all missing lectures are to be placed
+abbrev pub bound_said : Purpose → Option ℕ → ℕ → Option Text
+bound_said Improve most missing = None
+bound_said Place most missing = bound_over most missing
+bound_said Repair most missing = bound_over most missing
+
+abbrev pub unpinned_or : Problem → Option Placed → Option Text → Option Text
+unpinned_or i None later = later
+unpinned_or i (Some l) later = Some (unpinned_line i l)
+
+-- why the wish cannot be met on this start; none if it may be
+abbrev pub unmet : Purpose → Problem → List Placed → List Placed → SearchWords → Option Text
+unmet purpose i start pins words = unpinned_or i (unpinned start pins) (bound_said purpose words.changes (missing_count i start))
+
+-- ---- what is proposed
+
+-- what a search for this purpose compares after the missing lectures
+abbrev pub aim_of : Purpose → ℕ → Aim
+aim_of Improve stay = Cost stay
+aim_of Place stay = Cost stay
+aim_of Repair stay = Changes
+
+-- what stands for this purpose besides the pinned lectures: all of the start, if the missing
+-- lectures alone are placed
+abbrev pub Keeps : Purpose → Problem → List Placed → List Placed → Type 0
+Keeps Place i start t = KeepsAll i start t
+Keeps Improve i start t = Unit {0}
+Keeps Repair i start t = Unit {0}
+
+-- the timetable t may be proposed in place of the start after so many steps
+pub record IsProposed (purpose : Purpose) (i : Problem) (start pins : List Placed) (words : SearchWords) (t : List Placed) (steps : ℕ) : Type 0 where
+  pub lawful : Lawful i t
+  pub pinned : Each (λ l. room_at l.course l.slot t ≡ Some l.room) pins
+  pub kept : Keeps purpose i start t
+  pub worth : is_at_most (aim_of purpose words.stay) (score i start t) (score i start start) ≡ true
+  pub few : IsWithin words.changes (changes i start t)
+  pub steps : steps ≤ words.steps
+
+-- ---- what is reported
+
+-- the line of a proposal, by the scores of the start and of the proposal, and the steps
+abbrev pub told_line : Score → Score → ℕ → Text
+told_line own found steps = codes "timedesk: " ++ (decimal found.missing ++ (codes " lectures missing (" ++ (decimal own.missing
+    ++ (codes " before), penalty " ++ (decimal found.cost ++ (codes " (" ++ (decimal own.cost ++ (codes " before), " ++ (decimal found.changes
+    ++ (codes " changes, " ++ (decimal steps ++ codes " steps\n")))))))))))
+
+abbrev pub told_json : Score → Score → ℕ → Text
+told_json own found steps = codes "{\"missing\":" ++ (decimal found.missing ++ (codes ",\"missing_before\":" ++ (decimal own.missing
+    ++ (codes ",\"penalty\":" ++ (decimal found.cost ++ (codes ",\"penalty_before\":" ++ (decimal own.cost ++ (codes ",\"changes\":" ++ (decimal found.changes
+    ++ (codes ",\"steps\":" ++ (decimal steps ++ codes "}\n")))))))))))
+
+abbrev pub told_text : Bool → Score → Score → ℕ → Text
+told_text true own found steps = told_json own found steps
+told_text false own found steps = told_line own found steps
