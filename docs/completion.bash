@@ -41,7 +41,7 @@ _timedesk_names() {
 # The commands, the options that have no value behind them, and a function that sets `options` to
 # those of a command: tools/flags.py makes them of the help.
 # the words of timedesk, by tools/flags.py
-_timedesk_commands=(check compare week page run audit crew desk journal list mend where)
+_timedesk_commands=(check compare week page run audit crew desk journal list mend where improve place repair)
 _timedesk_bare='--byte --csv --explain --faults --help --json --name --plain --point --sentences --sort --strict --version'
 _timedesk_known() {
     case $1 in
@@ -58,6 +58,9 @@ _timedesk_known() {
     list) options='--barred --blocked --help --point --start' ;;
     mend) options='--barred --blocked --help --point' ;;
     where) options='--byte --help' ;;
+    improve) options='--barred --blocked --changes --help --json --pins --point --seed --stay --steps' ;;
+    place) options='--barred --blocked --changes --help --json --pins --point --seed --stay --steps' ;;
+    repair) options='--barred --blocked --changes --help --json --pins --point --seed --stay --steps' ;;
     *) options=--help ;;
     esac
 }
@@ -128,12 +131,14 @@ _timedesk() {
     *:--course | *:--curriculum | *:--room | *:--teacher) _timedesk_names "$typed" "$option" "$instance" ;;
     :1 | help:1) _timedesk_words "$typed" "${_timedesk_commands[@]}" help ;;
     *:--days) _timedesk_words "$typed" mon,tue,wed,thu,fri ;;
+    *:--changes | *:--seed | *:--stay | *:--steps) ;;
     *:--grids) _timedesk_words "$typed" curricula teachers courses rooms ;;
     help:*) ;;
     where:1) _timedesk_files "$typed" '' ;;
     where:*) ;;
     *:1) _timedesk_files "$typed" .ctt ;;
-    *:--start | compare:[2-9]* | compare:1[0-9]* | check:2 | week:2 | page:2 | mend:2) _timedesk_files "$typed" .sol ;;
+    *:--start | compare:[2-9]* | compare:1[0-9]* | check:2 | week:2 | page:2 | mend:2 | \
+        improve:2 | place:2 | repair:2 | *:--pins) _timedesk_files "$typed" .sol ;;
     *:--*) _timedesk_files "$typed" '' ;;
     desk:*)
         _timedesk_files "$typed" .in

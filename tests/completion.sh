@@ -47,7 +47,7 @@ sed -e 's/^Curricula: 1/Curricula: 2/; s/^B /$(touch,hit) /; /^q1/a q2 1 top' \
 folders=$'0 folder\nnew\nold'
 
 # commands
-offers $'audit\ncheck\ncompare\ncrew\ndesk\nhelp\njournal\nlist\nmend\npage\nrun\nweek\nwhere' timedesk ''
+offers $'audit\ncheck\ncompare\ncrew\ndesk\nhelp\nimprove\njournal\nlist\nmend\npage\nplace\nrepair\nrun\nweek\nwhere' timedesk ''
 offers $'check\ncompare\ncrew' timedesk c
 offers $'audit' ./timedesk au
 offers $'check\ncompare\ncrew' timedesk --unproved c

@@ -49,7 +49,8 @@ ROWS = (
     (
         *tests_of_program("runs.py", "findings.py", "points.py", "peeks.py", "week.py"),
         *tests_of_program("blocked.py", "slots.py", "page.py", "compare.py", "flags.py"),
-        *tests_of_program("completion.sh", "guide.sh", "devices.py", "seats.py", "office.py"),
+        *tests_of_program("search.py", "completion.sh", "guide.sh", "devices.py", "seats.py"),
+        *tests_of_program("office.py"),
         test("memory.sh", Need.PROGRAM, Need.TRIALS),
     ),
     tests_of_program("client.py"),
