@@ -168,7 +168,8 @@ for words in 'check small.ctt s.sol --json --barred barred' 'check small.ctt sma
     'check small.ctt s.sol --explain --csv' 'check small.ctt s.sol --sentences' 'compare small.ctt s.sol s0.sol s.sol --sort --json' \
     'compare --pairs pairs --sort --faults --csv' 'compare --pairs pairs --point' 'where small.ctt 99' 'where small.ctt 5 --byte' \
     'run small.ctt refreshed --barred barred --journal journal' 'run small.ctt refreshed --blocked blocked --journal journal' 'audit small.ctt told --start s0.sol' \
-    'journal small.ctt torn' 'list small.ctt told --start s0.sol' 'mend small.ctt mixed --barred barred' 'mend small.ctt mixed --blocked blocked' 'crew small.ctt twice' 'crew small.ctt one' 'where small.ctt 14' frobnicate; do
+    'journal small.ctt torn' 'list small.ctt told --start s0.sol' 'mend small.ctt mixed --barred barred' 'mend small.ctt mixed --blocked blocked' 'crew small.ctt twice' 'crew small.ctt one' 'where small.ctt 14' \
+    'improve small.ctt s.sol --steps 300' 'place small.ctt s0.sol --steps 300 --pins s0.sol' 'repair small.ctt mixed --steps 300 --json' frobnicate; do
     rm -f journal
     "$program" $words >out 2>err
     wanted=$?

@@ -9,3 +9,4 @@ pub mod Plain
 pub mod Causes
 pub mod Openings
 pub mod Audited
+pub mod SearchLemmas
