@@ -1,7 +1,9 @@
 #!/usr/bin/env python3
-"""Compares what `improve`, `place` and `repair` propose with all timetables of tiny instances, and with what `check` says of it.
+"""Compares what `improve`, `place` and `repair` propose with all timetables of tiny instances, and
+with what `check` says of it.
 
-A number is that of the tiny instances. PROGRAM names another program. The last line is 'N passed, M failed'.
+A number is that of the tiny instances. PROGRAM names another program. The last line is
+'N passed, M failed'.
 """
 from __future__ import annotations
 
@@ -15,7 +17,9 @@ from pathlib import Path
 sys.dont_write_bytecode = True
 from program import EXAMPLES, call, check, check_run, end  # noqa: E402
 from rules import Instance  # noqa: E402
-from search_tiny import Purpose, Tiny, Wish, changes, draw_tiny, draw_wish, read, solution_of  # noqa: E402
+from search_tiny import (  # noqa: E402
+    Purpose, Timetable, Tiny, Wish, changes, draw_tiny, draw_wish, read, solution_of,
+)
 
 DRAWN = 10_000
 STEPS = "3000"
@@ -35,12 +39,35 @@ class Files:
 
     def subject(self, tiny: Tiny, wish: Wish) -> list[str]:
         lectures = ((c, place) for c, own in enumerate(wish.start) for place in own)
-        return [self.write("tiny.ctt", tiny.text()), self.write("tiny.sol", solution_of(lectures)),
-                "--barred", self.write("barred", tiny.barred_text()), "--blocked", self.write("blocked", tiny.blocked_text())]
+        files = [self.write("tiny.ctt", tiny.text()), self.write("tiny.sol", solution_of(lectures))]
+        barred = self.write("barred", tiny.barred_text())
+        blocked = self.write("blocked", tiny.blocked_text())
+        return [*files, "--barred", barred, "--blocked", blocked]
 
     def words(self, tiny: Tiny, wish: Wish) -> list[str]:
         pins = self.write("pins", solution_of(iter(sorted(wish.pins))))
-        return [wish.purpose.value, *self.subject(tiny, wish), "--pins", pins, *wish.words(), "--steps", STEPS, "--json"]
+        asked = ["--pins", pins, *wish.words(), "--steps", STEPS, "--json"]
+        return [wish.purpose.value, *self.subject(tiny, wish), *asked]
+
+
+def is_lawful(tiny: Tiny, found: Timetable) -> bool:
+    """Whether a timetable is lawful, by the plain reading of the rules."""
+    texts = (tiny.text(), tiny.barred_text(), tiny.blocked_text())
+    lectures = sorted((c, *slot, r) for c, own in enumerate(found) for slot, r in own)
+    lawful: bool = Instance(*(text.encode() for text in texts)).count(lectures)[1]
+    return lawful
+
+
+def report_on(tiny: Tiny, wish: Wish, found: Timetable) -> dict[str, int]:
+    """What is to be reported of a proposal."""
+    return {
+        "missing": tiny.missing(found),
+        "missing_before": tiny.missing(wish.start),
+        "penalty": tiny.penalty(found),
+        "penalty_before": tiny.penalty(wish.start),
+        "changes": changes(wish.start, found),
+        "steps": int(STEPS),
+    }
 
 
 def check_tiny(number: int, files: Files) -> bool:
@@ -50,18 +77,17 @@ def check_tiny(number: int, files: Files) -> bool:
     wish = draw_wish(draw, tiny)
     status, printed, said = call(*files.words(tiny, wish))
     if not wish.can_be_met(tiny):
-        refused = f"timedesk: at most {wish.bound} changes cannot place {tiny.missing(wish.start)} missing lectures\n"
+        missing = f"{tiny.missing(wish.start)} missing lectures"
+        refused = f"timedesk: at most {wish.bound} changes cannot place {missing}\n"
         check(f"tiny {number}: a bound that is too low", (status, printed, said), (2, "", refused))
         return True
     found = read(printed, tiny)
-    lawful = Instance(tiny.text().encode(), tiny.barred_text().encode(), tiny.blocked_text().encode()).count(
-        sorted((c, *slot, r) for c, own in enumerate(found) for slot, r in own))[1]
-    told = {"missing": tiny.missing(found), "missing_before": tiny.missing(wish.start), "penalty": tiny.penalty(found),
-            "penalty_before": tiny.penalty(wish.start), "changes": changes(wish.start, found), "steps": int(STEPS)}
+    told = report_on(tiny, wish, found)
     check(f"tiny {number}: status and report", (status, json.loads(said)), (0, told))
-    check(f"tiny {number}: lawful and as it was wished", (lawful, wish.may_be(found)), (True, True))
-    score, best = wish.score(tiny, found), wish.best(tiny)
-    check(f"tiny {number}: at most the start's, and no better than the best", best <= score <= wish.score(tiny, wish.start), True)
+    is_wished = (is_lawful(tiny, found), wish.may_be(found))
+    check(f"tiny {number}: lawful and as it was wished", is_wished, (True, True))
+    score, best, own = wish.score(tiny, found), wish.best(tiny), wish.score(tiny, wish.start)
+    check(f"tiny {number}: between the best of all and the start", best <= score <= own, True)
     return score == best
 
 
@@ -72,12 +98,17 @@ def check_all_tiny(folder: str, drawn: int) -> None:
     check("the best of all is found but of one in a hundred", best * 100 >= drawn * 99, True)
 
 
+def spring_lines() -> list[str]:
+    return Path(EXAMPLES, "spring.sol").read_text(encoding="utf-8").splitlines()
+
+
 def cut_of(folder: str, count: int) -> str:
     """The file of a solution of which lectures are taken out."""
-    lines = Path(EXAMPLES, "spring.sol").read_text(encoding="utf-8").splitlines(keepends=True)
+    lines = spring_lines()
     gone = set(random.Random(85).sample(range(len(lines)), count))
     cut = Path(folder, "cut.sol")
-    cut.write_text("".join(line for at, line in enumerate(lines) if at not in gone), encoding="utf-8")
+    left = (f"{line}\n" for at, line in enumerate(lines) if at not in gone)
+    cut.write_text("".join(left), encoding="utf-8")
     return str(cut)
 
 
@@ -97,7 +128,8 @@ def check_spring(folder: str) -> None:
         found.write_text(printed, encoding="utf-8")
         told, report = json.loads(said), report_of(SPRING, str(found))
         name = f"{purpose.value} on the example"
-        check(f"{name}: status, lawful, penalty", (status, report["lawful"], report["total"]), (0, True, told["penalty"]))
+        is_so = (status, report["lawful"], report["total"])
+        check(f"{name}: status, lawful, penalty", is_so, (0, True, told["penalty"]))
         check(f"{name}: missing", report["lectures"], told["missing"])
         check(f"{name}: once more", call(*words), (status, printed, said))
         if purpose is Purpose.PLACE:
@@ -110,29 +142,36 @@ def check_refused(folder: str) -> None:
     """Wishes that cannot be met, and words that are no numbers."""
     cut = cut_of(folder, 3)
     lines = Path(cut).read_text(encoding="utf-8").splitlines()
-    gone = next(line for line in Path(EXAMPLES, "spring.sol").read_text(encoding="utf-8").splitlines() if line not in lines)
+    gone = next(line for line in spring_lines() if line not in lines)
     pins = Path(folder, "pins")
     pins.write_text(f"{lines[0]}\n{gone}\n", encoding="utf-8")
     said = f"timedesk: the pinned lecture {gone} is not in the solution\n"
-    check_run("a pin that does not stand", "improve", SPRING, cut, "--pins", str(pins), said=said, status=2)
+    words = ["improve", SPRING, cut, "--pins", str(pins)]
+    check_run("a pin that does not stand", *words, said=said, status=2)
     said = "timedesk: at most 2 changes cannot place 3 missing lectures\n"
-    check_run("a bound below what is missing", "repair", SPRING, cut, "--changes", "2", said=said, status=2)
-    said = "timedesk: --steps, --seed, --changes and --stay are numbers from 0 to 999999999\n"
+    words = ["repair", SPRING, cut, "--changes", "2"]
+    check_run("a bound below what is missing", *words, said=said, status=2)
+    names = "--steps, --seed, --changes and --stay"
+    said = f"timedesk: {names} are numbers from 0 to 999999999\n"
     for option in "--steps", "--seed", "--changes", "--stay":
         for word in "x", "-1", "1.5", "", "1000000000":
-            check_run(f"{option} {word}", "place", SPRING, cut, f"{option}={word}", said=said, status=2)
+            words = ["place", SPRING, cut, f"{option}={word}"]
+            check_run(f"{option} {word}", *words, said=said, status=2)
 
 
 def check_mended(folder: str) -> None:
-    """A start that is not lawful is mended first, and what is set aside is said as `mend` says it."""
-    lines = Path(EXAMPLES, "spring.sol").read_text(encoding="utf-8").splitlines()
+    """A start that is not lawful is mended first, and this is said as `mend` says it."""
+    lines = spring_lines()
     course, _, day, period = lines[0].split(" ")
     twice = Path(folder, "twice.sol")
-    room = next(line.split(" ")[1] for line in lines if line.split(" ")[2:] == [day, period] and line != lines[0])
-    twice.write_text("\n".join([f"{course} {room} {day} {period}", *lines[1:], ""]), encoding="utf-8")
+    others = (line.split(" ") for line in lines[1:])
+    room = next(words[1] for words in others if words[2:] == [day, period])
+    moved = f"{course} {room} {day} {period}"
+    twice.write_text("\n".join([moved, *lines[1:], ""]), encoding="utf-8")
     _, mended, aside = call("mend", SPRING, str(twice))
     status, printed, said = call("improve", SPRING, str(twice), "--steps", "0")
-    check("no step gives the mended start", (status, printed, said.startswith(aside)), (0, mended, True))
+    is_so = (status, printed, said.startswith(aside))
+    check("no step gives the mended start", is_so, (0, mended, True))
 
 
 def main() -> None:

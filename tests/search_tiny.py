@@ -9,6 +9,8 @@ from typing import Iterator, Optional
 
 DAYS, PERIODS = 2, 2
 SLOTS = tuple(itertools.product(range(DAYS), range(PERIODS)))
+# of how many lectures the courses of an instance are
+LECTURES = ((1, 1), (2, 1), (2, 2), (1, 1, 1), (2, 1, 1), (1,))
 
 # where lectures of a course stand, or of all courses: by course, the slots and rooms
 Place = tuple[tuple[int, int], int]
@@ -42,35 +44,58 @@ class Tiny:
     blocked: frozenset[tuple[int, tuple[int, int]]]
 
     def text(self) -> str:
-        lines = ["Name: tiny", f"Courses: {len(self.courses)}", f"Rooms: {len(self.rooms)}", f"Days: {DAYS}", f"Periods_per_day: {PERIODS}",
-                 f"Curricula: {len(self.curricula)}", f"Constraints: {len(self.unavailable)}", "COURSES:"]
-        lines += [f"c{c} t{of.teacher} {of.lectures} {of.days} {of.students}" for c, of in enumerate(self.courses)]
+        lines = [
+            "Name: tiny",
+            f"Courses: {len(self.courses)}",
+            f"Rooms: {len(self.rooms)}",
+            f"Days: {DAYS}",
+            f"Periods_per_day: {PERIODS}",
+            f"Curricula: {len(self.curricula)}",
+            f"Constraints: {len(self.unavailable)}",
+            "COURSES:",
+        ]
+        for c, of in enumerate(self.courses):
+            lines.append(f"c{c} t{of.teacher} {of.lectures} {of.days} {of.students}")
         lines += ["ROOMS:", *(f"r{r} {size}" for r, size in enumerate(self.rooms)), "CURRICULA:"]
-        lines += [f"q{q} {len(members)} " + " ".join(f"c{c}" for c in members) for q, members in enumerate(self.curricula)]
-        lines += ["UNAVAILABILITY_CONSTRAINTS:", *(f"c{c} {d} {p}" for c, (d, p) in sorted(self.unavailable)), "END.\n"]
-        return "\n".join(lines)
+        for q, members in enumerate(self.curricula):
+            lines.append(" ".join([f"q{q}", str(len(members)), *(f"c{c}" for c in members)]))
+        closed = (f"c{c} {d} {p}" for c, (d, p) in sorted(self.unavailable))
+        return "\n".join([*lines, "UNAVAILABILITY_CONSTRAINTS:", *closed, "END.\n"])
 
     def barred_text(self) -> str:
-        return "\n".join([f"Barred: {len(self.barred)}", *(f"c{c} r{r}" for c, r in sorted(self.barred)), "END.\n"])
+        pairs = (f"c{c} r{r}" for c, r in sorted(self.barred))
+        return "\n".join([f"Barred: {len(self.barred)}", *pairs, "END.\n"])
 
     def blocked_text(self) -> str:
-        return "\n".join([f"Blocked: {len(self.blocked)}", *(f"room r{r} {d} {p}" for r, (d, p) in sorted(self.blocked)), "END.\n"])
+        entries = (f"room r{r} {d} {p}" for r, (d, p) in sorted(self.blocked))
+        return "\n".join([f"Blocked: {len(self.blocked)}", *entries, "END.\n"])
 
     def clash(self, c: int, d: int) -> bool:
-        return self.courses[c].teacher == self.courses[d].teacher or any(c in members and d in members for members in self.curricula)
+        if self.courses[c].teacher == self.courses[d].teacher:
+            return True
+        return any(c in members and d in members for members in self.curricula)
+
+    def is_open(self, c: int, r: int, slot: tuple[int, int]) -> bool:
+        return (c, r) not in self.barred and (r, slot) not in self.blocked
 
     def choices(self, c: int) -> list[tuple[Place, ...]]:
         """All ways in which lectures of a course may stand, by itself."""
-        places = [[(slot, r) for r in range(len(self.rooms)) if (c, r) not in self.barred and (r, slot) not in self.blocked]
-                  for slot in SLOTS if (c, slot) not in self.unavailable]
+        places = [
+            [(slot, r) for r in range(len(self.rooms)) if self.is_open(c, r, slot)]
+            for slot in SLOTS
+            if (c, slot) not in self.unavailable
+        ]
         few = range(self.courses[c].lectures + 1)
-        return [chosen for k in few for some in itertools.combinations(places, k) for chosen in itertools.product(*some)]
+        slots = itertools.chain.from_iterable(itertools.combinations(places, k) for k in few)
+        return [chosen for some in slots for chosen in itertools.product(*some)]
 
     def timetables(self) -> Iterator[Timetable]:
         """All lawful timetables, also those in which lectures are missing."""
         yield from self.rest((), [self.choices(c) for c in range(len(self.courses))])
 
-    def rest(self, begun: Timetable, choices: list[list[tuple[Place, ...]]]) -> Iterator[Timetable]:
+    def rest(
+        self, begun: Timetable, choices: list[list[tuple[Place, ...]]]
+    ) -> Iterator[Timetable]:
         c = len(begun)
         if c == len(choices):
             yield begun
@@ -79,9 +104,12 @@ class Tiny:
             if not any(self.conflict(c, chosen, d, own) for d, own in enumerate(begun)):
                 yield from self.rest((*begun, chosen), choices)
 
-    def conflict(self, c: int, places: tuple[Place, ...], d: int, others: tuple[Place, ...]) -> bool:
+    def conflict(
+        self, c: int, places: tuple[Place, ...], d: int, others: tuple[Place, ...]
+    ) -> bool:
         clash = self.clash(c, d)
-        return any(slot == slot2 and (clash or r == r2) for slot, r in places for slot2, r2 in others)
+        pairs = itertools.product(places, others)
+        return any(slot == at and (clash or r == r2) for (slot, r), (at, r2) in pairs)
 
     def missing(self, timetable: Timetable) -> int:
         return sum(course.lectures - len(own) for course, own in zip(self.courses, timetable))
@@ -90,7 +118,8 @@ class Tiny:
         total = 0
         for course, own in zip(self.courses, timetable):
             total += sum(max(0, course.students - self.rooms[r]) for _, r in own)
-            total += 5 * max(0, course.days - len({slot[0] for slot, _ in own})) + max(0, len({r for _, r in own}) - 1)
+            total += 5 * max(0, course.days - len({slot[0] for slot, _ in own}))
+            total += max(0, len({r for _, r in own}) - 1)
         for members in self.curricula:
             slots = [slot for c in set(members) for slot, _ in timetable[c]]
             total += sum(2 for d, p in slots if not {(d, p - 1), (d, p + 1)} & set(slots))
@@ -105,7 +134,7 @@ def changes(start: Timetable, timetable: Timetable) -> int:
 
 @dataclasses.dataclass(frozen=True)
 class Wish:
-    """What is asked of a search on a tiny instance. The pins are lectures: of a course, at a place."""
+    """What is asked of a search on a tiny instance. The pins are lectures."""
 
     purpose: Purpose
     start: Timetable
@@ -117,7 +146,8 @@ class Wish:
         """Whether a lawful timetable may be proposed, whatever it is worth."""
         if any(place not in timetable[c] for c, place in self.pins):
             return False
-        if self.purpose is Purpose.PLACE and any(set(old) - set(new) for old, new in zip(self.start, timetable)):
+        gone = any(set(old) - set(new) for old, new in zip(self.start, timetable))
+        if self.purpose is Purpose.PLACE and gone:
             return False
         return self.bound is None or changes(self.start, timetable) <= self.bound
 
@@ -128,10 +158,12 @@ class Wish:
         return (tiny.missing(timetable), penalty + self.stay * changed, changed)
 
     def best(self, tiny: Tiny) -> Score:
-        return min(self.score(tiny, timetable) for timetable in tiny.timetables() if self.may_be(timetable))
+        return min(self.score(tiny, other) for other in tiny.timetables() if self.may_be(other))
 
     def can_be_met(self, tiny: Tiny) -> bool:
-        return self.purpose is Purpose.IMPROVE or self.bound is None or self.bound >= tiny.missing(self.start)
+        if self.purpose is Purpose.IMPROVE or self.bound is None:
+            return True
+        return self.bound >= tiny.missing(self.start)
 
     def words(self) -> list[str]:
         bound = [] if self.bound is None else ["--changes", str(self.bound)]
@@ -142,22 +174,27 @@ def draw_tiny(draw: random.Random) -> Tiny:
     rooms = draw.choice((1, 2))
     courses = tuple(
         Course(draw.randrange(3), lectures, draw.choice((1, 2)), draw.choice((8, 15, 25)))
-        for lectures in draw.choice(((1, 1), (2, 1), (2, 2), (1, 1, 1), (2, 1, 1), (1,)))
+        for lectures in draw.choice(LECTURES)
     )
     numbers = range(len(courses))
-    some = [(c, slot) for c in numbers for slot in SLOTS if draw.random() < 0.2]
+    pair = min(2, len(courses))
+    cells = itertools.product
     return Tiny(
-        courses, tuple(draw.choice((10, 20)) for _ in range(rooms)),
-        tuple(tuple(draw.sample(numbers, min(2, len(courses)))) for _ in range(draw.randrange(3))), frozenset(some),
-        frozenset((c, r) for c in numbers for r in range(rooms) if draw.random() < 0.1),
-        frozenset((r, slot) for r in range(rooms) for slot in SLOTS if draw.random() < 0.1))
+        courses,
+        tuple(draw.choice((10, 20)) for _ in range(rooms)),
+        tuple(tuple(draw.sample(numbers, pair)) for _ in range(draw.randrange(3))),
+        frozenset(cell for cell in cells(numbers, SLOTS) if draw.random() < 0.2),
+        frozenset(cell for cell in cells(numbers, range(rooms)) if draw.random() < 0.1),
+        frozenset(cell for cell in cells(range(rooms), SLOTS) if draw.random() < 0.1),
+    )
 
 
 def draw_wish(draw: random.Random, tiny: Tiny) -> Wish:
     start = draw.choice(list(itertools.islice(tiny.timetables(), 400)))
     lectures = [(c, place) for c, own in enumerate(start) for place in own]
     pins = draw.sample(lectures, min(len(lectures), draw.choice((0, 0, 1, 2))))
-    return Wish(draw.choice(list(Purpose)), start, frozenset(pins), draw.choice((None, None, 1, 2)), draw.choice((0, 0, 1, 7)))
+    bound, stay = draw.choice((None, None, 1, 2)), draw.choice((0, 0, 1, 7))
+    return Wish(draw.choice(list(Purpose)), start, frozenset(pins), bound, stay)
 
 
 def solution_of(lectures: Iterator[tuple[int, Place]]) -> str:
