@@ -8,6 +8,7 @@ ghost use Rattle.ctt_problem.specs.Timetable.{Fits, IsTimetable};
 ghost use Rattle.ctt_files.specs.declared.fault.Fault.TheVariants.{Machine};
 ghost use Rattle.ctt_files.specs.declared.fault.MachineFault.TheVariants.{NoMemory as OutOfMemory};
 ghost use Rattle.ctt_search.specs.Scores.{score};
+ghost use Rattle.ctt_words.specs.declared.job.Purpose.TheVariants.{Improve, Place, Repair};
 ghost use Rattle.ctt_commands.specs.Commands.{IsUnmet, ShowsProposal};
 ghost use Rattle.ctt_commands.specs.Mended.{aside_text, mended, set_aside};
 ghost use Rattle.ctt_commands.specs.Searches.{IsProposed, unmet, unpinned};
@@ -80,6 +81,92 @@ fn unmet<'i, S: Sheet<'i>>(
     }
 }
 
+/// Returns the wish of a search.
+fn wish_of(
+    alloc: Global,
+    instance: &Instance,
+    pins: &[Placed],
+    words: &SearchWords,
+) -> Result<Wish, NoMemory>
+    requires { Each (Fits instance.now) pins.now }
+    ensures size { IfOk result (λ wish.
+        HasSize wish.pins (slot_count instance.now) (course_count instance.now)) }
+    ensures marked { IfOk result (λ wish.
+        Each (λ l. is_marked_in wish.pins l.slot l.course ≡ true) pins.now) }
+    ensures price { IfOk result (λ wish. wish.price ≡ words.now.stay) }
+    ensures bound { IfOk result (λ wish. wish.most_changes ≡ words.now.changes) }
+    ensures steps { IfOk result (λ wish. wish.steps ≡ words.now.steps) }
+{
+    let marked = pins_on(alloc, instance, pins)?;
+    Ok(Wish {
+        price: words.stay,
+        most_changes: words.changes,
+        pins: marked,
+        seed: u64::from(words.seed),
+        steps: u64::from(words.steps),
+    })
+}
+
+/// Searches for a better timetable.
+fn improved<'i, S: Sheet<'i>>(
+    alloc: Global,
+    start: &S,
+    pins: &[Placed],
+    words: &SearchWords,
+) -> Result<Proposal<S>, NoMemory>
+    requires pins { Each (Fits (S.problem start.now)) pins.now }
+    requires stand { unpinned (S.list start.now) pins.now ≡ None }
+    ensures problem { IfOk result (λ p. S.problem p.sheet ≡ S.problem start.now) }
+    ensures proposed { IfOk result (λ p. IsProposed Improve (S.problem start.now)
+        (S.list start.now) pins.now words.now (S.list p.sheet) p.steps) }
+    ensures score { IfOk result (λ p.
+        p.score ≡ score (S.problem start.now) (S.list start.now) (S.list p.sheet)) }
+{
+    let wish = wish_of(alloc, start.instance(), pins, words)?;
+    let found = improve(start, &wish, &mut Unstopped::new(), alloc)?;
+    Ok(found)
+}
+
+/// Searches for places for the missing lectures alone.
+fn placed<'i, S: Sheet<'i>>(
+    alloc: Global,
+    start: &S,
+    pins: &[Placed],
+    words: &SearchWords,
+) -> Result<Proposal<S>, NoMemory>
+    requires pins { Each (Fits (S.problem start.now)) pins.now }
+    requires stand { unpinned (S.list start.now) pins.now ≡ None }
+    ensures problem { IfOk result (λ p. S.problem p.sheet ≡ S.problem start.now) }
+    ensures proposed { IfOk result (λ p. IsProposed Place (S.problem start.now)
+        (S.list start.now) pins.now words.now (S.list p.sheet) p.steps) }
+    ensures score { IfOk result (λ p.
+        p.score ≡ score (S.problem start.now) (S.list start.now) (S.list p.sheet)) }
+{
+    let wish = wish_of(alloc, start.instance(), pins, words)?;
+    let found = place(start, &wish, &mut Unstopped::new(), alloc)?;
+    Ok(found)
+}
+
+/// Searches for places for the missing lectures by few changes.
+fn repaired<'i, S: Sheet<'i>>(
+    alloc: Global,
+    start: &S,
+    pins: &[Placed],
+    words: &SearchWords,
+) -> Result<Proposal<S>, NoMemory>
+    requires pins { Each (Fits (S.problem start.now)) pins.now }
+    requires stand { unpinned (S.list start.now) pins.now ≡ None }
+    ensures problem { IfOk result (λ p. S.problem p.sheet ≡ S.problem start.now) }
+    ensures proposed { IfOk result (λ p. IsProposed Repair (S.problem start.now)
+        (S.list start.now) pins.now words.now (S.list p.sheet) p.steps) }
+    ensures score { IfOk result (λ p.
+        p.score ≡ score (S.problem start.now) (S.list start.now) (S.list p.sheet)) }
+{
+    let wish = wish_of(alloc, start.instance(), pins, words)?;
+    let found = repair(start, &wish, &mut Unstopped::new(), alloc)?;
+    Ok(found)
+}
+
 /// Searches for a purpose.
 fn propose<'i, S: Sheet<'i>>(
     alloc: Global,
@@ -96,18 +183,10 @@ fn propose<'i, S: Sheet<'i>>(
     ensures score { IfOk result (λ p.
         p.score ≡ score (S.problem start.now) (S.list start.now) (S.list p.sheet)) }
 {
-    let wish = Wish {
-        price: words.stay,
-        most_changes: words.changes,
-        pins: pins_on(alloc, start.instance(), pins)?,
-        seed: u64::from(words.seed),
-        steps: u64::from(words.steps),
-    };
-    let mut pace = Unstopped::new();
     match purpose {
-        Purpose::Improve => improve(start, &wish, &mut pace, alloc),
-        Purpose::Place => place(start, &wish, &mut pace, alloc),
-        Purpose::Repair => repair(start, &wish, &mut pace, alloc),
+        Purpose::Improve => improved(alloc, start, pins, words),
+        Purpose::Place => placed(alloc, start, pins, words),
+        Purpose::Repair => repaired(alloc, start, pins, words),
     }
 }
 
