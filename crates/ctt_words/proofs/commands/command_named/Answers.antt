@@ -7,5 +7,5 @@ returns-in-Some c = ap (λ first. or_named first (or_named (named_in (map with_n
     (sym c.in-Some.is ∙ c.find.ensures ∙ ap (λ known. named_in known c.args.name.now) c.solution_outlines.ensures.names)
 
 pub returns-in-None : goal.returns-in-None
-returns-in-None c = c.later_named-in-None.ensures ∙ ap (λ first. or_named first (or_named (named_in (map with_name desk_commands) c.args.name.now) (named_in (map with_name search_commands) c.args.name.now)))
+returns-in-None c = c.later_named.ensures ∙ ap (λ first. or_named first (or_named (named_in (map with_name desk_commands) c.args.name.now) (named_in (map with_name search_commands) c.args.name.now)))
     (sym c.in-None.is ∙ c.find.ensures ∙ ap (λ known. named_in known c.args.name.now) c.solution_outlines.ensures.names)
