@@ -1,17 +1,19 @@
 //! The commands `improve`, `place` and `repair`.
 
-ghost use Rattle.std.specs.Prelude.{◌≡◌, ◌⊎◌, ◌++◌, ◌≤◌, Some, None, true, option_map, IfOk, IfErr, string_bytes};
+ghost use Rattle.std.specs.Prelude.{◌≡◌, ◌⊎◌, ◌++◌, None, true, option_map, IfOk, IfErr, string_bytes};
 ghost use Rattle.std.specs.List.{AllByRecursion as Each};
 ghost use Rattle.ctt_problem.specs.BitRows.{HasSize, is_marked_in};
 ghost use Rattle.ctt_problem.specs.Problem.{course_count, slot_count};
 ghost use Rattle.ctt_problem.specs.Timetable.{Fits, IsTimetable};
+ghost use Rattle.ctt_text.specs.Written.{soltext};
 ghost use Rattle.ctt_files.specs.declared.fault.Fault.TheVariants.{Machine};
+ghost use Rattle.ctt_files.specs.declared.outcome.Outcome.TheVariants.{Done};
 ghost use Rattle.ctt_files.specs.declared.fault.MachineFault.TheVariants.{NoMemory as OutOfMemory};
 ghost use Rattle.ctt_search.specs.Scores.{score};
 ghost use Rattle.ctt_words.specs.declared.job.Purpose.TheVariants.{Improve, Place, Repair};
 ghost use Rattle.ctt_commands.specs.Commands.{IsUnmet, ShowsProposal};
 ghost use Rattle.ctt_commands.specs.Mended.{aside_text, mended, set_aside};
-ghost use Rattle.ctt_commands.specs.Searches.{IsProposed, unmet, unpinned};
+ghost use Rattle.ctt_commands.specs.Searches.{IsProposed, told_text, unmet, unpinned};
 
 use crate::mend_laws;
 use crate::mended::sift;
@@ -221,7 +223,14 @@ fn deliver<'i, S: Sheet<'i>>(
     aside: String,
     json: bool,
 ) -> Result<Output, NoMemory>
+    ensures text { IfOk result (λ output. output.text.items
+        ≡ soltext (S.problem proposal.now.sheet) (S.list proposal.now.sheet)) }
+    ensures told { IfOk result (λ output. string_bytes output.diagnostics
+        ≡ string_bytes aside
+        ++ told_text json own.now proposal.now.score proposal.now.steps) }
+    ensures done { IfOk result (λ output. output.outcome ≡ Done) }
 {
+    proposal.sheet.lawful();
     let list = proposal.sheet.list()?;
     let text = write_solution(alloc, proposal.sheet.instance(), &list)?;
     let mut diagnostics = aside;
