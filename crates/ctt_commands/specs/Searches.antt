@@ -2,7 +2,6 @@
 use Rattle.std.specs.Prelude.{◌≡◌, ◌≤◌, ◌++◌, ℕ, Bool, true, false, not, List, Option, Some, None, codes, find, if◌then◌else◌, nat_lt}
 use Rattle.std.specs.Fmt.{decimal}
 use Rattle.std.specs.List.{AllByRecursion as Each}
-use Rattle.clap.specs.Words.{Text}
 use Rattle.ctt_problem.specs.Problem.{Problem}
 use Rattle.ctt_problem.specs.declared.placed.Placed.{Placed}
 use Rattle.ctt_rules.specs.Hard.{Lawful, missing_count}
@@ -26,30 +25,30 @@ abbrev pub unpinned : List Placed → List Placed → Option Placed
 unpinned start pins = find (λ l. not (stands_in start l)) pins
 
 -- the line of a pinned lecture that does not stand there
-abbrev pub unpinned_line : Problem → Placed → Text
+abbrev pub unpinned_line : Problem → Placed → List ℕ
 unpinned_line i l = codes "timedesk: the pinned lecture " ++ (course_word i l.course ++ (codes " " ++ (room_word i l.room
     ++ (codes " " ++ (day_word i l.slot ++ (codes " " ++ (period_word i l.slot ++ codes " is not in the solution\n")))))))
 
 -- the line of a bound on the changes that is below the missing lectures
-abbrev pub bound_line : ℕ → ℕ → Text
+abbrev pub bound_line : ℕ → ℕ → List ℕ
 bound_line most missing = codes "timedesk: at most " ++ (decimal most ++ (codes " changes cannot place " ++ (decimal missing ++ codes " missing lectures\n")))
 
-abbrev pub bound_over : Option ℕ → ℕ → Option Text
+abbrev pub bound_over : Option ℕ → ℕ → Option (List ℕ)
 bound_over None missing = None
 bound_over (Some most) missing = if nat_lt most missing then Some (bound_line most missing) else None
 
 -- the same if all missing lectures are to be placed
-abbrev pub bound_said : Purpose → Option ℕ → ℕ → Option Text
+abbrev pub bound_said : Purpose → Option ℕ → ℕ → Option (List ℕ)
 bound_said Improve most missing = None
 bound_said Place most missing = bound_over most missing
 bound_said Repair most missing = bound_over most missing
 
-abbrev pub unpinned_or : Problem → Option Placed → Option Text → Option Text
+abbrev pub unpinned_or : Problem → Option Placed → Option (List ℕ) → Option (List ℕ)
 unpinned_or i None later = later
 unpinned_or i (Some l) later = Some (unpinned_line i l)
 
 -- why the wish cannot be met on this start; none if it may be
-abbrev pub unmet : Purpose → Problem → List Placed → List Placed → SearchWords → Option Text
+abbrev pub unmet : Purpose → Problem → List Placed → List Placed → SearchWords → Option (List ℕ)
 unmet purpose i start pins words = unpinned_or i (unpinned start pins) (bound_said purpose words.changes (missing_count i start))
 
 -- ---- what is proposed
@@ -79,16 +78,16 @@ pub record IsProposed (purpose : Purpose) (i : Problem) (start pins : List Place
 -- ---- what is reported
 
 -- the line of a proposal, by the scores of the start and of the proposal, and the steps
-abbrev pub told_line : Score → Score → ℕ → Text
+abbrev pub told_line : Score → Score → ℕ → List ℕ
 told_line own found steps = codes "timedesk: " ++ (decimal found.missing ++ (codes " lectures missing (" ++ (decimal own.missing
     ++ (codes " before), penalty " ++ (decimal found.cost ++ (codes " (" ++ (decimal own.cost ++ (codes " before), " ++ (decimal found.changes
     ++ (codes " changes, " ++ (decimal steps ++ codes " steps\n")))))))))))
 
-abbrev pub told_json : Score → Score → ℕ → Text
+abbrev pub told_json : Score → Score → ℕ → List ℕ
 told_json own found steps = codes "{\"missing\":" ++ (decimal found.missing ++ (codes ",\"missing_before\":" ++ (decimal own.missing
     ++ (codes ",\"penalty\":" ++ (decimal found.cost ++ (codes ",\"penalty_before\":" ++ (decimal own.cost ++ (codes ",\"changes\":" ++ (decimal found.changes
     ++ (codes ",\"steps\":" ++ (decimal steps ++ codes "}\n")))))))))))
 
-abbrev pub told_text : Bool → Score → Score → ℕ → Text
+abbrev pub told_text : Bool → Score → Score → ℕ → List ℕ
 told_text true own found steps = told_json own found steps
 told_text false own found steps = told_line own found steps
