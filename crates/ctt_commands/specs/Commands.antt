@@ -5,6 +5,7 @@ use Rattle.std.specs.List.{AllByRecursion as Each}
 use Rattle.std.specs.declared.string.String.{String}
 use Rattle.ctt_problem.specs.Problem.{Problem}
 use Rattle.ctt_problem.specs.Timetable.{Fits, IsTimetable}
+use Rattle.ctt_problem.specs.declared.placed.Placed.{Placed}
 use Rattle.ctt_text.specs.Written.{soltext}
 use Rattle.ctt_core.specs.Entries.{EntryFits}
 use Rattle.ctt_seat.specs.Attended.{IsCrewText}

@@ -73,7 +73,7 @@ pub record IsProposed (purpose : Purpose) (i : Problem) (start pins : List Place
   pub kept : Keeps purpose i start t
   pub worth : is_at_most (aim_of purpose words.stay) (score i start t) (score i start start) ≡ true
   pub few : IsWithin words.changes (changes i start t)
-  pub steps : steps ≤ words.steps
+  pub taken : steps ≤ words.steps
 
 -- ---- what is reported
 

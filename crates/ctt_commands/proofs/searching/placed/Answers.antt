@@ -16,5 +16,5 @@ returns-clause-proposed g c =
       kept = c.in_ok-found.ensures.kept;
       worth = search rules;
       few = search rules;
-      steps = search rules;
+      taken = search rules;
     }
