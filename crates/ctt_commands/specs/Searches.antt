@@ -77,17 +77,22 @@ pub record IsProposed (purpose : Purpose) (i : Problem) (start pins : List Place
 
 -- ---- what is reported
 
--- the line of a proposal, by the scores of the start and of the proposal, and the steps
-abbrev pub told_line : Score → Score → ℕ → List ℕ
-told_line own found steps = codes "timedesk: " ++ (decimal found.missing ++ (codes " lectures missing (" ++ (decimal own.missing
-    ++ (codes " before), penalty " ++ (decimal found.cost ++ (codes " (" ++ (decimal own.cost ++ (codes " before), " ++ (decimal found.changes
-    ++ (codes " changes, " ++ (decimal steps ++ codes " steps\n")))))))))))
+-- the missing lectures of a proposal and of the start, as JSON or in a line
+abbrev pub told_missing : Bool → ℕ → ℕ → List ℕ
+told_missing true missing before = codes "{\"missing\":" ++ (decimal missing ++ (codes ",\"missing_before\":" ++ (decimal before ++ codes ",")))
+told_missing false missing before = codes "timedesk: " ++ (decimal missing ++ (codes " lectures missing (" ++ (decimal before ++ codes " before), ")))
 
-abbrev pub told_json : Score → Score → ℕ → List ℕ
-told_json own found steps = codes "{\"missing\":" ++ (decimal found.missing ++ (codes ",\"missing_before\":" ++ (decimal own.missing
-    ++ (codes ",\"penalty\":" ++ (decimal found.cost ++ (codes ",\"penalty_before\":" ++ (decimal own.cost ++ (codes ",\"changes\":" ++ (decimal found.changes
-    ++ (codes ",\"steps\":" ++ (decimal steps ++ codes "}\n")))))))))))
+-- the penalty of both
+abbrev pub told_penalty : Bool → ℕ → ℕ → List ℕ
+told_penalty true cost before = codes "\"penalty\":" ++ (decimal cost ++ (codes ",\"penalty_before\":" ++ (decimal before ++ codes ",")))
+told_penalty false cost before = codes "penalty " ++ (decimal cost ++ (codes " (" ++ (decimal before ++ codes " before), ")))
 
+-- the changes of the proposal, and the steps that it took
+abbrev pub told_changes : Bool → ℕ → ℕ → List ℕ
+told_changes true changes steps = codes "\"changes\":" ++ (decimal changes ++ (codes ",\"steps\":" ++ (decimal steps ++ codes "}\n")))
+told_changes false changes steps = decimal changes ++ (codes " changes, " ++ (decimal steps ++ codes " steps\n"))
+
+-- the report on a proposal, by the scores of the start and of the proposal, and the steps
 abbrev pub told_text : Bool → Score → Score → ℕ → List ℕ
-told_text true own found steps = told_json own found steps
-told_text false own found steps = told_line own found steps
+told_text json own found steps = told_missing json found.missing own.missing
+    ++ (told_penalty json found.cost own.cost ++ told_changes json found.changes steps)

@@ -1,13 +1,33 @@
 //! What is said of a search: the report on a proposal, and why a wish cannot be met.
 
-ghost use Rattle.std.specs.Prelude.{◌≡◌, IfOk, option_map, string_bytes};
+ghost use Rattle.std.specs.Prelude.{◌≡◌, ◌++◌, IfOk, OnOk, option_map, string_bytes};
 ghost use Rattle.ctt_problem.specs.Timetable.{Fits};
-ghost use Rattle.ctt_commands.specs.Searches.{bound_line, bound_over, bound_said, told_json, told_line, told_text, unpinned_line};
+ghost use Rattle.ctt_commands.specs.Searches.{bound_line, bound_over, bound_said, told_changes, told_missing, told_penalty, told_text, unpinned_line};
 
 use ctt_problem::{Instance, Placed};
 use ctt_search::Score;
 use ctt_words::Purpose;
 use std::alloc::{AllocError, Global};
+use std::fmt::Write;
+
+/// Adds the line of a pinned lecture that does not stand in the start.
+fn write_unpinned(
+    text: &mut String,
+    instance: &Instance,
+    lecture: &Placed,
+) -> Result<(), AllocError>
+    requires { Fits instance.now lecture.now }
+    ensures { OnOk result (string_bytes text.new
+        ≡ string_bytes text.old ++ unpinned_line instance.now lecture.now) }
+{
+    let course = instance.course_name(lecture.course);
+    let room = instance.room_name(lecture.room);
+    let day = instance.day_of(lecture.slot);
+    let period = instance.period_of(lecture.slot);
+    write!(text, "timedesk: the pinned lecture {course} {room} {day} {period}")?;
+    text.push_str(" is not in the solution\n")?;
+    Ok(())
+}
 
 /// Returns the line of a pinned lecture that does not stand in the start.
 pub(crate) fn unpinned_line(
@@ -18,11 +38,9 @@ pub(crate) fn unpinned_line(
     requires { Fits instance.now lecture.now }
     ensures { IfOk result (λ line. string_bytes line ≡ unpinned_line instance.now lecture.now) }
 {
-    let course = instance.course_name(lecture.course);
-    let room = instance.room_name(lecture.room);
-    let day = instance.day_of(lecture.slot);
-    let period = instance.period_of(lecture.slot);
-    format!(in alloc; "timedesk: the pinned lecture {course} {room} {day} {period} is not in the solution\n")
+    let mut line = String::new(alloc);
+    write_unpinned(&mut line, instance, lecture)?;
+    Ok(line)
 }
 
 /// Returns the line of a bound on the changes that is below the missing lectures.
@@ -67,22 +85,48 @@ pub(crate) fn bound_said(
     }
 }
 
-/// Returns the report as a line.
-fn told_line(alloc: Global, own: &Score, found: &Score, steps: u64) -> Result<String, AllocError>
-    ensures { IfOk result (λ line. string_bytes line ≡ told_line own.now found.now steps) }
+/// Adds the missing lectures of a proposal and of the start.
+fn push_missing(
+    text: &mut String,
+    json: bool,
+    missing: u64,
+    before: u64,
+) -> Result<(), AllocError>
+    ensures { OnOk result (string_bytes text.new
+        ≡ string_bytes text.old ++ told_missing json missing before) }
 {
-    let (missing, cost, changes) = (found.missing, found.cost, found.changes);
-    let (missed, dear) = (own.missing, own.cost);
-    format!(in alloc; "timedesk: {missing} lectures missing ({missed} before), penalty {cost} ({dear} before), {changes} changes, {steps} steps\n")
+    if json {
+        write!(text, "{{\"missing\":{missing},\"missing_before\":{before},")?;
+        return Ok(());
+    }
+    write!(text, "timedesk: {missing} lectures missing ({before} before), ")?;
+    Ok(())
 }
 
-/// Returns the report as JSON.
-fn told_json(alloc: Global, own: &Score, found: &Score, steps: u64) -> Result<String, AllocError>
-    ensures { IfOk result (λ line. string_bytes line ≡ told_json own.now found.now steps) }
+/// Adds the penalty of a proposal and of the start.
+fn push_penalty(text: &mut String, json: bool, cost: u64, before: u64) -> Result<(), AllocError>
+    ensures { OnOk result (string_bytes text.new
+        ≡ string_bytes text.old ++ told_penalty json cost before) }
 {
-    let (missing, cost, changes) = (found.missing, found.cost, found.changes);
-    let (missed, dear) = (own.missing, own.cost);
-    format!(in alloc; "{{\"missing\":{missing},\"missing_before\":{missed},\"penalty\":{cost},\"penalty_before\":{dear},\"changes\":{changes},\"steps\":{steps}}}\n")
+    if json {
+        write!(text, "\"penalty\":{cost},\"penalty_before\":{before},")?;
+        return Ok(());
+    }
+    write!(text, "penalty {cost} ({before} before), ")?;
+    Ok(())
+}
+
+/// Adds the changes of a proposal, and the steps that it took.
+fn push_changes(text: &mut String, json: bool, changes: u64, steps: u64) -> Result<(), AllocError>
+    ensures { OnOk result (string_bytes text.new
+        ≡ string_bytes text.old ++ told_changes json changes steps) }
+{
+    if json {
+        write!(text, "\"changes\":{changes},\"steps\":{steps}}}\n")?;
+        return Ok(());
+    }
+    write!(text, "{changes} changes, {steps} steps\n")?;
+    Ok(())
 }
 
 /// Returns the report on a proposal, given the scores of the start and of the proposal.
@@ -95,9 +139,9 @@ pub(crate) fn told_text(
 ) -> Result<String, AllocError>
     ensures { IfOk result (λ text. string_bytes text ≡ told_text json own.now found.now steps) }
 {
-    if json {
-        told_json(alloc, own, found, steps)
-    } else {
-        told_line(alloc, own, found, steps)
-    }
+    let mut text = String::new(alloc);
+    push_missing(&mut text, json, found.missing, own.missing)?;
+    push_penalty(&mut text, json, found.cost, own.cost)?;
+    push_changes(&mut text, json, found.changes, steps)?;
+    Ok(text)
 }

@@ -1,5 +1,6 @@
 use Rattle.std.proofs.Common.{◌≡◌, ◌≤◌, rules, subst, List}
-use Rattle.ctt_problem.specs.Problem.{Problem}
+use Rattle.ctt_problem.specs.BitRows.{HasSize}
+use Rattle.ctt_problem.specs.Problem.{Problem, course_count, slot_count}
 use Rattle.ctt_problem.specs.declared.placed.Placed.{Placed}
 use Rattle.ctt_commands.proofs.SearchLemmas.{pins_stand}
 use Rattle.ctt_commands.proofs.searching.improved.Goals as goal
@@ -18,3 +19,10 @@ returns-clause-proposed g c =
       few = search rules;
       taken = search rules;
     }
+
+pub improve-requires : goal.improve-requires
+improve-requires g c κs =
+    let i : Problem = g.S.Rooms.problem c.args.start.now in
+    let size : HasSize c.in_ok-wish.wish.pins (slot_count i) (course_count i) =
+    subst (λ (j : Problem). HasSize c.in_ok-wish.wish.pins (slot_count j) (course_count j)) c.instance.ensures c.in_ok-wish.ensures.size in
+    search rules
