@@ -1,5 +1,5 @@
 -- Pinned lectures are marked, and those that stand in the start stand in what is proposed.
-use Rattle.std.proofs.Common.{◌≡◌, ◌∙◌, ◌==◌, ◌&&◌, ◌<◌, ◌+◌, ℕ, Bool, true, false, not, cond, List, [], ◌∷◌, ◌++◌, take, length, get_or, Option, Some, None, refl, sym, ap, ap₂, subst}
+use Rattle.std.proofs.Common.{◌≡◌, ◌∙◌, ◌==◌, ◌&&◌, ◌<◌, ◌+◌, ℕ, Bool, true, false, not, cond, List, [], ◌∷◌, ◌++◌, take, length, get_or, Option, Some, None, append_assoc, refl, sym, ap, ap₂, subst}
 use Rattle.std.specs.List.{find, AllByRecursion as Each}
 use Rattle.std.specs.Option.{option_eq}
 use Rattle.std.proofs.lemmas.Bool.{eq-eqb, eqb-true}
@@ -32,6 +32,15 @@ marks_more old new ls at row number x sets is_row is_number lt is was =
         (λ l h. sets.marks l.slot l.course ∙ set_or_was (l.slot == row && l.course == number) (is_marked_in old l.slot l.course) h) (take at ls) was in
     subst (λ (ms : List Placed). Each (λ l. is_marked_in new l.slot l.course ≡ true) ms) (sym (take_more ls at x lt ∙ ap (λ (l : Placed). take at ls ++ l ∷ []) (sym is)))
         (Each-append (λ (l : Placed). is_marked_in new l.slot l.course ≡ true) (take at ls) (x ∷ []) all (here, tt))
+
+-- ---- the line of a pinned lecture
+
+-- a text with three more pieces, of which two are known by equal ones
+pub three_more : (p q r t a b c d e : List ℕ) → q ≡ p ++ a → r ≡ q ++ b → t ≡ r ++ c → b ≡ d → c ≡ e → t ≡ p ++ (a ++ (d ++ e))
+three_more p q r t a b c d e first second third same last =
+    let two : r ≡ p ++ (a ++ b) = second ∙ ap (λ (xs : List ℕ). xs ++ b) first ∙ append_assoc p a b in
+    third ∙ ap (λ (xs : List ℕ). xs ++ c) two ∙ append_assoc p (a ++ b) c ∙ ap (λ (xs : List ℕ). p ++ xs) (append_assoc a b c)
+    ∙ ap₂ (λ (ys zs : List ℕ). p ++ (a ++ (ys ++ zs))) same last
 
 -- ---- wishes that cannot be met
 

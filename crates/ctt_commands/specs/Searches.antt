@@ -24,10 +24,21 @@ use Rattle.ctt_words.specs.declared.job.SearchWords.{SearchWords}
 abbrev pub unpinned : List Placed → List Placed → Option Placed
 unpinned start pins = find (λ l. not (stands_in start l)) pins
 
+-- a name, and a space
+unfoldable pub spaced : List ℕ → List ℕ
+spaced name = name ++ codes " "
+
+-- the course and the room of a pinned lecture
+abbrev pub pin_place : Problem → Placed → List ℕ
+pin_place i l = codes "timedesk: the pinned lecture " ++ (spaced (course_word i l.course) ++ spaced (room_word i l.room))
+
+-- its day and its period, at which it does not stand there
+unfoldable pub pin_time : Problem → Placed → List ℕ
+pin_time i l = day_word i l.slot ++ (codes " " ++ (period_word i l.slot ++ codes " is not in the solution\n"))
+
 -- the line of a pinned lecture that does not stand there
 abbrev pub unpinned_line : Problem → Placed → List ℕ
-unpinned_line i l = codes "timedesk: the pinned lecture " ++ (course_word i l.course ++ (codes " " ++ (room_word i l.room
-    ++ (codes " " ++ (day_word i l.slot ++ (codes " " ++ (period_word i l.slot ++ codes " is not in the solution\n")))))))
+unpinned_line i l = pin_place i l ++ pin_time i l
 
 -- the line of a bound on the changes that is below the missing lectures
 abbrev pub bound_line : ℕ → ℕ → List ℕ

@@ -2,7 +2,7 @@
 
 ghost use Rattle.std.specs.Prelude.{◌≡◌, ◌++◌, IfOk, OnOk, option_map, string_bytes};
 ghost use Rattle.ctt_problem.specs.Timetable.{Fits};
-ghost use Rattle.ctt_commands.specs.Searches.{bound_line, bound_over, bound_said, told_changes, told_missing, told_penalty, told_text, unpinned_line};
+ghost use Rattle.ctt_commands.specs.Searches.{bound_line, bound_over, bound_said, pin_place, pin_time, spaced, told_changes, told_missing, told_penalty, told_text, unpinned_line};
 
 use ctt_problem::{Instance, Placed};
 use ctt_search::Score;
@@ -10,22 +10,38 @@ use ctt_words::Purpose;
 use std::alloc::{AllocError, Global};
 use std::fmt::Write;
 
-/// Adds the line of a pinned lecture that does not stand in the start.
-fn write_unpinned(
-    text: &mut String,
-    instance: &Instance,
-    lecture: &Placed,
-) -> Result<(), AllocError>
+/// Adds a name, and a space.
+#[tactic(auto, unfolding(crate::specs::Searches::spaced))]
+fn push_spaced(text: &mut String, name: &str) -> Result<(), AllocError>
+    ensures { OnOk result (string_bytes text.new ≡ string_bytes text.old ++ spaced name.now) }
+{
+    text.push_str(name)?;
+    text.push_str(" ")?;
+    Ok(())
+}
+
+/// Adds the course and the room of a pinned lecture.
+fn push_place(text: &mut String, instance: &Instance, lecture: &Placed) -> Result<(), AllocError>
     requires { Fits instance.now lecture.now }
     ensures { OnOk result (string_bytes text.new
-        ≡ string_bytes text.old ++ unpinned_line instance.now lecture.now) }
+        ≡ string_bytes text.old ++ pin_place instance.now lecture.now) }
 {
-    let course = instance.course_name(lecture.course);
-    let room = instance.room_name(lecture.room);
+    text.push_str("timedesk: the pinned lecture ")?;
+    push_spaced(text, instance.course_name(lecture.course))?;
+    push_spaced(text, instance.room_name(lecture.room))?;
+    Ok(())
+}
+
+/// Adds the day and the period of a pinned lecture, and that it does not stand there.
+#[tactic(auto, unfolding(crate::specs::Searches::pin_time))]
+fn push_time(text: &mut String, instance: &Instance, lecture: &Placed) -> Result<(), AllocError>
+    requires { Fits instance.now lecture.now }
+    ensures { OnOk result (string_bytes text.new
+        ≡ string_bytes text.old ++ pin_time instance.now lecture.now) }
+{
     let day = instance.day_of(lecture.slot);
     let period = instance.period_of(lecture.slot);
-    write!(text, "timedesk: the pinned lecture {course} {room} {day} {period}")?;
-    text.push_str(" is not in the solution\n")?;
+    write!(text, "{day} {period} is not in the solution\n")?;
     Ok(())
 }
 
@@ -39,7 +55,8 @@ pub(crate) fn unpinned_line(
     ensures { IfOk result (λ line. string_bytes line ≡ unpinned_line instance.now lecture.now) }
 {
     let mut line = String::new(alloc);
-    write_unpinned(&mut line, instance, lecture)?;
+    push_place(&mut line, instance, lecture)?;
+    push_time(&mut line, instance, lecture)?;
     Ok(line)
 }
 
