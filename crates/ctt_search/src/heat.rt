@@ -51,10 +51,10 @@ fn leaves_of(hot: u64) -> u64 {
 }
 
 impl Heat {
-    /// Returns the temperature of a search in which a change costs so many points, with as many
-    /// steps.
+    /// Returns the temperature of a search of so many steps in which a change costs so many points.
+    /// It begins higher by a 16th of the price, as otherwise no change would be made for a while.
     pub(crate) fn new(price: u32, steps: u64) -> Self {
-        let hot = u64::from(price).saturating_mul(8192).saturating_add(HOT);
+        let hot = u64::from(price).saturating_mul(4096).saturating_add(HOT);
         Heat {
             hot,
             now: hot,

@@ -173,7 +173,7 @@ fn draw_cells<'i, S: Sheet<'i>>(sheet: &S, walk: &mut Walk) -> Option<ArrayVec<C
     let pushed = last_of(cells.as_slice(), 1);
     add_place(&mut cells, course, slot, room);
     if let Some(other) = pushed {
-        if walk.draws.below(2) == 0 {
+        if walk.draws.below(32) == 0 {
             let (to, there) = (walk.draws.slot(instance), walk.draws.room(instance));
             add_place(&mut cells, other, to, there);
         }
