@@ -18,11 +18,12 @@ use ctt_board::Sheet;
 use ctt_problem::NoMemory;
 use std::alloc::Global;
 
-/// How many steps a search takes before it looks whether it has found something better.
-const ROUND: u64 = 256;
+/// How many steps a search takes before it looks whether it has found something better, besides one
+/// for each course.
+const ROUND: u64 = 64;
 
-/// Takes a sheet as the best so far, if it is worth more and may be proposed. If memory runs out,
-/// the best so far stays.
+/// Takes a sheet as the best so far, if it is worth more and may be proposed, and returns whether
+/// it was taken. If memory runs out, the best so far stays.
 fn keep<'i, S: Sheet<'i>>(
     start: &S,
     sheet: &S,
@@ -30,7 +31,7 @@ fn keep<'i, S: Sheet<'i>>(
     wish: &Wish,
     own: &Score,
     best: &mut Proposal<S>,
-) -> Result<(), NoMemory>
+) -> Result<bool, NoMemory>
     requires same { S.problem start.now ≡ S.problem sheet.now }
     requires size { HasSize wish.now.pins (slot_count (S.problem start.now))
         (course_count (S.problem start.now)) }
@@ -43,15 +44,15 @@ fn keep<'i, S: Sheet<'i>>(
 {
     let score = score_of(start, sheet);
     if aim.is_at_most(&best.score, &score) {
-        return Ok(());
+        return Ok(false);
     }
     if !may_propose(start, sheet, aim, wish, own, &score) {
-        return Ok(());
+        return Ok(false);
     }
     let copy = sheet.copy()?;
     best.sheet = copy;
     best.score = score;
-    Ok(())
+    Ok(true)
 }
 
 /// Looks whether the search has found something better, and keeps it.
@@ -74,11 +75,14 @@ fn look_back<'i, S: Sheet<'i>>(
     ensures found { IsFound (S.problem start.now) (S.problem best.new.sheet) aim wish.now.pins
         wish.now.most_changes (S.list start.now) (S.list best.new.sheet) best.new.score }
 {
-    walk.look(sheet)?;
+    walk.look_again(sheet)?;
     if !walk.has_gained() {
         return Ok(());
     }
-    keep(start, sheet, aim, wish, own, best)
+    if keep(start, sheet, aim, wish, own, best)? {
+        walk.note_best();
+    }
+    Ok(())
 }
 
 /// Takes the steps of a search, and returns how many. There are fewer than the wish has only if the
@@ -107,9 +111,10 @@ fn go_on<'i, S: Sheet<'i>, P: Pace>(
 {
     let mut sheet = start.copy()?;
     walk.look(&sheet)?;
+    let whole = ROUND + u64::from(start.instance().courses());
     let mut steps = 0;
     'rounds: while steps < wish.steps {
-        let round = ROUND.min(wish.steps - steps);
+        let round = whole.min(wish.steps - steps);
         let made = wander(start, &mut sheet, walk, pace, round);
         steps += made;
         look_back(start, &sheet, aim, wish, own, walk, best)?;

@@ -6,6 +6,7 @@ mod aim;
 mod asking;
 mod draws;
 mod edits_between;
+mod heat;
 mod held;
 mod improving;
 mod keeping;

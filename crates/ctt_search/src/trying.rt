@@ -3,7 +3,7 @@
 ghost use Rattle.std.specs.Prelude.{IfSome};
 ghost use Rattle.ctt_board.specs.Changes.{ChangeFits};
 
-use crate::looking::{holder, is_short};
+use crate::looking::{holder, is_short, room_of};
 use crate::walk::Walk;
 use arrayvec::ArrayVec;
 use ctt_board::{Cell, Change, Sheet, change_laws};
@@ -105,6 +105,41 @@ fn add_clashing<'i, S: Sheet<'i>>(
     }
 }
 
+/// Appends the cells that take out what keeps a lecture of a course from a place, as far as there
+/// is room for them.
+fn add_removals<'i, S: Sheet<'i>>(
+    sheet: &S,
+    cells: &mut ArrayVec<Cell, 4>,
+    course: CourseNo,
+    slot: SlotNo,
+    room: RoomNo,
+) {
+    add_clashing(sheet, cells, course, slot);
+    if let Some(other) = holder(sheet, slot, room) {
+        if !has_course(cells.as_slice(), other) {
+            add_removal(cells, other, slot);
+        }
+    }
+}
+
+/// Appends the cell that places a lecture of a course, if there is room for it.
+fn add_place(cells: &mut ArrayVec<Cell, 4>, course: CourseNo, slot: SlotNo, room: RoomNo) {
+    let _ = cells.try_push(Cell {
+        course,
+        slot,
+        room: Some(room),
+    });
+}
+
+/// Returns the course of the last of these cells, if there are as many.
+fn last_of(cells: &[Cell], count: usize) -> Option<CourseNo> {
+    if cells.len() != count {
+        return None;
+    }
+    let last = cells.last()?;
+    Some(last.course)
+}
+
 /// Returns whether one of these cells removes a lecture that is to stay.
 fn removes_held(cells: &[Cell], walk: &Walk) -> bool {
     for cell in cells {
@@ -115,7 +150,8 @@ fn removes_held(cells: &[Cell], walk: &Walk) -> bool {
     false
 }
 
-/// Draws a place for a missing lecture, and the cells that take out what keeps it from there.
+/// Draws a place for a missing lecture, and the cells that take out what keeps it from there. If it
+/// is one lecture that is taken out, a place is drawn for it now and then, too.
 fn draw_cells<'i, S: Sheet<'i>>(sheet: &S, walk: &mut Walk) -> Option<ArrayVec<Cell, 4>> {
     let instance = sheet.instance();
     let place = (walk.draws.word() % 65536) as usize;
@@ -130,30 +166,54 @@ fn draw_cells<'i, S: Sheet<'i>>(sheet: &S, walk: &mut Walk) -> Option<ArrayVec<C
         return None;
     }
     let mut cells = ArrayVec::new();
-    add_clashing(sheet, &mut cells, course, slot);
-    if let Some(other) = holder(sheet, slot, room) {
-        if !has_course(cells.as_slice(), other) {
-            add_removal(&mut cells, other, slot);
-        }
-    }
+    add_removals(sheet, &mut cells, course, slot, room);
     if removes_held(cells.as_slice(), walk) {
         return None;
     }
-    let _ = cells.try_push(Cell {
-        course,
-        slot,
-        room: Some(room),
-    });
+    let pushed = last_of(cells.as_slice(), 1);
+    add_place(&mut cells, course, slot, room);
+    if let Some(other) = pushed {
+        if walk.draws.below(32) == 0 {
+            let (to, there) = (walk.draws.slot(instance), walk.draws.room(instance));
+            add_place(&mut cells, other, to, there);
+        }
+    }
     Some(cells)
 }
 
-/// Draws a change that places a missing lecture, and takes out up to three others.
-fn ejection<'i, S: Sheet<'i>>(sheet: &S, walk: &mut Walk) -> Option<Change>
+/// Draws a lecture and a place for it where it keeps out one other, and a place for that: a third
+/// one, or the one that is left.
+fn draw_push<'i, S: Sheet<'i>>(sheet: &S, walk: &mut Walk) -> Option<ArrayVec<Cell, 4>> {
+    let instance = sheet.instance();
+    let (from, left) = (walk.draws.slot(instance), walk.draws.room(instance));
+    let course = holder(sheet, from, left)?;
+    let (slot, room) = (walk.draws.slot(instance), walk.draws.room(instance));
+    if room_of(sheet, course, slot).is_some() {
+        return None;
+    }
+    let mut cells = ArrayVec::new();
+    add_removal(&mut cells, course, from);
+    add_removals(sheet, &mut cells, course, slot, room);
+    if removes_held(cells.as_slice(), walk) {
+        return None;
+    }
+    let other = last_of(cells.as_slice(), 2)?;
+    add_place(&mut cells, course, slot, room);
+    if walk.draws.below(2) == 0 {
+        add_place(&mut cells, other, from, left);
+    } else {
+        let (to, there) = (walk.draws.slot(instance), walk.draws.room(instance));
+        add_place(&mut cells, other, to, there);
+    }
+    Some(cells)
+}
+
+/// Returns the change of these cells, if it fits.
+fn fitting<'i, S: Sheet<'i>>(sheet: &S, cells: &[Cell]) -> Option<Change>
     ensures { IfSome result (λ change.
         ChangeFits (S.problem sheet.now) change (S.list sheet.now)) }
 {
-    let cells = draw_cells(sheet, walk)?;
-    let change = Change::of(cells.as_slice())?;
+    let change = Change::of(cells)?;
     if !sheet.accepts(&change) {
         return None;
     }
@@ -164,6 +224,24 @@ fn ejection<'i, S: Sheet<'i>>(sheet: &S, walk: &mut Walk) -> Option<Change>
     Some(change)
 }
 
+/// Draws a change that places a missing lecture, and takes out up to three others.
+fn ejection<'i, S: Sheet<'i>>(sheet: &S, walk: &mut Walk) -> Option<Change>
+    ensures { IfSome result (λ change.
+        ChangeFits (S.problem sheet.now) change (S.list sheet.now)) }
+{
+    let cells = draw_cells(sheet, walk)?;
+    fitting(sheet, cells.as_slice())
+}
+
+/// Draws a change that takes a lecture to a place from where another goes to a place of its own.
+fn push<'i, S: Sheet<'i>>(sheet: &S, walk: &mut Walk) -> Option<Change>
+    ensures { IfSome result (λ change.
+        ChangeFits (S.problem sheet.now) change (S.list sheet.now)) }
+{
+    let cells = draw_push(sheet, walk)?;
+    fitting(sheet, cells.as_slice())
+}
+
 /// Draws a change that fits.
 pub(crate) fn draw_change<'i, S: Sheet<'i>>(sheet: &S, walk: &mut Walk) -> Option<Change>
     ensures { IfSome result (λ change.
@@ -171,6 +249,9 @@ pub(crate) fn draw_change<'i, S: Sheet<'i>>(sheet: &S, walk: &mut Walk) -> Optio
 {
     if !walk.short.is_empty() && walk.draws.below(3) == 0 {
         return ejection(sheet, walk);
+    }
+    if walk.draws.below(8) == 0 {
+        return push(sheet, walk);
     }
     exchange(sheet, walk)
 }

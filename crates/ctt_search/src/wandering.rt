@@ -6,7 +6,7 @@ ghost use Rattle.ctt_board.specs.Changes.{ChangeFits};
 use crate::looking::room_of;
 use crate::pace::Pace;
 use crate::trying::draw_change;
-use crate::walk::{MISSING, Walk};
+use crate::walk::{MISSING, POINT, Walk};
 use ctt_board::{Cell, Change, Sheet};
 
 /// Returns 1 for a cell that adds a lecture that does not stand so in the start, -1 for one that
@@ -42,6 +42,7 @@ fn missing_by(change: &Change) -> i64 {
 /// changes, and the weight of those that are missing after it.
 fn weight_of(delta: i64, changed: i64, missing: i64, price: i64) -> i64 {
     delta
+        .saturating_mul(POINT)
         .saturating_add(changed.saturating_mul(price))
         .saturating_add(missing.saturating_mul(MISSING))
 }
