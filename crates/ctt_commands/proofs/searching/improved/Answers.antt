@@ -1,4 +1,4 @@
-use Rattle.std.proofs.Common.{◌≡◌, ◌≤◌, rules, subst, List}
+use Rattle.std.proofs.Common.{rules, subst, List}
 use Rattle.ctt_problem.specs.BitRows.{HasSize}
 use Rattle.ctt_problem.specs.Problem.{Problem, course_count, slot_count}
 use Rattle.ctt_problem.specs.declared.placed.Placed.{Placed}

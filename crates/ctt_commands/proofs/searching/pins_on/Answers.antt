@@ -1,4 +1,4 @@
-use Rattle.std.proofs.Common.{rules, ◌≡◌, ◌∙◌}
+use Rattle.std.proofs.Common.{rules, ◌∙◌}
 use Rattle.ctt_commands.proofs.SearchLemmas.{marks_more}
 use Rattle.ctt_commands.proofs.searching.pins_on.Goals as goal
 
