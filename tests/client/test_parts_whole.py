@@ -52,7 +52,7 @@ class Whole(Parts):
         self.assertIn("3 lectures differ", printed)
         self.assertIn("geo: day 1, period 2, A", printed)
         self.assertEqual(self.office("show", day, "--at", "3")[0], 1)
-        told = self.press(self.ben, "escape", "v", *"course alg", "enter", "h", "down", "enter")
+        told = self.press(self.ben, "escape", "v", *"course alg", "enter", "h", *"beamer", "enter")
         self.assertIn("Draft 1, ben,", told)
         self.assertIn("Why: the beamer", told)
         self.press(self.ben, "t")
